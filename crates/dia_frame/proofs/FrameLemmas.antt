@@ -1,0 +1,46 @@
+-- The frames of octets, cut off one by one, and those of a stream that goes on.
+use Rattle.std.proofs.Common.{◌≡◌, ℕ, ◌+◌, ◌≤◌, List, [], ◌∷◌, ◌++◌, length, take, drop, Some, All, refl, sym, ap, ◌∙◌, append_assoc, arith}
+use Rattle.std.proofs.lemmas.List.{take-append-drop, append-nil, drop-drop, length-drop}
+use Rattle.std.proofs.lemmas.List.Elements.{All-nil, All-append, All-push}
+use Rattle.std.proofs.lemmas.List.Concat.{flat_map-append}
+use Rattle.dia_frame.specs.Frames.{IsMessage, Frames, joined}
+use Rattle.dia_frame.specs.Whole.{whole_len}
+use Rattle.dia_frame.proofs.WholeLemmas.{found}
+
+pub joined-push : (messages : List (List ℕ)) (m : List ℕ) → joined (messages ++ m ∷ []) ≡ joined messages ++ m
+joined-push messages m = flat_map-append (λ x. x) messages (m ∷ []) ∙ ap (λ (x : List ℕ). joined messages ++ x) (append-nil m)
+
+-- Messages up to `end` are cut off, and wait behind the old ones.
+pub record SoFar (limit : ℕ) (octets : List ℕ) (old now : List (List ℕ)) (end : ℕ) : Type 0 where
+  pub came : List (List ℕ)
+  pub waiting : now ≡ old ++ came
+  pub there : end ≤ length octets
+  pub parts : octets ≡ joined came ++ drop end octets
+  pub each : All (IsMessage limit) came
+
+pub begins : (limit : ℕ) (octets : List ℕ) (old : List (List ℕ)) → SoFar limit octets old old 0
+begins limit octets old = record { came = []; waiting = sym (append-nil old); there = omega arith; parts = refl; each = All-nil (IsMessage limit) }
+
+pub goes_on : (limit : ℕ) (octets : List ℕ) (old now : List (List ℕ)) (end len : ℕ) → SoFar limit octets old now end → whole_len limit (drop end octets) ≡ Some len
+    → SoFar limit octets old (now ++ take len (drop end octets) ∷ []) (end + len)
+goes_on limit octets old now end len s e =
+    let left = drop end octets in
+    let f = found limit left len e in
+    let m = take len left in
+    record {
+      came = s.came ++ m ∷ [];
+      waiting = ap (λ (x : List (List ℕ)). x ++ m ∷ []) s.waiting ∙ append_assoc old s.came (m ∷ []);
+      there = omega (arith, f.there, length-drop end octets, s.there);
+      parts = s.parts ∙ ap (λ (x : List ℕ). joined s.came ++ x) (sym (take-append-drop len left) ∙ ap (λ (x : List ℕ). m ++ x) (drop-drop len end octets)) ∙ sym (append_assoc (joined s.came) m (drop (end + len) octets)) ∙ ap (λ (x : List ℕ). x ++ drop (end + len) octets) (sym (joined-push s.came m));
+      each = All-push (IsMessage limit) s.came m s.each f.message;
+    }
+
+-- The frames of a longer stream are those of the stream, and then those of its rest and the piece.
+pub frames-append : (limit : ℕ) (stream piece rest rest' : List ℕ) (before came : List (List ℕ)) → Frames stream limit before rest → Frames (rest ++ piece) limit came rest'
+    → Frames (stream ++ piece) limit (before ++ came) rest'
+frames-append limit stream piece rest rest' before came f g =
+    record {
+      parts = ap (λ (x : List ℕ). x ++ piece) f.parts ∙ append_assoc (joined before) rest piece ∙ ap (λ (x : List ℕ). joined before ++ x) g.parts ∙ sym (append_assoc (joined before) (joined came) rest') ∙ ap (λ (x : List ℕ). x ++ rest') (sym (flat_map-append (λ m. m) before came));
+      each = All-append (IsMessage limit) before came f.each g.each;
+      no_more = g.no_more;
+    }

@@ -1,0 +1,4 @@
+pub mod WholeLemmas
+pub mod FrameLemmas
+pub mod FramerLemmas
+pub mod LawLemmas

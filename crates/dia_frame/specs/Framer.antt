@@ -1,0 +1,47 @@
+-- What a Framer holds, and what a feed does to it.
+use Rattle.std.specs.Prelude.{◌≡◌, ℕ, Bool, true, false, List, ◌++◌, length, Option, Some, None, is_some, Result, Ok, Err}
+use Rattle.dia_frame.specs.declared.fault.FrameFault.{FrameFault}
+use Rattle.dia_frame.specs.declared.fault.FrameFault.TheVariants.{Version, Length, Broken}
+use Rattle.dia_frame.specs.declared.fault.FeedError.{FeedError}
+use Rattle.dia_frame.specs.declared.fault.FeedError.TheVariants.{NoMemory, Fault}
+use Rattle.dia_frame.specs.Frames.{Frames, fault_of}
+
+-- the longest message's length, the frames that wait, oldest first, the octets behind them, and whether a fault was found
+pub record FramerState : Type 0 where
+  pub limit : ℕ
+  pub waiting : List (List ℕ)
+  pub rest : List ℕ
+  pub broken : Bool
+
+-- A piece was taken: the frames that it completes wait behind the others, and the fault is what the new rest shows.
+pub record Takes (old : FramerState) (piece : List ℕ) (new : FramerState) (fault : Option FrameFault) : Type 0 where
+  pub came : List (List ℕ)
+  pub limit : new.limit ≡ old.limit
+  pub waiting : new.waiting ≡ old.waiting ++ came
+  pub frames : Frames (old.rest ++ piece) old.limit came new.rest
+  pub shown : fault_of old.limit new.rest ≡ fault
+  pub broken : new.broken ≡ is_some fault
+
+-- what a feed does, by its answer: after a fault nothing is taken, and nothing is where memory ran out
+abbrev pub Feeds : FramerState → List ℕ → Result ℕ FeedError → FramerState → Type 0
+Feeds old piece (Ok count) new = (old.broken ≡ false) × (count ≡ length new.waiting) × Takes old piece new None
+Feeds old piece (Err (Fault Version)) new = (old.broken ≡ false) × Takes old piece new (Some Version)
+Feeds old piece (Err (Fault Length)) new = (old.broken ≡ false) × Takes old piece new (Some Length)
+Feeds old piece (Err (Fault Broken)) new = (old.broken ≡ true) × (new ≡ old)
+Feeds old piece (Err NoMemory) new = (old.broken ≡ false) × (new ≡ old)
+
+-- What was handed out and what waits are the stream's messages, the rest is its rest, and that shows whether a fault was found.
+pub record Holds (state : FramerState) (limit : ℕ) (handed : List (List ℕ)) (stream : List ℕ) : Type 0 where
+  pub same_limit : state.limit ≡ limit
+  pub frames : Frames stream limit (handed ++ state.waiting) state.rest
+  pub broken : state.broken ≡ is_some (fault_of limit state.rest)
+
+-- The same of the longer stream once a piece was taken: the answer is the fault of the stream, if it has one.
+abbrev pub HoldsNext : FramerState → ℕ → List (List ℕ) → List ℕ → Result ℕ FeedError → Type 0
+HoldsNext new limit handed stream (Ok count) = Holds new limit handed stream × (fault_of limit new.rest ≡ None)
+HoldsNext new limit handed stream (Err (Fault Version)) =
+    Holds new limit handed stream × (fault_of limit new.rest ≡ Some Version)
+HoldsNext new limit handed stream (Err (Fault Length)) =
+    Holds new limit handed stream × (fault_of limit new.rest ≡ Some Length)
+HoldsNext new limit handed stream (Err (Fault Broken)) = Unit {0}
+HoldsNext new limit handed stream (Err NoMemory) = Unit {0}

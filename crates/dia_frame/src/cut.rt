@@ -1,0 +1,102 @@
+//! The whole messages at the front of octets.
+
+ghost use Rattle.std.specs.Prelude.{◌≡◌, ◌≤◌, [], ◌∷◌, ◌++◌, drop, vec_len, Option, Some, None, IfOk, OnOk, OnErr};
+ghost use Rattle.dia_frame.specs.Frames.{fault_of, is_bad_length};
+ghost use Rattle.dia_frame.specs.Whole.{whole_len, Cuts};
+
+use crate::fault::FrameFault;
+use crate::frame::Frame;
+use byteorder::{BigEndian, ByteOrder};
+use std::alloc::{AllocError, Global};
+use std::collections::VecDeque;
+
+/// The octets of a message's header.
+const HEADER_LEN: usize = 20;
+
+fn is_bad_length(limit: usize, len: usize) -> bool
+    ensures { result ≡ is_bad_length limit len }
+{
+    len < HEADER_LEN || len % 4 != 0 || limit < len
+}
+
+/// The fault that the first four octets show, or those of them that are there.
+pub(crate) fn fault_of(limit: usize, octets: &[u8]) -> Option<FrameFault>
+    ensures { result ≡ fault_of limit octets.now }
+{
+    match octets {
+        [] => None,
+        [version, octets @ ..] => {
+            if *version != 1 {
+                return Some(FrameFault::Version);
+            }
+            if octets.len() < 3 {
+                return None;
+            }
+            if is_bad_length(limit, BigEndian::read_u24(octets) as usize) {
+                return Some(FrameFault::Length);
+            }
+            None
+        }
+    }
+}
+
+/// The length of the message at the front, where all of it is there.
+fn whole_len(limit: usize, octets: &[u8]) -> Option<usize>
+    ensures { result ≡ whole_len limit octets.now }
+{
+    if octets.len() < 4 || fault_of(limit, octets).is_some() {
+        return None;
+    }
+    let len = BigEndian::read_u24(&octets[1..]) as usize;
+    if octets.len() < len {
+        return None;
+    }
+    Some(len)
+}
+
+fn push_frame(alloc: Global, octets: &[u8], waiting: &mut VecDeque<Frame>) -> Result<(), AllocError>
+    ensures ok { OnOk result (waiting.new.items ≡ waiting.old.items ++ octets.now ∷ []) }
+    ensures err { OnErr result (waiting.new.items ≡ waiting.old.items) }
+{
+    let frame = Frame::new(alloc, octets)?;
+    waiting.push_back(frame)?;
+    Ok(())
+}
+
+/// Puts a frame for each whole message at the front of `octets` behind those that wait, and says
+/// where the rest begins.
+pub(crate) fn cut_frames(
+    alloc: Global,
+    limit: usize,
+    octets: &[u8],
+    waiting: &mut VecDeque<Frame>,
+) -> Result<usize, AllocError>
+    ensures ok { IfOk result (Cuts octets.now limit waiting.old.items waiting.new.items) }
+    ensures err { OnErr result (waiting.new.items ≡ waiting.old.items) }
+{
+    let waited = waiting.len();
+    let mut end = 0;
+    while let Some(len) = whole_len(limit, &octets[end..]) {
+        match push_frame(alloc, &octets[end..end + len], waiting) {
+            Ok(()) => end += len,
+            Err(refused) => {
+                waiting.truncate(waited);
+                return Err(refused);
+            }
+        }
+    }
+    Ok(end)
+}
+
+/// Drops the first `end` octets. Only those behind them are moved.
+pub(crate) fn drop_front(octets: &mut Vec<u8>, end: usize)
+    requires { end ≤ vec_len octets.old }
+    ensures { octets.new.items ≡ drop end octets.old.items }
+{
+    if end == 0 {
+        return;
+    }
+    let left = octets.len() - end;
+    octets.copy_within(end.., 0);
+    octets.truncate(left);
+}

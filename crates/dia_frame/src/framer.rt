@@ -1,0 +1,124 @@
+//! The Framer: octets in, frames out.
+
+ghost use Rattle.std.specs.Prelude.{◌≡◌, ◌∷◌, [], ◌++◌, length, List, ℕ, MatchOption, IfOk, IfSome, false};
+
+use crate::cut::{cut_frames, drop_front, fault_of};
+use crate::fault::{FeedError, FrameFault};
+use crate::frame::Frame;
+use std::alloc::{AllocError, Global};
+use std::collections::VecDeque;
+use std::marker::Model;
+
+/// Takes the octets of a stream in any pieces and gives its messages (RFC 6733 section 3).
+///
+/// In: `feed`. Out: `next_frame`. Look: `rest_len`. The feed that finds a fault keeps the frames
+/// before it, which are still handed out.
+#[derive(Drop)]
+pub struct Framer {
+    alloc: Global,
+    limit: usize,
+    waiting: VecDeque<Frame>,
+    rest: Vec<u8>,
+    broken: bool,
+}
+
+impl Model for Framer {
+    ghost use Rattle.dia_frame.specs.Framer.{FramerState};
+
+    ghost Value = { FramerState };
+
+    ghost view = { λ f. record { limit = f.limit; waiting = f.waiting.items; rest = f.rest.items; broken = f.broken } };
+}
+
+impl Framer {
+    ghost use Rattle.dia_frame.specs.Framer.{Feeds, Holds, HoldsNext};
+
+    /// A Framer for messages of at most `limit` octets. Takes no memory yet.
+    pub fn new(alloc: Global, limit: usize) -> Framer
+        ensures value { result ≡ record { limit = limit; waiting = []; rest = []; broken = false } }
+        ensures start { Holds result limit [] [] }
+    {
+        Framer {
+            alloc,
+            limit,
+            waiting: VecDeque::new(alloc),
+            rest: Vec::new(alloc),
+            broken: false,
+        }
+    }
+
+    /// Takes the next piece of the stream, and says how many frames wait. A faulty header is found
+    /// with the octet that shows it: the first for the version, the fourth for the length.
+    ///
+    /// The time of all feeds together is in proportion to the octets fed, however small the pieces.
+    pub fn feed(&mut self, piece: &[u8]) -> Result<usize, FeedError>
+        // What each answer means.
+        ensures feeds { Feeds self.old piece.now result self.new }
+
+        // However the stream was cut: what was handed out, what waits and the rest are its frames.
+        ensures joined { (limit : ℕ) (handed : List (List ℕ)) (stream : List ℕ) → Holds self.old limit handed stream
+            → HoldsNext self.new limit handed (stream ++ piece.now) result }
+    {
+        self.take(piece)
+    }
+
+    fn take(&mut self, piece: &[u8]) -> Result<usize, FeedError>
+        ensures { Feeds self.old piece.now result self.new }
+    {
+        if self.broken {
+            return Err(FeedError::Fault(FrameFault::Broken));
+        }
+        let held = self.rest.len();
+        self.rest.extend_from_slice(piece)?;
+        match cut_frames(self.alloc, self.limit, &self.rest, &mut self.waiting) {
+            Ok(end) => drop_front(&mut self.rest, end),
+            Err(refused) => {
+                self.rest.truncate(held);
+                return Err(FeedError::from(refused));
+            }
+        }
+        match fault_of(self.limit, &self.rest) {
+            None => Ok(self.waiting.len()),
+            Some(fault) => {
+                self.broken = true;
+                Err(FeedError::Fault(fault))
+            }
+        }
+    }
+
+    /// The oldest frame that waits. Takes no memory.
+    pub fn next_frame(&mut self) -> Option<Frame>
+        ensures oldest { MatchOption result
+            ((self.old.waiting ≡ []) × (self.new ≡ self.old))
+            (λ m. self.old ≡ record self.new { waiting = m ∷ self.new.waiting }) }
+        ensures handed { IfSome result (λ m. (limit : ℕ) (handed : List (List ℕ)) (stream : List ℕ)
+            → Holds self.old limit handed stream → Holds self.new limit (handed ++ m ∷ []) stream) }
+    {
+        self.waiting.pop_front()
+    }
+
+    /// How many octets are held that are no whole message. Takes no memory.
+    pub fn rest_len(&self) -> usize
+        ensures { result ≡ length self.now.rest }
+    {
+        self.rest.len()
+    }
+
+    /// An equal Framer.
+    pub fn copy(&self) -> Result<Framer, AllocError>
+        ensures { IfOk result (λ f. f ≡ self.now) }
+    {
+        let mut waiting = VecDeque::with_capacity(self.alloc, self.waiting.len())?;
+        for i in 0..self.waiting.len() {
+            let frame = &self.waiting[i];
+            waiting.push_back(Frame::new(self.alloc, frame.octets())?)?;
+        }
+        Ok(Framer {
+            alloc: self.alloc,
+            limit: self.limit,
+            waiting,
+            rest: Vec::from_slice(self.alloc, &self.rest)?,
+            broken: self.broken,
+        })
+    }
+}
