@@ -1,0 +1,87 @@
+-- The spelling of AVPs: its length, and that it means these AVPs.
+use Rattle.std.proofs.Common.{◌≡◌, ℕ, zero, suc, ◌+◌, ◌-◌, ◌<◌, ◌≤◌, ◌^◌, Bool, true, false, List, [], ◌∷◌, ◌++◌, length, take, replicate, get_or, Option, Some, None, All, refl, sym, ap, subst, ◌∙◌, arith, append_assoc}
+use Rattle.std.specs.Prelude.{IfSome}
+use Rattle.std.proofs.lemmas.List.{length-replicate, length-append, take_more, append-nil}
+use Rattle.std.proofs.lemmas.List.Concat.{flat_map-append}
+use Rattle.std.proofs.lemmas.List.Folds.{length-flat_map-take}
+use Rattle.std.proofs.lemmas.List.Elements.{All-head, All-tail}
+use Rattle.dia_avp.specs.declared.avp.Avp.{Avp}
+use Rattle.dia_avp.specs.Spelling.{padded, vendor_id, has_vendor, flags_of, length_of, header, spelled, spelling}
+use Rattle.dia_avp.specs.Avps.{has_flag, IsVendor, AvpThen, Avps}
+use Rattle.dia_avp.specs.Writing.{HasNumbers, NoZeroVendor}
+
+-- a spelling has the AVP Length's octets and the padding
+pub length_spelled : (a : Avp) → length (spelled a) ≡ padded (length_of a)
+unfolding spelled length_of
+length_spelled a =
+    let len = length_of a in
+    let pad : List ℕ = replicate (padded len - len) 0 in
+    let hd = header a.code (flags_of (has_vendor a.vendor) a.mandatory a.protected) len in
+    let hd_len : length hd ≡ 8 = refl in
+    let pad_len : length pad ≡ padded len - len = length-replicate (padded len - len) 0 in
+    omega (arith, length-append (hd ++ vendor_id a.vendor ++ a.octets) pad, length-append (hd ++ vendor_id a.vendor) a.octets, length-append hd (vendor_id a.vendor))
+
+-- one AVP more
+pub spelling-take : (avps : List Avp) (i : ℕ) (a : Avp) → i < length avps → a ≡ get_or avps i a → spelling (take (i + 1) avps) ≡ spelling (take i avps) ++ spelled a
+spelling-take avps i a lt e =
+    ap spelling (take_more avps i a lt) ∙ flat_map-append spelled (take i avps) (get_or avps i a ∷ []) ∙ rw (← e) (ap (λ (x : List ℕ). spelling (take i avps) ++ x) (append-nil (spelled a)))
+
+-- the next AVP's octets are among those of all
+pub length-spelling-next : (avps : List Avp) (i : ℕ) (a : Avp) → i < length avps → a ≡ get_or avps i a → length (spelling (take i avps)) + length (spelled a) ≤ length (spelling avps)
+length-spelling-next avps i a lt e = omega (arith, length-flat_map-take spelled avps i a lt, ap (λ (x : Avp). length (spelled x)) e)
+
+-- room for all is room for the next
+pub room-next : (avps : List Avp) (i : ℕ) (a : Avp) (start out : List ℕ) (cap : ℕ) → i < length avps → a ≡ get_or avps i a → out ≡ start ++ spelling (take i avps) → length start + length (spelling avps) ≤ cap → length out + length (spelled a) ≤ cap
+room-next avps i a start out cap lt e is room = omega (arith, ap length is, length-append start (spelling (take i avps)), length-spelling-next avps i a lt e)
+
+pub length-spelling-take : (avps : List Avp) (i : ℕ) (a : Avp) → i < length avps → a ≡ get_or avps i a → length (spelling (take (i + 1) avps)) ≡ length (spelling (take i avps)) + length (spelled a)
+length-spelling-take avps i a lt e = omega (arith, ap length (spelling-take avps i a lt e), length-append (spelling (take i avps)) (spelled a))
+
+flags : (v m p : Bool) → (has_flag 128 (flags_of v m p) ≡ v) × (has_flag 64 (flags_of v m p) ≡ m) × (has_flag 32 (flags_of v m p) ≡ p)
+flags true true true = (refl, refl, refl)
+flags true true false = (refl, refl, refl)
+flags true false true = (refl, refl, refl)
+flags true false false = (refl, refl, refl)
+flags false true true = (refl, refl, refl)
+flags false true false = (refl, refl, refl)
+flags false false true = (refl, refl, refl)
+flags false false false = (refl, refl, refl)
+
+vendor_is : (v : Option ℕ) → IfSome v (λ n. n < 2 ^ 32) → (v ≡ Some 0 → ⊥) → IsVendor (has_vendor v) (vendor_id v) v
+vendor_is None fits some = (refl, refl)
+vendor_is (Some zero) fits some = absurd (some refl)
+vendor_is (Some (suc n)) fits some = (suc n, fits, refl, refl)
+
+-- the spelling of an AVP means this AVP
+pub AvpThen-spelled : (a : Avp) (rest : List ℕ) → HasNumbers a → length_of a < 2 ^ 24 → (a.vendor ≡ Some 0 → ⊥) → AvpThen (spelled a ++ rest) a rest
+unfolding spelled length_of
+AvpThen-spelled a rest n short some =
+    let f = flags (has_vendor a.vendor) a.mandatory a.protected in
+    let len = length_of a in
+    let pad = replicate (padded len - len) 0 in
+    let hd = header a.code (flags_of (has_vendor a.vendor) a.mandatory a.protected) len in
+    let pad_len : length pad ≡ padded len - len = length-replicate (padded len - len) 0 in
+    record {
+      flags = flags_of (has_vendor a.vendor) a.mandatory a.protected;
+      id = vendor_id a.vendor;
+      padding = pad;
+      len = len;
+      len_is = refl;
+      joined = append_assoc (hd ++ vendor_id a.vendor ++ a.octets) pad rest ∙ append_assoc (hd ++ vendor_id a.vendor) a.octets (pad ++ rest) ∙ append_assoc hd (vendor_id a.vendor) (a.octets ++ (pad ++ rest));
+      code_fits = n.code;
+      len_fits = short;
+      vendor = subst (λ (b : Bool). IsVendor b (vendor_id a.vendor) a.vendor) (sym f.0) (vendor_is a.vendor n.vendor some);
+      mandatory = sym f.1;
+      protected = sym f.2;
+      padding_fits = omega arith;
+      padding_whole = λ _. omega arith;
+    }
+
+-- the spelling of a list means this list
+pub Avps-spelling : (list : List Avp) → All HasNumbers list → All (λ a. length_of a < 2 ^ 24) list → NoZeroVendor list → Avps (spelling list) list
+Avps-spelling [] n short some = refl
+Avps-spelling (a ∷ list) n short some = (
+  spelling list,
+  AvpThen-spelled a (spelling list) (All-head HasNumbers a list n) (All-head (λ b. length_of b < 2 ^ 24) a list short) (All-head (λ b. b.vendor ≡ Some 0 → ⊥) a list some),
+  Avps-spelling list (All-tail HasNumbers a list n) (All-tail (λ b. length_of b < 2 ^ 24) a list short) (All-tail (λ b. b.vendor ≡ Some 0 → ⊥) a list some),
+)

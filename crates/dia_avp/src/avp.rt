@@ -1,0 +1,56 @@
+ghost use Rattle.std.specs.Prelude.{◌≡◌, IfOk};
+ghost use Rattle.dia_avp.specs.View.{seen};
+
+use crate::octets::Octets;
+use std::alloc::{AllocError, Global};
+
+/// An attribute-value pair (RFC 6733 section 4.1). `vendor` is the Vendor-ID, which stands there only with flag V;
+/// 0 is written as none. `mandatory` and `protected` are the flags M and P. `octets` is the data, without padding.
+#[derive(Debug, Drop)]
+pub struct Avp {
+    pub code: u32,
+    pub vendor: Option<u32>,
+    pub mandatory: bool,
+    pub protected: bool,
+    pub octets: Octets,
+}
+
+/// An AVP whose data lies where it was read. Takes no memory.
+#[derive(Clone, Copy, Debug)]
+pub struct AvpView<'a> {
+    pub code: u32,
+    pub vendor: Option<u32>,
+    pub mandatory: bool,
+    pub protected: bool,
+    pub octets: &'a [u8],
+}
+
+impl Avp {
+    /// The AVP, with its data where it is.
+    pub fn view(&self) -> AvpView<'_>
+        ensures { seen result ≡ self.now }
+    {
+        AvpView {
+            code: self.code,
+            vendor: self.vendor,
+            mandatory: self.mandatory,
+            protected: self.protected,
+            octets: self.octets.as_slice(),
+        }
+    }
+}
+
+impl<'a> AvpView<'a> {
+    /// The AVP with a copy of its data.
+    pub fn to_avp(&self, alloc: Global) -> Result<Avp, AllocError>
+        ensures { IfOk result (λ a. a ≡ seen self.now) }
+    {
+        Ok(Avp {
+            code: self.code,
+            vendor: self.vendor,
+            mandatory: self.mandatory,
+            protected: self.protected,
+            octets: Octets::from_slice(alloc, self.octets)?,
+        })
+    }
+}

@@ -1,0 +1,55 @@
+//! The data of an AVP as a value of its type (RFC 6733 sections 4.2 and 4.3.1).
+
+ghost use Rattle.std.specs.Prelude.{◌≡◌, ◌≢◌, ◌≤◌, ◌<◌, length, All, Any, IfOk, IfErr};
+ghost use Rattle.dia_avp.specs.Field.{IsUnsigned32};
+
+use crate::avp::{Avp, AvpView};
+use crate::fault::FieldFault;
+use byteorder::{BigEndian, ByteOrder};
+
+fn unsigned32(octets: &[u8]) -> Result<u32, FieldFault>
+    ensures value { IfOk result (IsUnsigned32 octets.now) }
+    ensures refused { IfErr result (λ f. (f ≡ FieldFault.BadLength) × (length octets.now ≢ 4)) }
+{
+    if octets.len() != 4 {
+        return Err(FieldFault::BadLength);
+    }
+    Ok(BigEndian::read_u32(octets))
+}
+
+impl<'a> AvpView<'a> {
+    /// The Unsigned32 that the data is: 4 octets in network byte order (RFC 6733 section 4.2).
+    pub fn as_u32(&self) -> Result<u32, FieldFault>
+        ensures value { IfOk result (IsUnsigned32 self.now.octets.now) }
+        ensures refused { IfErr result (λ f. (f ≡ FieldFault.BadLength) × (length self.now.octets.now ≢ 4)) }
+    {
+        unsigned32(self.octets)
+    }
+
+    /// The DiameterIdentity that the data is: ASCII, and so no octet over 0x7f (RFC 6733 section 4.3.1). It may be empty.
+    pub fn as_identity(&self) -> Result<&'a [u8], FieldFault>
+        ensures value { IfOk result (λ x. (x.now ≡ self.now.octets.now) × All (λ o. o < 128) x.now) }
+        ensures refused { IfErr result (λ f. (f ≡ FieldFault.BadValue) × Any (λ o. 128 ≤ o) self.now.octets.now) }
+    {
+        if self.octets.iter().any(|o| *o > 0x7f) {
+            return Err(FieldFault::BadValue);
+        }
+        Ok(self.octets)
+    }
+}
+
+/// The Unsigned32 that the AVP's data is (RFC 6733 section 4.2).
+pub fn u32_of(avp: &Avp) -> Result<u32, FieldFault>
+    ensures value { IfOk result (IsUnsigned32 avp.now.octets) }
+    ensures refused { IfErr result (λ f. (f ≡ FieldFault.BadLength) × (length avp.now.octets ≢ 4)) }
+{
+    avp.view().as_u32()
+}
+
+/// The DiameterIdentity that the AVP's data is (RFC 6733 section 4.3.1).
+pub fn identity_of(avp: &Avp) -> Result<&[u8], FieldFault>
+    ensures value { IfOk result (λ x. (x.now ≡ avp.now.octets) × All (λ o. o < 128) x.now) }
+    ensures refused { IfErr result (λ f. (f ≡ FieldFault.BadValue) × Any (λ o. 128 ≤ o) avp.now.octets) }
+{
+    avp.view().as_identity()
+}

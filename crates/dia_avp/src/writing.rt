@@ -1,0 +1,142 @@
+//! The spelling of AVPs.
+
+ghost use Rattle.std.specs.Prelude.{◌≡◌, ◌+◌, ◌<◌, ◌≤◌, ◌^◌, ◌↔◌, ◌++◌, length, replicate, All, OnOk, OnErr, IsErrOf, IfSome, vec_len, vec_capacity};
+ghost use Rattle.dia_avp.specs.View.{seen};
+ghost use Rattle.dia_avp.specs.Spelling.{length_of, spelled, spelling, header, flags_of, has_vendor, vendor_id, HasLong};
+ghost use Rattle.dia_avp.specs.Writing.{HasNumbers, MeansAvp, MeansAvps, IsReadBack};
+
+use crate::avp::{Avp, AvpView};
+use crate::avp_list::AvpList;
+use crate::fault::WriteError;
+use crate::length::{has_long, is_long, length_of, spelled_len_of};
+use byteorder::{BigEndian, ByteOrder};
+
+fn flags_of(avp: &AvpView<'_>) -> u8
+    ensures { result ≡ flags_of (has_vendor avp.now.vendor) avp.now.mandatory avp.now.protected }
+{
+    let vendor = match avp.vendor {
+        None | Some(0) => 0,
+        Some(_) => 0x80,
+    };
+    let mandatory = if avp.mandatory { 0x40 } else { 0 };
+    let protected = if avp.protected { 0x20 } else { 0 };
+    vendor + mandatory + protected
+}
+
+fn header_of(code: u32, flags: u8, len: u32) -> [u8; 8]
+    requires { len < 2 ^ 24 }
+    ensures octets { result ≡ header code flags len }
+    ensures fits { code < 2 ^ 32 }
+{
+    let mut octets = [0; 8];
+    BigEndian::write_u32(&mut octets, code);
+    octets[4] = flags;
+    BigEndian::write_u24(&mut octets[5..], len);
+    octets
+}
+
+/// Appends octets for which there is room.
+fn put(out: &mut Vec<u8>, octets: &[u8])
+    requires { vec_len out.old + length octets.now ≤ vec_capacity out.old }
+    ensures items { out.new.items ≡ out.old.items ++ octets.now }
+    ensures room { vec_capacity out.old ≤ vec_capacity out.new }
+{
+    out.extend_from_slice(octets).unwrap();
+}
+
+fn put_vendor(out: &mut Vec<u8>, vendor: Option<u32>)
+    requires { vec_len out.old + length (vendor_id vendor) ≤ vec_capacity out.old }
+    ensures items { out.new.items ≡ out.old.items ++ vendor_id vendor }
+    ensures room { vec_capacity out.old ≤ vec_capacity out.new }
+    ensures fits { IfSome vendor (λ v. v < 2 ^ 32) }
+{
+    match vendor {
+        None | Some(0) => {}
+        Some(id) => {
+            let mut octets = [0; 4];
+            BigEndian::write_u32(&mut octets, id);
+            put(out, &octets);
+        }
+    }
+}
+
+fn put_padding(out: &mut Vec<u8>, count: usize)
+    requires small { count ≤ 3 }
+    requires room { vec_len out.old + count ≤ vec_capacity out.old }
+    ensures items { out.new.items ≡ out.old.items ++ replicate count 0 }
+    ensures room { vec_capacity out.old ≤ vec_capacity out.new }
+{
+    put(out, &[0; 3][..count]);
+}
+
+#[tactic(auto, unfolding(crate::specs::Spelling::spelled))]
+fn put_avp(out: &mut Vec<u8>, avp: &AvpView<'_>)
+    requires short { length_of (seen avp.now) < 2 ^ 24 }
+    requires room { vec_len out.old + length (spelled (seen avp.now)) ≤ vec_capacity out.old }
+    ensures items { out.new.items ≡ out.old.items ++ spelled (seen avp.now) }
+    ensures room { vec_capacity out.old ≤ vec_capacity out.new }
+    ensures numbers { HasNumbers (seen avp.now) }
+{
+    let flags = flags_of(avp);
+    let len = length_of(avp);
+    put(out, &header_of(avp.code, flags, len as u32));
+    put_vendor(out, avp.vendor);
+    put(out, avp.octets);
+    put_padding(out, len.div_ceil(4) * 4 - len);
+}
+
+fn put_avps(out: &mut Vec<u8>, avps: &[Avp])
+    requires short { All (λ a. length_of a < 2 ^ 24) avps.now }
+    requires room { vec_len out.old + length (spelling avps.now) ≤ vec_capacity out.old }
+    ensures items { out.new.items ≡ out.old.items ++ spelling avps.now }
+    ensures numbers { All HasNumbers avps.now }
+{
+    for avp in avps {
+        put_avp(out, &avp.view());
+    }
+}
+
+/// Appends the one spelling of an AVP (RFC 6733 section 4.1): reserved flags and padding are zero. `out` grows by its
+/// own allocator.
+pub fn write_avp(avp: &AvpView<'_>, out: &mut Vec<u8>) -> Result<(), WriteError>
+    ensures ok { OnOk result (out.new.items ≡ out.old.items ++ spelled (seen avp.now)) }
+
+    // An AVP too long for 24 bits is refused, whatever the memory.
+    ensures too_long { IsErrOf result WriteError.LengthOver24Bits ↔ (2 ^ 24 ≤ length_of (seen avp.now)) }
+    ensures err { OnErr result (out.new.items ≡ out.old.items) }
+
+    // What was written means this AVP again, whatever comes after it.
+    ensures means { OnOk result (MeansAvp (seen avp.now)) }
+{
+    if is_long(avp) {
+        return Err(WriteError::LengthOver24Bits);
+    }
+    out.reserve(avp.spelled_len())?;
+    put_avp(out, avp);
+    Ok(())
+}
+
+/// Appends the one spelling of the AVPs (RFC 6733 section 4.1): reserved flags and padding are zero, and the last
+/// padding is written too. `out` grows by its own allocator.
+pub fn write_avps(list: &AvpList, out: &mut Vec<u8>) -> Result<(), WriteError>
+    ensures ok { OnOk result (out.new.items ≡ out.old.items ++ spelling list.now) }
+
+    // An AVP too long for 24 bits is refused, whatever the memory.
+    ensures too_long { IsErrOf result WriteError.LengthOver24Bits ↔ HasLong list.now }
+    ensures err { OnErr result (out.new.items ≡ out.old.items) }
+
+    // What was written means this list, and is read as this list again.
+    ensures means { OnOk result (MeansAvps list.now) }
+    ensures read_back { OnOk result (IsReadBack list.now) }
+{
+    let avps = list.as_slice();
+    if has_long(avps) {
+        return Err(WriteError::LengthOver24Bits);
+    }
+    let Some(len) = spelled_len_of(avps) else {
+        return Err(WriteError::NoMemory);
+    };
+    out.reserve(len)?;
+    put_avps(out, avps);
+    Ok(())
+}
