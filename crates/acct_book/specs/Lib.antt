@@ -1,0 +1,5 @@
+pub mod Sums
+pub mod Book
+pub mod Kept
+pub mod Laws
+pub mod Ledger

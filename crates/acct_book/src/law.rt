@@ -1,0 +1,13 @@
+//! Laws of the book, over every journal: what no single call says.
+ghost use Rattle.acct_book.specs.Laws.{AnsweredNeverOver, ReservedIsSumOfOwn};
+
+/// Where each outcome of a journal is the one that the book allows after those before it, no more is reserved and debited of an
+/// account than was given.
+pub fn answered_is_never_over()
+    ensures { AnsweredNeverOver }
+{}
+
+/// What is reserved on an account is the sum of its reservations over all sessions and groups.
+pub fn reserved_is_sum_of_own()
+    ensures { ReservedIsSumOfOwn }
+{}

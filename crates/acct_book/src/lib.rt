@@ -1,0 +1,22 @@
+//! One page of the account book: what was given, what is reserved and what was debited, by account, session and group.
+#![tactic(auto)]
+
+mod answer;
+mod fault;
+mod holder;
+mod law;
+mod ledger;
+mod limit;
+mod op;
+mod page;
+mod settle;
+
+pub use answer::{Quote, Totals, Verdict};
+pub use fault::{NoMemory, OpenFault};
+pub use law::{answered_is_never_over, reserved_is_sum_of_own};
+pub use limit::{MAX_ACCOUNTS, MAX_GIVEN};
+pub use op::{Booked, Op, Outcome};
+pub use page::Page;
+
+#[cfg(test)]
+mod tests;

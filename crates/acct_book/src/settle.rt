@@ -1,0 +1,131 @@
+//! What an account with these totals answers, and what an operation leaves: numbers alone.
+ghost use Rattle.std.specs.Prelude.{◌≡◌, ◌≤◌, ◌<◌, ◌+◌, ◌^◌, nat_le, if◌then◌else◌};
+ghost use Rattle.acct_book.specs.declared.op.Outcome.TheVariants.{Done, Refused};
+ghost use Rattle.acct_book.specs.Sums.{unpaid_of};
+ghost use Rattle.acct_book.specs.Book.{free_of, quote_at, outcome_at};
+ghost use Rattle.acct_book.specs.Kept.{IsSound, totals_after, held_after};
+
+use crate::answer::{Quote, Totals, Verdict};
+use crate::op::{Op, Outcome};
+
+impl Totals {
+    // What is neither reserved nor debited.
+    fn free(&self) -> u64
+        requires { self.now.reserved + self.now.debited ≤ self.now.given }
+        ensures { result ≡ free_of self.now }
+    {
+        self.given - self.debited - self.reserved
+    }
+
+    /// What the account answers to a holder of a reservation who used and wants so much.
+    pub(crate) fn quote(&self, held: u64, used: u64, want: u64) -> Quote
+        requires { IsSound self.now held }
+        ensures { result ≡ quote_at self.now held used want }
+    {
+        let funds = held + self.free();
+        let pay = used.min(funds);
+        let left = funds - pay;
+        let offer = want.min(left);
+        let verdict = if offer >= 1 || want == 0 {
+            Verdict::Success
+        } else {
+            Verdict::CreditLimitReached
+        };
+        let is_final = offer >= 1 && (offer < want || left == offer);
+        Quote {
+            verdict,
+            offer,
+            is_final,
+            pay,
+        }
+    }
+
+    /// The outcome of an operation on a reservation of `held`.
+    pub(crate) fn outcome(&self, held: u64, op: Op) -> Outcome
+        requires { IsSound self.now held }
+        ensures allowed { result ≡ outcome_at self.now held op }
+        ensures fits { unpaid_of result ≤ 2 ^ 64 }
+    {
+        match op {
+            Op::Reserve { amount, .. } => self.granted(amount),
+            Op::Debit { used, .. } => {
+                let pay = used.min(held + self.free());
+                Outcome::Done {
+                    amount: pay,
+                    unpaid: used - pay,
+                }
+            }
+            Op::Release { .. } => Outcome::Done {
+                amount: held,
+                unpaid: 0,
+            },
+            Op::Charge { amount, .. } => self.granted(amount),
+            Op::Refund { amount, .. } => Outcome::Done {
+                amount: amount.min(self.debited),
+                unpaid: 0,
+            },
+        }
+    }
+
+    // All of the amount where that much is free.
+    fn granted(&self, amount: u64) -> Outcome
+        requires { self.now.reserved + self.now.debited ≤ self.now.given }
+        ensures { result ≡ (if nat_le amount (free_of self.now) then Done amount 0 else Refused) }
+    {
+        if amount <= self.free() {
+            Outcome::Done { amount, unpaid: 0 }
+        } else {
+            Outcome::Refused
+        }
+    }
+
+    /// The totals that the operation leaves.
+    pub(crate) fn after(&self, held: u64, op: Op, outcome: Outcome) -> Totals
+        requires sound { IsSound self.now held }
+        requires allowed { outcome ≡ outcome_at self.now held op }
+        requires few { self.now.unpaid + 2 ^ 64 ≤ 2 ^ 128 }
+        ensures { result ≡ totals_after self.now held op outcome }
+    {
+        let Outcome::Done { amount, unpaid } = outcome else {
+            return *self;
+        };
+        match op {
+            Op::Reserve { .. } => Totals {
+                reserved: self.reserved + amount,
+                ..*self
+            },
+            Op::Debit { .. } => Totals {
+                reserved: self.reserved - held,
+                debited: self.debited + amount,
+                unpaid: self.unpaid + u128::from(unpaid),
+                ..*self
+            },
+            Op::Release { .. } => Totals {
+                reserved: self.reserved - held,
+                ..*self
+            },
+            Op::Charge { .. } => Totals {
+                debited: self.debited + amount,
+                ..*self
+            },
+            Op::Refund { .. } => Totals {
+                debited: self.debited - amount,
+                ..*self
+            },
+        }
+    }
+}
+
+/// The reservation that the operation leaves, of `held` before.
+pub(crate) fn held_then(held: u64, op: Op, outcome: Outcome) -> u64
+    requires { held_after held op outcome < 2 ^ 64 }
+    ensures { result ≡ held_after held op outcome }
+{
+    match op {
+        Op::Reserve { .. } => held + outcome.amount(),
+        Op::Debit { .. } => 0,
+        Op::Release { .. } => 0,
+        Op::Charge { .. } => held,
+        Op::Refund { .. } => held,
+    }
+}

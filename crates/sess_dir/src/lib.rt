@@ -1,0 +1,10 @@
+//! Names with the places at which they were added: the sessions of a shard, the machines of a node.
+#![tactic(auto)]
+
+mod directory;
+mod fault;
+#[cfg(test)]
+mod tests;
+
+pub use directory::{Directory, MAX_NAMES};
+pub use fault::AddFault;

@@ -1,0 +1,4 @@
+pub mod CallerLemmas
+pub mod DueLemmas
+pub mod OrderLemmas
+pub mod PlaceLemmas

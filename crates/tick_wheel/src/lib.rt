@@ -1,0 +1,11 @@
+//! Timers in ticks: at most one for each owner, and what is due at a moment.
+#![tactic(auto)]
+
+mod places;
+#[cfg(test)]
+mod tests;
+mod timer;
+mod wheel;
+
+pub use timer::{Armed, Firing};
+pub use wheel::Wheel;
