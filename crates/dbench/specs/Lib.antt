@@ -1,0 +1,10 @@
+pub mod Statuses
+pub mod Devices
+pub mod Digits
+pub mod Stops
+pub mod Lines
+pub mod Ends
+pub mod Words
+pub mod Asked
+pub mod Printed
+pub mod Reports

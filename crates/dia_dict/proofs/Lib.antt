@@ -1,0 +1,3 @@
+pub mod KeyedLemmas
+pub mod FieldLemmas
+pub mod BaseLemmas

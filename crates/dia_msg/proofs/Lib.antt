@@ -1,0 +1,9 @@
+pub mod WriteLemmas
+pub mod BuildLemmas
+pub mod RuleLemmas
+pub mod FaultLemmas
+pub mod ReadingLaws
+pub mod SpreadLemmas
+pub mod FaultlessLaws
+pub mod AgainLaws
+pub mod StandardFacts

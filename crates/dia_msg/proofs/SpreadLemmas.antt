@@ -1,0 +1,153 @@
+-- A list that is written in the order of rules is taken apart as before.
+use Rattle.std.proofs.Common.{◌≡◌, ℕ, ◌+◌, Bool, true, false, cond, not, List, [], ◌∷◌, ◌++◌, take, filter, All, refl, ap, ◌∙◌, arith, append_assoc}
+use Rattle.std.specs.Prelude.{sum_by}
+use Rattle.std.specs.List.{flat_map}
+use Rattle.std.proofs.lemmas.List.{append-nil}
+use Rattle.std.proofs.lemmas.List.Elements.{All-nil, All-cons, All-head, All-tail, All-append, All-filter, All-take, All-weaker, filter-append, filter_passes}
+use Rattle.std.proofs.lemmas.List.Filters.{sum_by-filter_both}
+use Rattle.std.proofs.lemmas.List.Sums.{sum_by-append, sum_by-cons}
+use Rattle.dia_avp.specs.declared.avp.Avp.{Avp}
+use Rattle.dia_msg.specs.declared.rules.Rule.{Rule}
+use Rattle.dia_msg.specs.Rules.{is_for, taken, left_by, without_first, groups, untaken, missing}
+
+abbrev Test : Type 0
+Test = Avp → Bool
+
+-- what a rule takes and leaves, by whether several may stand
+abbrev took : Bool → Test → List Avp → List Avp
+took several p list = cond several (filter p list) (take 1 (filter p list))
+
+abbrev leaves : Bool → Test → List Avp → List Avp
+leaves several p list = cond several (filter (λ a. not (p a)) list) (without_first p list)
+
+-- no AVP passes, all pass
+abbrev Fails : Test → List Avp → Type 0
+Fails p list = All (λ a. p a ≡ false) list
+
+abbrev Passes : Test → List Avp → Type 0
+Passes p list = All (λ a. p a ≡ true) list
+
+keep_or_drop : (P : Avp → Type 0) (p : Test) (a : Avp) (list : List Avp) (b : Bool) → p a ≡ b → All P list → P a → All P (without_first p list) → All P (without_first p (a ∷ list))
+keep_or_drop P p a list true e h own next = rw e h
+keep_or_drop P p a list false e h own next = rw e (All-cons P a (without_first p list) own next)
+
+without_first-All : (P : Avp → Type 0) (p : Test) (list : List Avp) → All P list → All P (without_first p list)
+without_first-All P p [] h = h
+without_first-All P p (a ∷ list) h = keep_or_drop P p a list (p a) refl (All-tail P a list h) (All-head P a list h) (without_first-All P p list (All-tail P a list h))
+
+took-All : (P : Avp → Type 0) (several : Bool) (p : Test) (list : List Avp) → All P list → All P (took several p list)
+took-All P true p list h = All-filter p P list h
+took-All P false p list h = All-take P 1 (filter p list) (All-filter p P list h)
+
+leaves-All : (P : Avp → Type 0) (several : Bool) (p : Test) (list : List Avp) → All P list → All P (leaves several p list)
+leaves-All P true p list h = All-filter (λ a. not (p a)) P list h
+leaves-All P false p list h = without_first-All P p list h
+
+head_sum : (f : Avp → ℕ) (p : Test) (a : Avp) (list : List Avp) (b : Bool) → p a ≡ b → sum_by f (took false p list) + sum_by f (leaves false p list) ≡ sum_by f list
+    → sum_by f (took false p (a ∷ list)) + sum_by f (leaves false p (a ∷ list)) ≡ sum_by f (a ∷ list)
+head_sum f p a list true e n = rw e (omega (arith, sum_by-cons f a list))
+head_sum f p a list false e n = rw e (omega (arith, n, sum_by-cons f a list, sum_by-cons f a (without_first p list)))
+
+-- a sum over the AVPs is one over those taken and those left
+took-sum : (f : Avp → ℕ) (several : Bool) (p : Test) (list : List Avp) → sum_by f (took several p list) + sum_by f (leaves several p list) ≡ sum_by f list
+took-sum f true p list = sum_by-filter_both p (λ a. not (p a)) (λ a. refl) f list
+took-sum f false p [] = refl
+took-sum f false p (a ∷ list) = head_sum f p a list (p a) refl (took-sum f false p list)
+
+fails-filter : (p : Test) (list : List Avp) → Fails p list → filter p list ≡ []
+fails-filter p [] h = refl
+fails-filter p (a ∷ list) h = rw (All-head (λ x. p x ≡ false) a list h) (fails-filter p list (All-tail (λ x. p x ≡ false) a list h))
+
+fails-without : (p : Test) (list : List Avp) → Fails p list → without_first p list ≡ list
+fails-without p [] h = refl
+fails-without p (a ∷ list) h = rw (All-head (λ x. p x ≡ false) a list h) (ap (λ (l : List Avp). a ∷ l) (fails-without p list (All-tail (λ x. p x ≡ false) a list h)))
+
+fails-not : (p : Test) (list : List Avp) → Fails p list → filter (λ a. not (p a)) list ≡ list
+fails-not p [] h = refl
+fails-not p (a ∷ list) h = rw (All-head (λ x. p x ≡ false) a list h) (ap (λ (l : List Avp). a ∷ l) (fails-not p list (All-tail (λ x. p x ≡ false) a list h)))
+
+passes-filter : (p : Test) (list : List Avp) → Passes p list → filter p list ≡ list
+passes-filter p [] h = refl
+passes-filter p (a ∷ list) h = rw (All-head (λ x. p x ≡ true) a list h) (ap (λ (l : List Avp). a ∷ l) (passes-filter p list (All-tail (λ x. p x ≡ true) a list h)))
+
+passes-not : (p : Test) (list : List Avp) → Passes p list → filter (λ a. not (p a)) list ≡ []
+passes-not p [] h = refl
+passes-not p (a ∷ list) h = rw (All-head (λ x. p x ≡ true) a list h) (passes-not p list (All-tail (λ x. p x ≡ true) a list h))
+
+fails_from : (b : Bool) → not b ≡ true → b ≡ false
+fails_from true e = cc
+fails_from false e = refl
+
+filter_not-fails : (p : Test) (list : List Avp) → Fails p (filter (λ a. not (p a)) list)
+filter_not-fails p list = All-weaker (λ a. not (p a) ≡ true) (λ a. p a ≡ false) (λ a e. fails_from (p a) e) (filter (λ a. not (p a)) list) (filter_passes (λ a. not (p a)) list)
+
+head_fails : (p : Test) (a : Avp) (list : List Avp) (b : Bool) → p a ≡ b → filter p (a ∷ list) ≡ [] → (filter p list ≡ [] → Fails p list) → Fails p (a ∷ list)
+head_fails p a list true e h next = let k : a ∷ filter p list ≡ [] = rw e at h in absurd cc
+head_fails p a list false e h next = All-cons (λ x. p x ≡ false) a list e (next (rw e at h))
+
+filter_none-fails : (p : Test) (list : List Avp) → filter p list ≡ [] → Fails p list
+filter_none-fails p [] h = All-nil (λ x. p x ≡ false)
+filter_none-fails p (a ∷ list) h = head_fails p a list (p a) refl h (filter_none-fails p list)
+
+-- what was taken is taken again before what comes after it, where that has none for the rule that was left
+one_again : (p : Test) (list after found : List Avp) → filter p list ≡ found → (Fails p (without_first p list) → Fails p after)
+    → (took false p (took false p list ++ after) ≡ took false p list) × (leaves false p (took false p list ++ after) ≡ after)
+one_again p list after [] e h =
+    let fails = filter_none-fails p list e in
+    let none = h (rw (fails-without p list fails) fails) in
+    (rw (e, fails-filter p after none) refl, rw (e, fails-without p after none) refl)
+one_again p list after (a ∷ found) e h =
+    let passes : p a ≡ true = All-head (λ x. p x ≡ true) a found (rw e at (filter_passes p list)) in
+    (rw (e, passes) refl, rw (e, passes) refl)
+
+again : (several : Bool) (p : Test) (list after : List Avp) → (Fails p (leaves several p list) → Fails p after)
+    → (took several p (took several p list ++ after) ≡ took several p list) × (leaves several p (took several p list ++ after) ≡ after)
+again true p list after h =
+    let none = h (filter_not-fails p list) in
+    let all = filter_passes p list in (
+      rw (filter-append p (filter p list) after, passes-filter p (filter p list) all, fails-filter p after none) (append-nil (filter p list)),
+      rw (filter-append (λ a. not (p a)) (filter p list) after, passes-not p (filter p list) all, fails-not p after none) refl,
+    )
+again false p list after h = one_again p list after (filter p list) refl h
+
+-- the AVPs as they are written: those that each rule takes, then those that none takes
+abbrev pub spread : List Rule → List Avp → List Avp
+spread [] list = list
+spread (r ∷ rules) list = taken r list ++ spread rules (left_by r list)
+
+pub spread-is : (rules : List Rule) (list : List Avp) → flat_map (λ group. group) (groups rules list) ++ untaken rules list ≡ spread rules list
+spread-is [] list = refl
+spread-is (r ∷ rules) list =
+    append_assoc (taken r list) (flat_map (λ group. group) (groups rules (left_by r list))) (untaken rules (left_by r list)) ∙ ap (λ (l : List Avp). taken r list ++ l) (spread-is rules (left_by r list))
+
+-- what holds of each AVP holds of each as written
+pub spread-All : (P : Avp → Type 0) (rules : List Rule) (list : List Avp) → All P list → All P (spread rules list)
+spread-All P [] list h = h
+spread-All P (r ∷ rules) list h =
+    All-append P (taken r list) (spread rules (left_by r list)) (took-All P r.several (is_for r) list h) (spread-All P rules (left_by r list) (leaves-All P r.several (is_for r) list h))
+
+-- a sum over the AVPs is the sum over them as written
+pub spread-sum : (f : Avp → ℕ) (rules : List Rule) (list : List Avp) → sum_by f (spread rules list) ≡ sum_by f list
+spread-sum f [] list = refl
+spread-sum f (r ∷ rules) list =
+    omega (arith, sum_by-append f (taken r list) (spread rules (left_by r list)), spread-sum f rules (left_by r list), took-sum f r.several (is_for r) list)
+
+rule_again : (r : Rule) (rules : List Rule) (list : List Avp) → (taken r (spread (r ∷ rules) list) ≡ taken r list) × (left_by r (spread (r ∷ rules) list) ≡ spread rules (left_by r list))
+rule_again r rules list = again r.several (is_for r) list (spread rules (left_by r list)) (λ fails. spread-All (λ a. is_for r a ≡ false) rules (left_by r list) fails)
+
+-- as written, the rules take the same
+pub groups-spread : (rules : List Rule) (list : List Avp) → groups rules (spread rules list) ≡ groups rules list
+groups-spread [] list = refl
+groups-spread (r ∷ rules) list =
+    let e = rule_again r rules list in
+    rw (e.0, e.1) (ap (λ (l : List (List Avp)). taken r list ∷ l) (groups-spread rules (left_by r list)))
+
+pub untaken-spread : (rules : List Rule) (list : List Avp) → untaken rules (spread rules list) ≡ untaken rules list
+untaken-spread [] list = refl
+untaken-spread (r ∷ rules) list = rw (rule_again r rules list).1 (untaken-spread rules (left_by r list))
+
+pub missing-spread : (rules : List Rule) (list : List Avp) → missing rules (spread rules list) ≡ missing rules list
+missing-spread [] list = refl
+missing-spread (r ∷ rules) list =
+    let e = rule_again r rules list in
+    rw (e.0, e.1, missing-spread rules (left_by r list)) refl

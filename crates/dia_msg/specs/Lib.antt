@@ -1,0 +1,9 @@
+pub mod Code
+pub mod Header
+pub mod Rules
+pub mod Command
+pub mod Faults
+pub mod Spelling
+pub mod Reading
+pub mod Steps
+pub mod Framing

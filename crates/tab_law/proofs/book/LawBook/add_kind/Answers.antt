@@ -1,0 +1,16 @@
+use Rattle.tab_law.specs.declared.limits.TheConstants.{KIND_LIMIT}
+use Rattle.tab_law.proofs.BookLemmas.{IsKept, IsKept-add}
+use Rattle.tab_law.proofs.book.LawBook.add_kind.Goals as goal
+
+pub invariant_of-self : goal.invariant_of-self
+invariant_of-self c =
+    let old : IsKept KIND_LIMIT c.self.inside.kinds = record { named = c.self.invariant.kinds_named; few = c.self.invariant.few_kinds } in
+    let kept = IsKept-add c.add.result KIND_LIMIT (record { name = c.args.name.now; value = tt }) c.self.inside.kinds c.add.new.self old c.add.ensures.ok c.add.ensures.free c.add.ensures.err in
+    record {
+      kinds_named = kept.named;
+      few_kinds = kept.few;
+      guards_named = c.self.invariant.guards_named;
+      acts_named = c.self.invariant.acts_named;
+      few_guards = c.self.invariant.few_guards;
+      few_acts = c.self.invariant.few_acts;
+    }

@@ -1,0 +1,6 @@
+pub mod Scenes
+pub mod Values
+pub mod Guards
+pub mod Acts
+pub mod Named
+pub mod Books

@@ -1,0 +1,107 @@
+ghost use Rattle.std.specs.Prelude.{◌≡◌, ◌++◌, ◌∷◌, [], None, OnOk, OnErr, IfErr, unwrap_or};
+ghost use Rattle.tab_law.specs.Named.{refusal};
+
+use crate::law::{ActLaw, GuardLaw};
+use crate::limits::{ACT_LIMIT, GUARD_LIMIT, KIND_LIMIT};
+use crate::named::{AddFault, NamedList, Refused};
+use std::alloc::Global;
+use std::marker::Model;
+
+/// The kinds of events, and the laws of guards and of actions, each under its name. Nothing is ever
+/// taken out, so a place stays that of its name.
+///
+/// In: `add_kind`, `add_guard`, `add_act`. Looks: `kinds`, `guards`, `acts`.
+#[derive(Debug, Drop)]
+pub struct LawBook {
+    kinds: NamedList<()>,
+    guards: NamedList<GuardLaw>,
+    acts: NamedList<ActLaw>,
+}
+
+impl Model for LawBook {
+    ghost use Rattle.tab_law.specs.Books.{Laws, IsBook};
+
+    ghost Value = { Laws };
+
+    ghost view = { λ b. record { kinds = b.kinds; guards = b.guards; acts = b.acts } };
+
+    ghost invariant = { λ b. IsBook (record { kinds = b.kinds; guards = b.guards; acts = b.acts }) };
+}
+
+impl LawBook {
+    ghost use Rattle.tab_law.specs.Books.{IsBook};
+
+    /// A book without names.
+    pub fn new(alloc: Global) -> LawBook
+        ensures { result ≡ record { kinds = []; guards = []; acts = [] } }
+    {
+        LawBook {
+            kinds: NamedList::new(alloc),
+            guards: NamedList::new(alloc),
+            acts: NamedList::new(alloc),
+        }
+    }
+
+    /// Tells a proof in another crate that names differ and limits are kept.
+    pub fn known(&self)
+        ensures { IsBook self.now }
+    {
+        let _kinds = &self.kinds;
+    }
+
+    /// The kinds of events.
+    pub fn kinds(&self) -> &NamedList<()>
+        ensures { result.now ≡ self.now.kinds }
+    {
+        &self.kinds
+    }
+
+    /// The laws of guards.
+    pub fn guards(&self) -> &NamedList<GuardLaw>
+        ensures { result.now ≡ self.now.guards }
+    {
+        &self.guards
+    }
+
+    /// The laws of actions.
+    pub fn acts(&self) -> &NamedList<ActLaw>
+        ensures { result.now ≡ self.now.acts }
+    {
+        &self.acts
+    }
+
+    /// Adds a kind of events.
+    pub fn add_kind(&mut self, name: &[u8]) -> Result<(), AddFault>
+        ensures ok { OnOk result (self.new ≡ record self.old { kinds = self.old.kinds ++ record { name = name.now; value = tt } ∷ [] }) }
+        ensures free { OnOk result (refusal KIND_LIMIT name.now self.old.kinds ≡ None) }
+        ensures fault { IfErr result (λ f. f ≡ unwrap_or (refusal KIND_LIMIT name.now self.old.kinds) AddFault.NoMemory) }
+        ensures err { OnErr result (self.new ≡ self.old) }
+    {
+        match self.kinds.add(KIND_LIMIT, name, ()) {
+            Ok(()) => Ok(()),
+            Err(refused) => Err(refused.fault),
+        }
+    }
+
+    /// Adds a guard's law, or hands it back.
+    pub fn add_guard(&mut self, name: &[u8], law: GuardLaw) -> Result<(), Refused<GuardLaw>>
+        ensures ok { OnOk result (self.new ≡ record self.old { guards = self.old.guards ++ record { name = name.now; value = law } ∷ [] }) }
+        ensures free { OnOk result (refusal GUARD_LIMIT name.now self.old.guards ≡ None) }
+        ensures fault { IfErr result (λ r. r.fault ≡ unwrap_or (refusal GUARD_LIMIT name.now self.old.guards) AddFault.NoMemory) }
+        ensures back { IfErr result (λ r. r.back ≡ law) }
+        ensures err { OnErr result (self.new ≡ self.old) }
+    {
+        self.guards.add(GUARD_LIMIT, name, law)
+    }
+
+    /// Adds an action's law, or hands it back.
+    pub fn add_act(&mut self, name: &[u8], law: ActLaw) -> Result<(), Refused<ActLaw>>
+        ensures ok { OnOk result (self.new ≡ record self.old { acts = self.old.acts ++ record { name = name.now; value = law } ∷ [] }) }
+        ensures free { OnOk result (refusal ACT_LIMIT name.now self.old.acts ≡ None) }
+        ensures fault { IfErr result (λ r. r.fault ≡ unwrap_or (refusal ACT_LIMIT name.now self.old.acts) AddFault.NoMemory) }
+        ensures back { IfErr result (λ r. r.back ≡ law) }
+        ensures err { OnErr result (self.new ≡ self.old) }
+    {
+        self.acts.add(ACT_LIMIT, name, law)
+    }
+}

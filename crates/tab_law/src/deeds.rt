@@ -1,0 +1,78 @@
+ghost use Rattle.std.specs.Prelude.{◌≡◌, ◌+◌, ◌<◌, ◌≤◌, ◌++◌, ◌∷◌, [], length, ◌==◌};
+
+use crate::limits::{DEED_ROOM, PLACES};
+use crate::scene::Deed;
+use std::marker::Model;
+
+/// Deeds in order, in room of their own: no memory is asked for. The room lies in the value, some
+/// kilobytes of it, so keep it out of deep chains of calls.
+#[derive(Drop)]
+pub struct Deeds {
+    room: [Deed; DEED_ROOM],
+    count: usize,
+}
+
+impl Model for Deeds {
+    ghost use Rattle.std.specs.Prelude.{List, take, ◌≤◌, ◌≡◌, length};
+    ghost use Rattle.tab_law.specs.declared.limits.TheConstants.{DEED_ROOM};
+    ghost use Rattle.tab_law.specs.declared.scene.Deed.{Deed};
+
+    ghost Value = { List Deed };
+
+    ghost view = { λ d. take d.count d.room };
+
+    ghost invariant = { λ d. (d.count ≤ DEED_ROOM) × (length d.room ≡ DEED_ROOM) };
+}
+
+impl Deeds {
+    pub fn new() -> Deeds
+        ensures { result ≡ [] }
+    {
+        let none = Deed {
+            code: 0,
+            a: [0; PLACES],
+        };
+        Deeds {
+            room: [none; DEED_ROOM],
+            count: 0,
+        }
+    }
+
+    pub fn len(&self) -> usize
+        ensures value { result ≡ length self.now }
+        ensures within { length self.now ≤ DEED_ROOM }
+    {
+        self.count
+    }
+
+    pub fn is_empty(&self) -> bool
+        ensures { result ≡ (length self.now == 0) }
+    {
+        self.count == 0
+    }
+
+    /// Adds a deed at the end.
+    pub fn push(&mut self, deed: Deed)
+        requires { length self.old < DEED_ROOM }
+        ensures { self.new ≡ self.old ++ deed ∷ [] }
+    {
+        self.room[self.count] = deed;
+        self.count += 1;
+    }
+
+    /// Adds deeds at the end.
+    pub fn append(&mut self, more: &Deeds)
+        requires { length self.old + length more.now ≤ DEED_ROOM }
+        ensures { self.new ≡ self.old ++ more.now }
+    {
+        for deed in more.as_slice() {
+            self.push(*deed);
+        }
+    }
+
+    pub fn as_slice(&self) -> &[Deed]
+        ensures { result.now ≡ self.now }
+    {
+        &self.room[..self.count]
+    }
+}

@@ -1,0 +1,31 @@
+ghost use Rattle.tab_law.specs.Scenes.{IsScene, IsDeed};
+
+use crate::limits::PLACES;
+
+/// What a guard or an action sees: the machine's registers and the event's facts.
+#[derive(Clone, Copy, PartialEq, Eq, Debug)]
+pub struct Scene {
+    pub regs: [u64; PLACES],
+    pub facts: [u64; PLACES],
+}
+
+/// What an action has done outside its machine: a code, and arguments `a`.
+#[derive(Clone, Copy, PartialEq, Eq, Debug)]
+pub struct Deed {
+    pub code: u16,
+    pub a: [u64; PLACES],
+}
+
+impl Scene {
+    /// Tells a proof in another crate that a scene has all its places.
+    pub fn known(&self)
+        ensures { IsScene self.now }
+    {}
+}
+
+impl Deed {
+    /// Tells a proof in another crate that a deed has all its places.
+    pub fn known(&self)
+        ensures { IsDeed self.now }
+    {}
+}

@@ -1,0 +1,3 @@
+pub mod BindLemmas
+pub mod MoveLemmas
+pub mod RunLemmas

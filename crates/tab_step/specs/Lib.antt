@@ -1,0 +1,4 @@
+pub mod Moves
+pub mod Bind
+pub mod Runs
+pub mod WorkedRows

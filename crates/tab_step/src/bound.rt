@@ -1,0 +1,94 @@
+ghost use Rattle.std.specs.Prelude.{◌≡◌, ℕ, ◌≤◌, ◌<◌, ◌++◌, ◌∷◌, [], List, length};
+
+use std::marker::Model;
+use tab_law::limits::CHAIN_ROOM;
+use tab_text::table::Table;
+
+/// Places in a book, in order: those of a row's guards or actions.
+#[derive(Drop)]
+pub struct Places {
+    items: [u8; CHAIN_ROOM],
+    count: usize,
+}
+
+impl Model for Places {
+    ghost use Rattle.std.specs.Prelude.{List, ℕ, take, ◌≤◌, ◌≡◌, length};
+    ghost use Rattle.tab_law.specs.declared.limits.TheConstants.{CHAIN_ROOM};
+
+    ghost Value = { List ℕ };
+
+    ghost view = { λ p. take p.count p.items };
+
+    ghost invariant = { λ p. (p.count ≤ CHAIN_ROOM) × (length p.items ≡ CHAIN_ROOM) };
+}
+
+impl Places {
+    pub(crate) fn new() -> Places
+        ensures { result ≡ [] }
+    {
+        Places {
+            items: [0; CHAIN_ROOM],
+            count: 0,
+        }
+    }
+
+    pub(crate) fn push(&mut self, place: u8)
+        requires { length self.old < CHAIN_ROOM }
+        ensures { self.new ≡ self.old ++ place ∷ [] }
+    {
+        self.items[self.count] = place;
+        self.count += 1;
+    }
+
+    pub fn as_slice(&self) -> &[u8]
+        ensures value { result.now ≡ self.now }
+        ensures few { length self.now ≤ CHAIN_ROOM }
+    {
+        &self.items[..self.count]
+    }
+}
+
+/// Where the names of a row stand in a book.
+#[derive(Drop)]
+pub struct RowPlaces {
+    pub kind: u8,
+    pub guards: Places,
+    pub actions: Places,
+}
+
+/// A table whose names were found in a book of laws, each row with their places there.
+#[derive(Drop)]
+pub struct Bound {
+    table: Table,
+    places: Vec<RowPlaces>,
+}
+
+impl Model for Bound {
+    ghost use Rattle.tab_step.specs.Bind.{BoundTable};
+
+    ghost Value = { BoundTable };
+
+    ghost view = { λ b. record { table = b.table; places = b.places.items } };
+}
+
+impl Bound {
+    pub(crate) fn new(table: Table, places: Vec<RowPlaces>) -> Bound
+        ensures { result ≡ record { table = table; places = places.items } }
+    {
+        Bound { table, places }
+    }
+
+    /// The table, as it was bound.
+    pub fn table(&self) -> &Table
+        ensures { result.now ≡ self.now.table }
+    {
+        &self.table
+    }
+
+    /// The places of each row's names.
+    pub fn places(&self) -> &[RowPlaces]
+        ensures { result.now ≡ self.now.places }
+    {
+        self.places.as_slice()
+    }
+}

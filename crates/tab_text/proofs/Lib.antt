@@ -1,0 +1,9 @@
+pub mod PiecesLemmas
+pub mod Headers
+pub mod RoomLemmas
+pub mod RoomsLemmas
+pub mod CellsLemmas
+pub mod ReaderLemmas
+pub mod NamesLemmas
+pub mod ParseLemmas
+pub mod TableLemmas

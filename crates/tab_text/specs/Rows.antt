@@ -1,0 +1,77 @@
+use Rattle.std.specs.Prelude.{ℕ, not, List, [], ◌∷◌, map, filter}
+use Rattle.std.specs.List.{filter_map, flat_map, position_or_len}
+use Rattle.std.specs.Str.{bytes_eq}
+use Rattle.tab_text.specs.Contents.{Contents}
+use Rattle.tab_text.specs.Lines.{Line, lines, kept}
+use Rattle.tab_text.specs.Cells.{NamedRow, columns_of, groups, row_of}
+use Rattle.tab_text.specs.declared.row.Row.{Row}
+
+-- the state of a row behind a row with this state: an empty State cell means the state of the row before
+abbrev pub state_behind : List ℕ → List ℕ → List ℕ
+state_behind before [] = before
+state_behind before (b ∷ bs) = b ∷ bs
+
+-- rows with their empty states filled in, behind a row with this state
+abbrev pub filled : List ℕ → List NamedRow → List NamedRow
+filled before [] = []
+filled before (row ∷ rows) =
+    record row { state = state_behind before row.state } ∷ filled (state_behind before row.state) rows
+
+-- the rows of the lines that are kept, the first of which is the header
+unfoldable pub rows_in : List Line → List NamedRow
+rows_in [] = []
+rows_in (header ∷ body) = filled [] (filter_map row_of (groups (columns_of header.octets) body))
+
+-- the rows of a text
+abbrev pub rows_of : List ℕ → List NamedRow
+rows_of text = rows_in (kept (lines text))
+
+-- names in order of first appearance, each once
+abbrev pub distinct : List (List ℕ) → List (List ℕ)
+distinct [] = []
+distinct (name ∷ names) = name ∷ filter (λ other. not (bytes_eq name other)) (distinct names)
+
+-- a name's number is its place in the list
+unfoldable pub place_of : List (List ℕ) → List ℕ → ℕ
+place_of names name = position_or_len (λ other. bytes_eq other name) names
+
+-- the names of rows
+pub record Names : Type 0 where
+  pub states : List (List ℕ)
+  pub kinds : List (List ℕ)
+  pub guards : List (List ℕ)
+  pub actions : List (List ℕ)
+
+-- the names of rows in order of first appearance, in each row its state before its next one
+unfoldable pub names_of : List NamedRow → Names
+names_of rows = record {
+  states = distinct (flat_map (λ row. row.state ∷ row.next ∷ []) rows);
+  kinds = distinct (map (λ row. row.kind) rows);
+  guards = distinct (flat_map (λ row. row.guards) rows);
+  actions = distinct (flat_map (λ row. row.actions) rows);
+}
+
+-- a row with its names given by their numbers
+unfoldable pub numbered : Names → NamedRow → Row
+numbered names row = record {
+  state = place_of names.states row.state;
+  kind = place_of names.kinds row.kind;
+  guards = map (place_of names.guards) row.guards;
+  actions = map (place_of names.actions) row.actions;
+  next = place_of names.states row.next;
+  line = row.line;
+}
+
+-- the table of rows
+unfoldable pub table_with : List NamedRow → Names → Contents
+table_with rows names = record {
+  states = names.states;
+  kinds = names.kinds;
+  guards = names.guards;
+  actions = names.actions;
+  rows = map (numbered names) rows;
+}
+
+-- the table of a text
+unfoldable pub table_of : List ℕ → Contents
+table_of text = table_with (rows_of text) (names_of (rows_of text))

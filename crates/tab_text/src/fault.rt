@@ -1,0 +1,96 @@
+ghost use Rattle.std.specs.Prelude.{◌≡◌};
+ghost use Rattle.tab_text.specs.Codes.{number_of};
+ghost use Rattle.tab_text.specs.declared.fault.ParseError.TheVariants.{NoMemory, Fault};
+
+use std::alloc::{AllocError, AllocFailed};
+use thiserror::Error;
+
+/// What is wrong with a text. The message of each says what was wanted in its place.
+#[derive(Clone, Copy, Debug, PartialEq, Eq, Error)]
+pub enum TextCode {
+    /// The first line that isn't skipped is no header, or there is none.
+    #[error("wanted a header: the words State, Event, Action and Next, the first at byte 2")]
+    NoHeader,
+    /// A byte that a text can't have, or byte 0 or 1 of a row's line isn't blank.
+    #[error("wanted bytes 0x20 to 0x7E alone, and blanks in the first two bytes of a row's line")]
+    BadByte,
+    /// A row lacks a cell, or the table has no row.
+    #[error("wanted a row with Event, Action and Next, and in the first row with a State")]
+    EmptyCell,
+    /// A cell isn't made of names as its column wants it.
+    #[error("wanted names of at most 40 bytes, a letter and then letters, digits, - / or _, an Event as `Kind` or `Kind when guard and guard`, and an Action as `-` or names with commas between")]
+    BadName,
+    /// A row past the last one that a table has room for.
+    #[error("wanted at most 512 rows")]
+    TooManyRows,
+    /// A name past the last one that a table has room for.
+    #[error("wanted at most 64 states, 128 kinds, 64 guards and 64 actions in all rows")]
+    TooManyNames,
+    /// A row with more guards or actions than a row has room for.
+    #[error("wanted at most 4 guards and 8 actions in a row")]
+    TooManyInRow,
+    /// The whole text is too long.
+    #[error("wanted a text of at most 65,536 bytes")]
+    TooLong,
+}
+
+impl TextCode {
+    /// The number that stands for the fault in messages. 4 is kept for lines that continue a row.
+    pub fn number(self) -> u8
+        ensures { result ≡ number_of self }
+    {
+        match self {
+            TextCode::NoHeader => 1,
+            TextCode::BadByte => 2,
+            TextCode::EmptyCell => 3,
+            TextCode::BadName => 5,
+            TextCode::TooManyRows => 6,
+            TextCode::TooManyNames => 7,
+            TextCode::TooManyInRow => 8,
+            TextCode::TooLong => 9,
+        }
+    }
+}
+
+/// The first fault of a text.
+#[derive(Clone, Copy, Debug, PartialEq, Eq, Error)]
+#[error("line {line}: {code}")]
+pub struct TextFault {
+    /// The line, from 1; 0 for the text as a whole.
+    pub line: usize,
+    pub code: TextCode,
+}
+
+/// Why a text gives no table.
+#[derive(Clone, Copy, Debug, PartialEq, Eq, Error)]
+pub enum ParseError {
+    /// The text has no fault, and there is no memory for its table.
+    #[error("out of memory")]
+    NoMemory,
+    #[error("{0}")]
+    Fault(TextFault),
+}
+
+impl From<TextFault> for ParseError {
+    ghost from_gives = { λ fault e. e ≡ Fault fault };
+
+    fn from(fault: TextFault) -> ParseError {
+        ParseError::Fault(fault)
+    }
+}
+
+impl From<AllocError> for ParseError {
+    ghost from_gives = { λ _ e. e ≡ NoMemory };
+
+    fn from(_e: AllocError) -> ParseError {
+        ParseError::NoMemory
+    }
+}
+
+impl<T: Drop> From<AllocFailed<T>> for ParseError {
+    ghost from_gives = { λ _ e. e ≡ NoMemory };
+
+    fn from(_e: AllocFailed<T>) -> ParseError {
+        ParseError::NoMemory
+    }
+}

@@ -1,0 +1,102 @@
+ghost use Rattle.std.specs.Prelude.{◌≡◌};
+ghost use Rattle.std.specs.Option.{option_map};
+ghost use Rattle.std.specs.List.{slice_get};
+
+use crate::name::NameList;
+use crate::row::Row;
+use std::marker::Model;
+
+/// A state machine's table: names, numbered by first appearance, and rows in text order.
+/// State 0 is the state in which a machine starts.
+#[derive(Debug, Drop)]
+pub struct Table {
+    states: NameList,
+    kinds: NameList,
+    guards: NameList,
+    actions: NameList,
+    rows: Vec<Row>,
+}
+
+impl Model for Table {
+    ghost use Rattle.tab_text.specs.Contents.{Contents, IsTable};
+
+    ghost Value = { Contents };
+
+    ghost view = { λ t. record { states = t.states; kinds = t.kinds; guards = t.guards; actions = t.actions; rows = t.rows.items } };
+
+    ghost invariant = { λ t. IsTable (record { states = t.states; kinds = t.kinds; guards = t.guards; actions = t.actions; rows = t.rows.items }) };
+}
+
+impl Table {
+    ghost use Rattle.tab_text.specs.Contents.{Contents, IsTable};
+
+    pub(crate) fn new(
+        states: NameList,
+        kinds: NameList,
+        guards: NameList,
+        actions: NameList,
+        rows: Vec<Row>,
+    ) -> Table
+        requires { IsTable (record { states = states; kinds = kinds; guards = guards; actions = actions; rows = rows.items }) }
+        ensures { result ≡ record { states = states; kinds = kinds; guards = guards; actions = actions; rows = rows.items } }
+    {
+        Table {
+            states,
+            kinds,
+            guards,
+            actions,
+            rows,
+        }
+    }
+
+    /// The rows in text order.
+    pub fn rows(&self) -> &[Row]
+        ensures rows { result.now ≡ self.now.rows }
+        ensures table { IsTable self.now }
+    {
+        self.rows.as_slice()
+    }
+
+    /// The line of the text on which a row begins, from 1; rows are numbered from 0.
+    pub fn line_of(&self, row: usize) -> Option<usize>
+        ensures { result ≡ option_map (λ r. r.line) (slice_get self.now.rows row) }
+    {
+        if row < self.rows.len() {
+            Some(self.rows[row].line)
+        } else {
+            None
+        }
+    }
+
+    /// The names of the states, by number.
+    pub fn states(&self) -> &NameList
+        ensures names { result.now ≡ self.now.states }
+        ensures table { IsTable self.now }
+    {
+        &self.states
+    }
+
+    /// The names of the kinds of events, by number.
+    pub fn kinds(&self) -> &NameList
+        ensures names { result.now ≡ self.now.kinds }
+        ensures table { IsTable self.now }
+    {
+        &self.kinds
+    }
+
+    /// The names of the guards, by number.
+    pub fn guards(&self) -> &NameList
+        ensures names { result.now ≡ self.now.guards }
+        ensures table { IsTable self.now }
+    {
+        &self.guards
+    }
+
+    /// The names of the actions, by number.
+    pub fn actions(&self) -> &NameList
+        ensures names { result.now ≡ self.now.actions }
+        ensures table { IsTable self.now }
+    {
+        &self.actions
+    }
+}
