@@ -8,3 +8,4 @@ pub mod Words
 pub mod Asked
 pub mod Printed
 pub mod Reports
+pub mod Walks

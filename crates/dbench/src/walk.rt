@@ -1,11 +1,13 @@
 //! A walk: a table stepped over a list of events, printed event by event.
-ghost use Rattle.std.specs.Prelude.{◌≡◌, ◌<◌, ◌-◌, ◌^◌};
+ghost use Rattle.std.specs.Prelude.{◌≡◌, ◌≢◌, ◌<◌, ◌≤◌, ◌-◌, ◌^◌, max, true, false, if◌then◌else◌, IfOk};
 ghost use Rattle.tab_step.specs.Bind.{IsBoundTo};
+ghost use Rattle.dbench.specs.Devices.{HasWriteCause};
+ghost use Rattle.dbench.specs.Walks.{CanWalk};
 
 use crate::deeds::deed_name;
 use crate::device::ByteSink;
 use crate::events::{EventsError, read_events};
-use crate::output::tell;
+use crate::output::{MAX_IDLE_WRITES, tell};
 use crate::status::Status;
 use crate::text::put_number;
 use std::alloc::{AllocError, Global};
@@ -20,17 +22,19 @@ use tab_text::fault::{ParseError, TextFault};
 use tab_text::parse::parse;
 use tab_text::table::Table;
 
-/// What is printed, and the status.
+/// What is printed, and whether it is a refusal.
 #[derive(Drop)]
 struct Outcome {
     text: Vec<u8>,
-    status: Status,
+    refused: bool,
 }
 
-fn refused(text: Vec<u8>) -> Outcome {
+fn refusal(text: Vec<u8>) -> Outcome
+    ensures { result.refused ≡ true }
+{
     Outcome {
         text,
-        status: Status::Refused,
+        refused: true,
     }
 }
 
@@ -114,29 +118,35 @@ fn put_steps(
 }
 
 /// `line N fault C`: the first fault of a table's text.
-fn fault_line(alloc: Global, fault: &TextFault) -> Result<Outcome, AllocError> {
+fn fault_line(alloc: Global, fault: &TextFault) -> Result<Outcome, AllocError>
+    ensures { IfOk result (λ walk. walk.refused ≡ true) }
+{
     let mut text = Vec::new(alloc);
     put_number(&mut text, b"line ", fault.line as u64)?;
     put_number(&mut text, b" fault ", u64::from(fault.code.number()))?;
     text.extend_from_slice(b"\n")?;
-    Ok(refused(text))
+    Ok(refusal(text))
 }
 
 /// `bad line N`: the first line of the events that isn't one.
-fn bad_line(alloc: Global, line: usize) -> Result<Outcome, AllocError> {
+fn bad_line(alloc: Global, line: usize) -> Result<Outcome, AllocError>
+    ensures { IfOk result (λ walk. walk.refused ≡ true) }
+{
     let mut text = Vec::new(alloc);
     put_number(&mut text, b"bad line ", line as u64)?;
     text.extend_from_slice(b"\n")?;
-    Ok(refused(text))
+    Ok(refusal(text))
 }
 
 /// `unbound NAME`: the first name of a table that isn't in the book.
-fn unbound_line(alloc: Global, name: &[u8]) -> Result<Outcome, AllocError> {
+fn unbound_line(alloc: Global, name: &[u8]) -> Result<Outcome, AllocError>
+    ensures { IfOk result (λ walk. walk.refused ≡ true) }
+{
     let mut text = Vec::new(alloc);
     text.extend_from_slice(b"unbound ")?;
     text.extend_from_slice(name)?;
     text.extend_from_slice(b"\n")?;
-    Ok(refused(text))
+    Ok(refusal(text))
 }
 
 /// The walk of a bound table over the events of a text.
@@ -162,17 +172,14 @@ fn walk_bound(
     put_steps(&mut text, bound.table(), book, &events, &steps)?;
     Ok(Outcome {
         text,
-        status: Status::Done,
+        refused: false,
     })
 }
 
 /// The text of a walk, or of what was refused.
-fn text_of(
-    alloc: Global,
-    table: &[u8],
-    book: &LawBook,
-    events: &str,
-) -> Result<Outcome, AllocError> {
+fn text_of(alloc: Global, table: &[u8], book: &LawBook, events: &str) -> Result<Outcome, AllocError>
+    ensures { IfOk result (λ walk. walk.refused ≡ false → CanWalk table.now book.now) }
+{
     let table = match parse(alloc, table) {
         Ok(table) => table,
         Err(ParseError::NoMemory) => return Err(AllocError),
@@ -182,6 +189,17 @@ fn text_of(
         Ok(bound) => walk_bound(alloc, &bound, book, events),
         Err(Unbound::NoMemory) => Err(AllocError),
         Err(Unbound::Missing(name)) => unbound_line(alloc, name.as_slice()),
+    }
+}
+
+/// The status of a walk.
+fn walk_status(refused: bool) -> Status
+    ensures { result ≡ (if refused then Status.Refused else Status.Done) }
+{
+    if refused {
+        Status::Refused
+    } else {
+        Status::Done
     }
 }
 
@@ -200,9 +218,17 @@ pub fn walk_on<O: ByteSink>(
 ) -> Status
     requires idle { O.idle sink.old ≡ 0 }
     requires failures { O.failures sink.old < 2 ^ 64 - 1 }
+
+    // It is done only where the table's text has no fault and the book lacks none of its names.
+    ensures done { result ≡ Status.Done → CanWalk table.now book.now }
+    ensures words { result ≢ Status.Usage }
+
+    // A fault comes only where the sink failed, or took nothing in as many writes in a row as the bound says.
+    ensures cause { result ≡ Status.Fault → HasWriteCause O.failures O.idle sink.old sink.new }
+    ensures row { O.most_idle sink.new ≤ max (O.most_idle sink.old) MAX_IDLE_WRITES }
 {
     match text_of(alloc, table, book, events) {
-        Ok(walk) => tell(sink, &walk.text, walk.status),
+        Ok(walk) => tell(sink, &walk.text, walk_status(walk.refused)),
         Err(AllocError) => tell(sink, b"no memory\n", Status::NoMemory),
     }
 }
