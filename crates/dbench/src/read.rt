@@ -1,5 +1,5 @@
 //! `read`: messages from hexadecimal digits, printed as they come.
-ghost use Rattle.std.specs.Prelude.{◌≡◌, ◌≢◌, ◌⊎◌, ◌<◌, ◌≤◌, ◌+◌, ◌-◌, ◌^◌, ℕ, List, IsSome, max, length, IfOk, OnOk, OnErr, OnSome};
+ghost use Rattle.std.specs.Prelude.{◌≡◌, ◌≢◌, ◌⊎◌, ◌↔◌, ◌<◌, ◌≤◌, ◌+◌, ◌-◌, ◌^◌, ℕ, List, IsSome, max, length, IfOk, OnOk, OnErr, OnSome};
 ghost use Rattle.std.specs.Option.{ForSome};
 ghost use Rattle.std.specs.Io.KnownBytes.{IsAtEnd};
 ghost use Rattle.dbench.specs.Digits.{HasBadCharacter, Means};
@@ -157,7 +157,7 @@ impl Reading {
     // Ends with the input: a digit that is left over is bad, and octets that are left over are a message.
     fn end(&mut self) -> End
         ensures last { IsLast result }
-        ensures odd { IsSome self.old.half → result ≡ End.Refused Refusal.BadHex }
+        ensures odd { IsSome self.old.half ↔ (result ≡ End.Refused Refusal.BadHex) }
     {
         match self.finish() {
             Ok(()) => End::Whole,
@@ -166,7 +166,7 @@ impl Reading {
     }
 
     fn finish(&mut self) -> Result<(), Refusal>
-        ensures { IsSome self.old.half → result ≡ Err Refusal.BadHex }
+        ensures { IsSome self.old.half ↔ (result ≡ Err Refusal.BadHex) }
     {
         if self.half.is_some() {
             return Err(Refusal::BadHex);
@@ -191,6 +191,7 @@ fn pour<I: ByteSource, O: ByteSink>(
     requires idle { O.idle sink.old ≡ 0 }
     requires write_failures { O.failures sink.old < 2 ^ 64 - 1 }
     ensures end { IfOk result (EndsBy I.remaining I.reads I.failures source.old source.new) }
+    ensures some { OnOk result (I.reads source.old < I.reads source.new) }
     ensures sound { OnOk result ((O.failures sink.new ≡ O.failures sink.old) × (O.idle sink.new ≡ 0)) }
     ensures cause { OnErr result (HasWriteCause O.failures O.idle sink.old sink.new
         × (I.failures source.new ≡ I.failures source.old)) }
@@ -240,8 +241,9 @@ pub fn read_on<I: ByteSource, O: ByteSink>(alloc: Global, source: &mut I, sink: 
     // A fault comes only where a device failed or a bound was met, and a device's failure is told.
     ensures run { IsRun I.reads I.failures O.failures O.idle source.old source.new sink.old sink.new result }
 
-    // It is done only where nothing is left to read.
+    // It is done only where nothing is left to read, and refused only where something was read.
     ensures whole { result ≡ Status.Done → IsAtEnd (I.remaining source.new) }
+    ensures refused { result ≡ Status.Refused → I.reads source.old < I.reads source.new }
     ensures words { result ≢ Status.Usage }
 {
     let (Ok(mut reading), Ok(mut text)) = (Reading::new(alloc), vec![in alloc; 0u8; TEXT]) else {

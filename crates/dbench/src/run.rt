@@ -34,8 +34,9 @@ fn read_file<I: FileSource, O: ByteSink>(
     // A fault comes only where a device failed or a bound was met, and a device's failure is told.
     ensures run { IsRun I.reads I.failures O.failures O.idle source.old source.new sink.old sink.new result }
 
-    // It is done only where nothing is left to read.
+    // It is done only where nothing is left to read, and refused only where something was read.
     ensures whole { result ≡ Status.Done → IsAtEnd (I.remaining source.new) }
+    ensures refused { result ≡ Status.Refused → I.reads source.old < I.reads source.new }
     ensures words { result ≢ Status.Usage }
 {
     if source.open(name).is_ok() {
@@ -71,10 +72,11 @@ pub fn main_on<S: AsStr, I: FileSource, O: ByteSink>(
     ensures usage { result ≡ Status.Usage → AreRefused (map S.text words.now) × (source.new ≡ source.old) }
 
     // It is done only where they ask for a text, or are a command and nothing is left to read; input is
-    // refused only where they are a command.
+    // refused only where they are a command and something was read.
     ensures done { result ≡ Status.Done → AskForText (map S.text words.now)
         ⊎ ((word_faults (map S.text words.now) ≡ []) × IsAtEnd (I.remaining source.new)) }
-    ensures refused { result ≡ Status.Refused → word_faults (map S.text words.now) ≡ [] }
+    ensures refused { result ≡ Status.Refused → (word_faults (map S.text words.now) ≡ [])
+        × (I.reads source.old < I.reads source.new) }
 {
     match parse_words(alloc, words) {
         Ok(Asked::Read(None)) => read_on(alloc, source, sink),
