@@ -1,5 +1,5 @@
 -- What stands at the front of octets, and that nothing else does.
-use Rattle.std.proofs.Common.{◌≡◌, ℕ, ◌<◌, List, length, Result, Ok, Err, sym, ◌∙◌, arith}
+use Rattle.std.proofs.Common.{◌≡◌, ℕ, ◌<◌, List, [], ◌∷◌, length, Result, Ok, Err, sym, ◌∙◌, arith}
 use Rattle.std.specs.Prelude.{IfOk, IfErr}
 use Rattle.std.specs.Borrow.{Bor}
 use Rattle.dia_avp.specs.declared.fault.FaultCode.{FaultCode}
@@ -7,10 +7,11 @@ use Rattle.dia_avp.specs.declared.avp.Avp.{Avp}
 use Rattle.dia_avp.specs.declared.avp.AvpView.{AvpView}
 use Rattle.dia_avp.specs.View.{seen, front}
 use Rattle.dia_avp.specs.Avps.{AvpThen, Broken, IsFront, IsOnlyFront}
-use Rattle.dia_avp.specs.Reading.{avp_at}
+use Rattle.dia_avp.specs.Reading.{avp_at, avps_in}
 use Rattle.dia_avp.proofs.Bytes.{IsBytes}
 use Rattle.dia_avp.proofs.OneLaws.{avp_takes, avp_again}
 use Rattle.dia_avp.proofs.ListLaws.{shorter, broken_takes, broken_again}
+use Rattle.dia_avp.proofs.PartLaws.{avps_in-read, avps_in-refused}
 
 abbrev pub Front : Type 0
 Front = Result (AvpView × Bor (List ℕ)) FaultCode
@@ -33,3 +34,12 @@ read_again octets (Err code) w = broken_again octets code w
 
 pub only_front : (octets : List ℕ) (r : Front) → front r ≡ avp_at octets → IsOnlyFront octets (front r)
 only_front octets r e other h = sym (e ∙ read_again octets other h)
+
+-- the AVPs of octets are the one at the front and those of the rest
+pub front_parts : (octets : List ℕ) (r : Front) → front r ≡ avp_at octets → IfOk r (λ x. avps_in octets ≡ (seen x.0 ∷ (avps_in x.1.now).0, (avps_in x.1.now).1))
+front_parts octets (Ok x) e = avps_in-read octets (seen x.0) x.1.now (sym e)
+front_parts octets (Err code) e = tt
+
+pub front_left : (octets : List ℕ) (r : Front) → front r ≡ avp_at octets → IfErr r (λ _. avps_in octets ≡ ([], octets))
+front_left octets (Ok x) e = tt
+front_left octets (Err code) e = avps_in-refused octets code (sym e)

@@ -1,7 +1,10 @@
 pub mod Bytes
 pub mod OneLaws
 pub mod ListLaws
+pub mod PartLaws
 pub mod FrontLaws
+pub mod GroupLaws
+pub mod FieldLaws
 pub mod ReadLaws
 pub mod Spelled
 pub mod StandardFacts

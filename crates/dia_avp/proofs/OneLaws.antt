@@ -68,7 +68,7 @@ vendor_takes true octets fits l =
     (big_number 4 (drop 8 octets), big_number_4-lt (drop 8 octets) (IsBytes-drop 8 octets fits), sym (big_bytes_4 (drop 8 octets) (omega (arith, length-drop 8 octets)) (IsBytes-drop 8 octets fits)), refl)
 vendor_takes false octets fits l = (refl, refl)
 
-at_least_8 : (b : Bool) → 8 ≤ cond b 12 8
+pub at_least_8 : (b : Bool) → 8 ≤ cond b 12 8
 at_least_8 true = omega arith
 at_least_8 false = omega arith
 
@@ -97,7 +97,7 @@ padding_len octets len p a b =
     let l : length (slice_range octets len p) ≡ min (p - len) (length octets - len) = length-take (p - len) (drop len octets) ∙ rw (length-drop len octets) refl in
     (omega arith, λ more. elim (cases_lt p (length octets)) [ inl lt ↦ omega arith | inr le ↦ absurd (more (drop_all p octets le)) ])
 
-le_padded : (n : ℕ) → n ≤ padded n
+pub le_padded : (n : ℕ) → n ≤ padded n
 le_padded n = omega arith
 
 takes : (octets : List ℕ) → IsBytes octets → header_len octets ≤ length octets → header_len octets ≤ length_field octets → length_field octets ≤ length octets → AvpThen octets (item_at octets) (drop (padded (length_field octets)) octets)

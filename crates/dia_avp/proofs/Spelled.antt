@@ -1,12 +1,12 @@
 -- The spelling of AVPs: its length, and that it means these AVPs.
-use Rattle.std.proofs.Common.{◌≡◌, ℕ, zero, suc, ◌+◌, ◌-◌, ◌<◌, ◌≤◌, ◌^◌, Bool, true, false, List, [], ◌∷◌, ◌++◌, length, take, replicate, get_or, Option, Some, None, All, refl, sym, ap, subst, ◌∙◌, arith, append_assoc}
+use Rattle.std.proofs.Common.{◌≡◌, ℕ, zero, suc, ◌+◌, ◌*◌, ◌/◌, ◌-◌, ◌<◌, ◌≤◌, ◌^◌, Bool, true, false, List, [], ◌∷◌, ◌++◌, length, take, replicate, get_or, Option, Some, None, All, refl, sym, ap, subst, ◌∙◌, arith, append_assoc}
 use Rattle.std.specs.Prelude.{IfSome}
 use Rattle.std.proofs.lemmas.List.{length-replicate, length-append, take_more, append-nil}
 use Rattle.std.proofs.lemmas.List.Concat.{flat_map-append}
 use Rattle.std.proofs.lemmas.List.Folds.{length-flat_map-take}
-use Rattle.std.proofs.lemmas.List.Elements.{All-head, All-tail}
+use Rattle.std.proofs.lemmas.List.Elements.{All-nil, All-cons, All-head, All-tail}
 use Rattle.dia_avp.specs.declared.avp.Avp.{Avp}
-use Rattle.dia_avp.specs.Spelling.{padded, vendor_id, has_vendor, flags_of, length_of, header, spelled, spelling}
+use Rattle.dia_avp.specs.Spelling.{padded, vendor_id, has_vendor, flags_of, length_of, header, spelled, spelling, group_avp}
 use Rattle.dia_avp.specs.Avps.{has_flag, IsVendor, AvpThen, Avps}
 use Rattle.dia_avp.specs.Writing.{HasNumbers, NoZeroVendor}
 
@@ -85,3 +85,33 @@ Avps-spelling (a ∷ list) n short some = (
   AvpThen-spelled a (spelling list) (All-head HasNumbers a list n) (All-head (λ b. length_of b < 2 ^ 24) a list short) (All-head (λ b. b.vendor ≡ Some 0 → ⊥) a list some),
   Avps-spelling list (All-tail HasNumbers a list n) (All-tail (λ b. length_of b < 2 ^ 24) a list short) (All-tail (λ b. b.vendor ≡ Some 0 → ⊥) a list some),
 )
+
+-- a spelling's octets are fours
+spelling-fours : (list : List Avp) → (k : ℕ) × (length (spelling list) ≡ k * 4)
+spelling-fours [] = (0, refl)
+spelling-fours (a ∷ list) =
+    let more = spelling-fours list in
+    ((length_of a + 3) / 4 + more.0, omega (arith, length_spelled a, more.1, length-append (spelled a) (spelling list)))
+
+-- a group's AVP Length counts its header and its AVPs with their padding
+pub length_of_group : (code : ℕ) (m p : Bool) (list : List Avp) → length_of (group_avp code m p list) ≡ 8 + length (spelling list)
+unfolding length_of
+length_of_group code m p list = omega arith
+
+-- a group needs no padding
+pub spelled_group : (code : ℕ) (m p : Bool) (list : List Avp) → spelled (group_avp code m p list) ≡ header code (flags_of false m p) (8 + length (spelling list)) ++ spelling list
+unfolding spelled length_of
+spelled_group code m p list =
+    let fours = spelling-fours list in
+    let none : padded (8 + length (spelling list)) - (8 + length (spelling list)) ≡ 0 = omega (arith, fours.1) in
+    rw none (append-nil (header code (flags_of false m p) (8 + length (spelling list)) ++ spelling list))
+
+pub length_spelled_group : (code : ℕ) (m p : Bool) (list : List Avp) → length (spelled (group_avp code m p list)) ≡ 8 + length (spelling list)
+length_spelled_group code m p list = omega (arith, ap length (spelled_group code m p list), length-append (header code (flags_of false m p) (8 + length (spelling list))) (spelling list))
+
+-- the AVPs of a short group are short
+pub short_inner : (list : List Avp) (n : ℕ) → length (spelling list) < n → All (λ a. length_of a < n) list
+short_inner [] n lt = All-nil (λ a. length_of a < n)
+short_inner (a ∷ list) n lt =
+    All-cons (λ b. length_of b < n) a list (omega (arith, length_spelled a, length-append (spelled a) (spelling list)))
+    (short_inner list n (omega (arith, length-append (spelled a) (spelling list))))

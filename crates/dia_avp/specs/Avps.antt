@@ -66,6 +66,10 @@ Broken octets PastEnd = (header_len octets ≤ length octets) × (header_len oct
 Broken octets TooMany = ⊥
 Broken octets TooDeep = ⊥
 
+-- nothing is left, or what is left begins with a broken AVP
+abbrev pub IsLeftOver : List ℕ → Type 0
+IsLeftOver left = (left ≡ []) ⊎ ((code : FaultCode) × Broken left code)
+
 -- what stands at the front: an AVP and then the rest, or a fault
 abbrev pub IsFront : List ℕ → Result (Avp × List ℕ) FaultCode → Type 0
 IsFront octets (Ok x) = AvpThen octets x.0 x.1

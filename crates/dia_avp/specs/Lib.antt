@@ -5,3 +5,4 @@ pub mod View
 pub mod Reading
 pub mod Writing
 pub mod Field
+pub mod Group

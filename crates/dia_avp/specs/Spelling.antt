@@ -42,6 +42,10 @@ spelled a =
 abbrev pub spelling : List Avp → List ℕ
 spelling list = flat_map spelled list
 
+-- the AVP without vendor whose data are these AVPs (RFC 6733 section 4.4)
+abbrev pub group_avp : ℕ → Bool → Bool → List Avp → Avp
+group_avp code mandatory protected list = record { code = code; vendor = None; mandatory = mandatory; protected = protected; octets = spelling list }
+
 -- some AVP is too long for 24 bits of length
 abbrev pub HasLong : List Avp → Type 0
 HasLong list = Any (λ a. 2 ^ 24 ≤ length_of a) list

@@ -4,6 +4,7 @@ ghost use Rattle.std.specs.Prelude.{◌≡◌};
 ghost use Rattle.dia_avp.specs.Fault.{number_of};
 ghost use Rattle.dia_avp.specs.declared.fault.ReadError.TheVariants as read_errors;
 ghost use Rattle.dia_avp.specs.declared.fault.WriteError.TheVariants as write_errors;
+ghost use Rattle.dia_avp.specs.declared.fault.GroupError.TheVariants as group_errors;
 
 use std::alloc::AllocError;
 use thiserror::Error;
@@ -94,4 +95,29 @@ pub enum FieldFault {
     BadValue,
     #[error("data of a size that its type does not have")]
     BadLength,
+}
+
+/// Why the data of a Grouped AVP was not read as AVPs (RFC 6733 section 4.4).
+#[derive(Clone, Copy, Debug, PartialEq, Eq, Error)]
+pub enum GroupError {
+    #[error("out of memory")]
+    NoMemory,
+    #[error("faulty group")]
+    Fault(FieldFault),
+}
+
+impl From<AllocError> for GroupError {
+    ghost from_gives = { λ _ e. e ≡ group_errors.NoMemory };
+
+    fn from(_e: AllocError) -> GroupError {
+        GroupError::NoMemory
+    }
+}
+
+impl From<FieldFault> for GroupError {
+    ghost from_gives = { λ f e. e ≡ group_errors.Fault f };
+
+    fn from(fault: FieldFault) -> GroupError {
+        GroupError::Fault(fault)
+    }
 }

@@ -1,9 +1,9 @@
 //! The AVP at the front of octets.
 
-ghost use Rattle.std.specs.Prelude.{◌≡◌, ◌≤◌, ◌<◌, length, IfOk, IfErr};
+ghost use Rattle.std.specs.Prelude.{◌≡◌, ◌≤◌, ◌<◌, [], ◌∷◌, length, IfOk, IfErr};
 ghost use Rattle.dia_avp.specs.View.{seen, front};
 ghost use Rattle.dia_avp.specs.Avps.{header_len, AvpThen, Broken, IsOnlyFront};
-ghost use Rattle.dia_avp.specs.Reading.{avp_at, vendor_at};
+ghost use Rattle.dia_avp.specs.Reading.{avp_at, avps_in, vendor_at};
 
 use crate::avp::AvpView;
 use crate::fault::FaultCode;
@@ -70,6 +70,10 @@ pub fn first_avp(octets: &[u8]) -> Result<(AvpView<'_>, &[u8]), FaultCode>
     ensures avp { IfOk result (λ x. AvpThen octets.now (seen x.0) x.1.now) }
     ensures shorter { IfOk result (λ x. length x.1.now < length octets.now) }
     ensures broken { IfErr result (Broken octets.now) }
+
+    // The AVPs of the octets are this one and those of the rest; where there is none, all octets are left.
+    ensures parts { IfOk result (λ x. avps_in octets.now ≡ (seen x.0 ∷ (avps_in x.1.now).0, (avps_in x.1.now).1)) }
+    ensures left { IfErr result (λ _. avps_in octets.now ≡ ([], octets.now)) }
 
     // No other AVP, no other rest and no other fault is at the front.
     ensures only { IsOnlyFront octets.now (front result) }

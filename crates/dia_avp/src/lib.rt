@@ -1,24 +1,28 @@
 //! Attribute-value pairs of Diameter (RFC 6733 section 4): octets to AVPs, and AVPs to octets.
 #![tactic(auto)]
 
+mod address;
 mod avp;
 mod avp_list;
 mod fault;
 mod field;
 mod first;
+mod group;
 mod length;
 mod octets;
 mod reading;
 mod writing;
 
+pub use address::{Address, address_of};
 pub use avp::{Avp, AvpView};
 pub use avp_list::AvpList;
-pub use fault::{AvpFault, FaultCode, FieldFault, ReadError, WriteError};
-pub use field::{identity_of, u32_of};
+pub use fault::{AvpFault, FaultCode, FieldFault, GroupError, ReadError, WriteError};
+pub use field::{identity_of, text_of, u32_of, u64_of};
 pub use first::first_avp;
+pub use group::group_of;
 pub use octets::Octets;
 pub use reading::{MAX_AVPS, MAX_DEPTH, read_avps};
-pub use writing::{write_avp, write_avps};
+pub use writing::{put_avp, put_avps, put_group, write_avp, write_avps};
 
 #[cfg(test)]
 mod tests;

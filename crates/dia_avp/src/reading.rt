@@ -17,7 +17,7 @@ pub const MAX_AVPS: usize = 128;
 pub const MAX_DEPTH: u8 = 4;
 
 /// How many AVPs the octets spell, or the first fault.
-fn count_of(octets: &[u8], depth: u8) -> Result<usize, AvpFault>
+pub(crate) fn count_of(octets: &[u8], depth: u8) -> Result<usize, AvpFault>
     ensures whole { IfOk result (λ n. (list : List AvpValue) × (length list ≡ n) × IsReading octets.now depth (Ok list)) }
     ensures fault { IfErr result (IsFault octets.now depth) }
 {
@@ -49,7 +49,7 @@ fn count_of(octets: &[u8], depth: u8) -> Result<usize, AvpFault>
 }
 
 /// The AVPs of octets that have no fault; `count` is how many there are.
-fn list_of(alloc: Global, octets: &[u8], count: usize) -> Result<AvpList, AllocError>
+pub(crate) fn list_of(alloc: Global, octets: &[u8], count: usize) -> Result<AvpList, AllocError>
     requires { (list : List AvpValue) × Avps octets.now list }
     ensures { IfOk result (Avps octets.now) }
 {

@@ -186,6 +186,147 @@ fn fields_have_the_size_and_the_octets_of_their_type(rt: HostRuntime) -> Result<
 }
 
 #[test]
+fn an_unsigned64_has_8_octets(rt: HostRuntime) -> Result<(), Fail> {
+    for (data, number) in [
+        (
+            [1, 0x23, 0x45, 0x67, 0x89, 0xab, 0xcd, 0xef].as_slice(),
+            Ok(0x0123_4567_89ab_cdef),
+        ),
+        ([255; 8].as_slice(), Ok(0xffff_ffff_ffff_ffff)),
+        ([0; 7].as_slice(), Err(FieldFault::BadLength)),
+        ([0; 9].as_slice(), Err(FieldFault::BadLength)),
+        ([0; 4].as_slice(), Err(FieldFault::BadLength)),
+    ] {
+        let avp = avp_of(rt.alloc(), data)?;
+        assert_eq!(rt; u64_of(&avp), number);
+        assert_eq!(rt; avp.view().as_u64(), number);
+    }
+    Ok(())
+}
+
+#[test]
+fn text_is_utf8(rt: HostRuntime) -> Result<(), Fail> {
+    for (data, text) in [
+        (b"".as_slice(), ""),
+        ([0x7f].as_slice(), "\u{7f}"),
+        ([0xc2, 0x80].as_slice(), "\u{80}"),
+        ([0xed, 0x9f, 0xbf].as_slice(), "\u{d7ff}"),
+        ([0xee, 0x80, 0x80].as_slice(), "\u{e000}"),
+        ([0xf0, 0x90, 0x80, 0x80].as_slice(), "\u{10000}"),
+        ([0x61, 0xf4, 0x8f, 0xbf, 0xbf].as_slice(), "a\u{10ffff}"),
+    ] {
+        let avp = avp_of(rt.alloc(), data)?;
+        assert_eq!(rt; text_of(&avp), Ok(text));
+        assert_eq!(rt; avp.view().as_text(), Ok(text));
+    }
+    Ok(())
+}
+
+#[test]
+fn octets_that_are_no_utf8_are_no_text(rt: HostRuntime) -> Result<(), Fail> {
+    for (fault, data) in [
+        ("a lone continuation", [0x61, 0x80].as_slice()),
+        ("overlong in 2 octets", [0xc1, 0xbf].as_slice()),
+        ("overlong in 3 octets", [0xe0, 0x9f, 0xbf].as_slice()),
+        ("overlong in 4 octets", [0xf0, 0x8f, 0xbf, 0xbf].as_slice()),
+        ("the first surrogate", [0xed, 0xa0, 0x80].as_slice()),
+        ("the last surrogate", [0xed, 0xbf, 0xbf].as_slice()),
+        ("cut after 1 of 2 octets", [0xc3].as_slice()),
+        ("cut after 2 of 3 octets", [0xe2, 0x82].as_slice()),
+        ("cut after 3 of 4 octets", [0xf0, 0x9f, 0x98].as_slice()),
+        ("cut by a letter", [0xe2, 0x82, 0x61].as_slice()),
+        ("over 10ffff", [0xf4, 0x90, 0x80, 0x80].as_slice()),
+        ("no first octet", [0xff].as_slice()),
+    ] {
+        let avp = avp_of(rt.alloc(), data)?;
+        assert_eq!(rt; text_of(&avp), Err(FieldFault::BadValue), "{fault}");
+    }
+    Ok(())
+}
+
+#[test]
+fn an_address_has_a_family_and_its_size(rt: HostRuntime) -> Result<(), Fail> {
+    let six = [
+        0, 2, 0x20, 1, 0xd, 0xb8, 0, 0, 0, 0, 0, 0, 0, 0, 0, 0, 0, 7u8,
+    ];
+    let sixteen = [0x20, 1, 0xd, 0xb8, 0, 0, 0, 0, 0, 0, 0, 0, 0, 0, 0, 7];
+    for (data, address) in [
+        (
+            [0, 1, 192, 0, 2, 9].as_slice(),
+            Ok(Address::V4([192, 0, 2, 9])),
+        ),
+        (six.as_slice(), Ok(Address::V6(sixteen))),
+        (
+            [0, 8, 0x34, 0x91].as_slice(),
+            Ok(Address::Other {
+                family: 8,
+                octets: [0x34, 0x91].as_slice(),
+            }),
+        ),
+        (
+            [1, 1].as_slice(),
+            Ok(Address::Other {
+                family: 257,
+                octets: [].as_slice(),
+            }),
+        ),
+        ([].as_slice(), Err(FieldFault::BadLength)),
+        ([0].as_slice(), Err(FieldFault::BadLength)),
+        ([0, 1].as_slice(), Err(FieldFault::BadLength)),
+        ([0, 1, 192, 0, 2].as_slice(), Err(FieldFault::BadLength)),
+        (
+            [0, 1, 192, 0, 2, 9, 0].as_slice(),
+            Err(FieldFault::BadLength),
+        ),
+        ([0, 2, 192, 0, 2, 9].as_slice(), Err(FieldFault::BadLength)),
+        (&six[..17], Err(FieldFault::BadLength)),
+    ] {
+        let avp = avp_of(rt.alloc(), data)?;
+        assert_eq!(rt; address_of(&avp), address);
+        assert_eq!(rt; avp.view().as_address(), address);
+    }
+    Ok(())
+}
+
+/// How many AVPs a group has, or its fault.
+fn group_size(alloc: Global, data: &[u8], depth: u8) -> Result<usize, GroupError> {
+    Ok(group_of(alloc, &avp_of(alloc, data)?, depth)?.len())
+}
+
+#[test]
+fn a_group_is_avps_at_most_128_within_at_most_4_levels(rt: HostRuntime) -> Result<(), Fail> {
+    let alloc = rt.alloc();
+    let full = empty_avps(alloc, 128)?;
+    let over = empty_avps(alloc, 129)?;
+    let mut behind = empty_avps(alloc, 128)?;
+    behind.push(0)?;
+    for (data, depth, size) in [
+        (TWO.as_slice(), 1, Ok(2)),
+        (&TWO[..35], 4, Ok(2)),
+        ([].as_slice(), 4, Ok(0)),
+        (TWO.as_slice(), 5, Err(FieldFault::BadValue)),
+        (&TWO[..27], 5, Err(FieldFault::BadValue)),
+        (full.as_slice(), 1, Ok(128)),
+        (over.as_slice(), 1, Err(FieldFault::BadValue)),
+        (behind.as_slice(), 1, Err(FieldFault::BadValue)),
+        (&TWO[..34], 1, Err(FieldFault::BadLength)),
+        (&TWO[..27], 1, Err(FieldFault::BadLength)),
+        (
+            [0, 0, 0, 1, 0, 0, 0, 7].as_slice(),
+            1,
+            Err(FieldFault::BadLength),
+        ),
+    ] {
+        assert_eq!(rt;
+            group_size(alloc, data, depth),
+            size.map_err(GroupError::Fault)
+        );
+        assert_eq!(rt; view_of(data).as_group(depth), size.map(|_| data));
+    }
+    Ok(())
+}
+
+#[test]
 fn the_longest_avp_has_24_bits_of_length(rt: HostRuntime) -> Result<(), Fail> {
     let alloc = rt.alloc();
     let mut data = Vec::new(alloc);
@@ -226,5 +367,28 @@ fn what_takes_memory_answers_where_there_is_memory(rt: HostRuntime) -> Result<()
     let mut out = Vec::new(alloc);
     write_avps(&list, &mut out)?;
     assert_eq!(rt; out.as_slice(), &TWO[..20]);
+    Ok(())
+}
+
+#[test]
+#[tactic(auto, using(crate::proofs::Spelled::length_spelled, crate::proofs::Spelled::length_of_group, crate::proofs::Spelled::length_spelled_group, crate::proofs::Spelled::short_inner))]
+fn avps_and_groups_are_put_where_there_is_room(rt: HostRuntime) -> Result<(), Fail> {
+    let list = read_avps(rt.alloc(), &TWO, 1)?;
+    let len = list.spelled_len().ok_or("too long")?;
+    assert!(rt; len == 36);
+    let view = view_of(b"a.example");
+    let one = view.spelled_len();
+    assert!(rt; one == 20);
+    let mut out = Vec::new(rt.alloc());
+    out.push(9)?;
+    out.reserve(len + len + 8 + one)?;
+    put_avps(list.as_slice(), &mut out);
+    put_group(443, true, false, &list, &mut out);
+    put_avp(&view, &mut out);
+    assert_eq!(rt; out.len(), 1 + 36 + 44 + 20);
+    assert_eq!(rt; &out[1..37], TWO.as_slice());
+    assert_eq!(rt; &out[37..45], [0, 0, 1, 0xbb, 0x40, 0, 0, 44].as_slice());
+    assert_eq!(rt; &out[45..81], TWO.as_slice());
+    assert_eq!(rt; &out[81..], &TWO[..20]);
     Ok(())
 }

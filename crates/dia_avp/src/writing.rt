@@ -2,7 +2,7 @@
 
 ghost use Rattle.std.specs.Prelude.{◌≡◌, ◌+◌, ◌<◌, ◌≤◌, ◌^◌, ◌↔◌, ◌++◌, length, replicate, All, OnOk, OnErr, IsErrOf, IfSome, vec_len, vec_capacity};
 ghost use Rattle.dia_avp.specs.View.{seen};
-ghost use Rattle.dia_avp.specs.Spelling.{length_of, spelled, spelling, header, flags_of, has_vendor, vendor_id, HasLong};
+ghost use Rattle.dia_avp.specs.Spelling.{length_of, spelled, spelling, header, flags_of, has_vendor, vendor_id, group_avp, HasLong};
 ghost use Rattle.dia_avp.specs.Writing.{HasNumbers, MeansAvp, MeansAvps, IsReadBack};
 
 use crate::avp::{Avp, AvpView};
@@ -11,15 +11,15 @@ use crate::fault::WriteError;
 use crate::length::{has_long, is_long, length_of, spelled_len_of};
 use byteorder::{BigEndian, ByteOrder};
 
-fn flags_of(avp: &AvpView<'_>) -> u8
-    ensures { result ≡ flags_of (has_vendor avp.now.vendor) avp.now.mandatory avp.now.protected }
+fn flags_of(vendor: Option<u32>, mandatory: bool, protected: bool) -> u8
+    ensures { result ≡ flags_of (has_vendor vendor) mandatory protected }
 {
-    let vendor = match avp.vendor {
+    let vendor = match vendor {
         None | Some(0) => 0,
         Some(_) => 0x80,
     };
-    let mandatory = if avp.mandatory { 0x40 } else { 0 };
-    let protected = if avp.protected { 0x20 } else { 0 };
+    let mandatory = if mandatory { 0x40 } else { 0 };
+    let protected = if protected { 0x20 } else { 0 };
     vendor + mandatory + protected
 }
 
@@ -69,15 +69,17 @@ fn put_padding(out: &mut Vec<u8>, count: usize)
     put(out, &[0; 3][..count]);
 }
 
+/// Appends the one spelling of an AVP (RFC 6733 section 4.1) to octets that have room for it. Takes no memory.
 #[tactic(auto, unfolding(crate::specs::Spelling::spelled))]
-fn put_avp(out: &mut Vec<u8>, avp: &AvpView<'_>)
+pub fn put_avp(avp: &AvpView<'_>, out: &mut Vec<u8>)
     requires short { length_of (seen avp.now) < 2 ^ 24 }
     requires room { vec_len out.old + length (spelled (seen avp.now)) ≤ vec_capacity out.old }
     ensures items { out.new.items ≡ out.old.items ++ spelled (seen avp.now) }
+    ensures len { vec_len out.new ≡ vec_len out.old + length (spelled (seen avp.now)) }
     ensures room { vec_capacity out.old ≤ vec_capacity out.new }
     ensures numbers { HasNumbers (seen avp.now) }
 {
-    let flags = flags_of(avp);
+    let flags = flags_of(avp.vendor, avp.mandatory, avp.protected);
     let len = length_of(avp);
     put(out, &header_of(avp.code, flags, len as u32));
     put_vendor(out, avp.vendor);
@@ -85,15 +87,36 @@ fn put_avp(out: &mut Vec<u8>, avp: &AvpView<'_>)
     put_padding(out, len.div_ceil(4) * 4 - len);
 }
 
-fn put_avps(out: &mut Vec<u8>, avps: &[Avp])
+/// Appends the one spelling of the AVPs, the last padding too, to octets that have room for it. Takes no memory.
+pub fn put_avps(avps: &[Avp], out: &mut Vec<u8>)
     requires short { All (λ a. length_of a < 2 ^ 24) avps.now }
     requires room { vec_len out.old + length (spelling avps.now) ≤ vec_capacity out.old }
     ensures items { out.new.items ≡ out.old.items ++ spelling avps.now }
+    ensures len { vec_len out.new ≡ vec_len out.old + length (spelling avps.now) }
+    ensures room { vec_capacity out.old ≤ vec_capacity out.new }
     ensures numbers { All HasNumbers avps.now }
 {
     for avp in avps {
-        put_avp(out, &avp.view());
+        put_avp(&avp.view(), out);
     }
+}
+
+/// Appends the one spelling of the AVP without vendor whose data is the AVPs (RFC 6733 section 4.4) to octets that have
+/// room for it. It has 8 octets more than the AVPs. Takes no memory.
+#[tactic(auto, unfolding(crate::specs::Spelling::spelled))]
+pub fn put_group(code: u32, mandatory: bool, protected: bool, list: &AvpList, out: &mut Vec<u8>)
+    requires short { length_of (group_avp code mandatory protected list.now) < 2 ^ 24 }
+    requires room { vec_len out.old + length (spelled (group_avp code mandatory protected list.now)) ≤ vec_capacity out.old }
+    ensures items { out.new.items ≡ out.old.items ++ spelled (group_avp code mandatory protected list.now) }
+    ensures len { vec_len out.new ≡ vec_len out.old + length (spelled (group_avp code mandatory protected list.now)) }
+    ensures room { vec_capacity out.old ≤ vec_capacity out.new }
+    ensures numbers { HasNumbers (group_avp code mandatory protected list.now) }
+    ensures inner { All HasNumbers list.now }
+{
+    let len = 8 + spelled_len_of(list.as_slice()).unwrap();
+    let flags = flags_of(None, mandatory, protected);
+    put(out, &header_of(code, flags, len as u32));
+    put_avps(list.as_slice(), out);
 }
 
 /// Appends the one spelling of an AVP (RFC 6733 section 4.1): reserved flags and padding are zero. `out` grows by its
@@ -112,7 +135,7 @@ pub fn write_avp(avp: &AvpView<'_>, out: &mut Vec<u8>) -> Result<(), WriteError>
         return Err(WriteError::LengthOver24Bits);
     }
     out.reserve(avp.spelled_len())?;
-    put_avp(out, avp);
+    put_avp(avp, out);
     Ok(())
 }
 
@@ -137,6 +160,6 @@ pub fn write_avps(list: &AvpList, out: &mut Vec<u8>) -> Result<(), WriteError>
         return Err(WriteError::NoMemory);
     };
     out.reserve(len)?;
-    put_avps(out, avps);
+    put_avps(avps, out);
     Ok(())
 }
