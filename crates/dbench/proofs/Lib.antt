@@ -4,3 +4,6 @@ pub mod Puts
 pub mod EndLemmas
 pub mod RunLemmas
 pub mod WordLemmas
+pub mod ReadLemmas
+pub mod EventLemmas
+pub mod WalkLemmas

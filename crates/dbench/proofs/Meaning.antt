@@ -1,12 +1,12 @@
 -- What a text of digits means after one more character, and after one more text.
-use Rattle.std.proofs.Common.{◌≡◌, ◌<◌, ℕ, ◌+◌, ◌*◌, ◌/◌, ◌%◌, true, false, List, [], ◌∷◌, ◌++◌, length, take, drop, get_or, drop-cons, add-one, Option, Some, None, refl, sym, ap, ◌∙◌, arith, append_assoc}
+use Rattle.std.proofs.Common.{◌≡◌, ◌<◌, ℕ, ◌+◌, ◌*◌, ◌/◌, ◌%◌, true, List, [], ◌∷◌, ◌++◌, length, take, drop, get_or, drop-cons, add-one, Option, Some, None, refl, sym, ap, ◌∙◌, arith, append_assoc}
 use Rattle.std.specs.Prelude.{option_to_list}
 use Rattle.std.specs.Option.{ForSome}
 use Rattle.std.specs.List.{filter_map, AllPass}
 use Rattle.std.proofs.lemmas.List.{append-nil, take-append-drop, take_more}
 use Rattle.std.proofs.lemmas.List.Elements.{All-append, All-cons, All-nil, filter_map-append}
 use Rattle.hex.specs.Hex.{hex_digit_value}
-use Rattle.dbench.specs.Digits.{HasBadCharacter, is_blank, is_hex_text, halves, Means}
+use Rattle.dbench.specs.Digits.{is_blank, is_hex_text, halves, Means}
 
 -- a digit's value is below 16
 hex_digit_value-small : (c v : ℕ) → hex_digit_value c ≡ Some v → v < 16
@@ -110,25 +110,10 @@ pub Means-step : (before between after : Option ℕ) (text octets more : List �
 Means-step before between after text octets more used below first second =
     rw (take_more text used 0 below) (Means-append before between after (take used text) (get_or text used 0 ∷ []) octets more first second)
 
--- a list is what stands before a place, what stands there, and what comes after
-pub parts_at : (xs : List ℕ) (i : ℕ) → i < length xs → take i xs ++ get_or xs i 0 ∷ drop (i + 1) xs ≡ xs
-parts_at xs i below = rw (add-one, ← drop-cons xs i 0, take-append-drop) refl
-
 -- some text, and then a front of the rest of it
 pub front_more : (used rest : List ℕ) (n : ℕ) → used ++ rest ≡ (used ++ take n rest) ++ drop n rest
 front_more used rest n = rw (append_assoc, take-append-drop) refl
 
--- a character in the rest of a text that is neither digit nor blank
-pub HasBadCharacter-in : (before left after : Option ℕ) (text used rest octets made : List ℕ) (n : ℕ) → text ≡ used ++ rest
-    → Means before used octets left → Means left (take n rest) made after
-    → n < length rest → is_hex_text (get_or rest n 0) ≡ false → HasBadCharacter before text
-HasBadCharacter-in before left after text used rest octets made n split so_far next below bad = record {
-  front = used ++ take n rest;
-  bad = get_or rest n 0;
-  back = drop (n + 1) rest;
-  octets = octets ++ made;
-  left = after;
-  joined = split ∙ (ap (λ xs. used ++ xs) (sym (parts_at rest n below)) ∙ sym (append_assoc used (take n rest) (get_or rest n 0 ∷ drop (n + 1) rest)));
-  meaning = Means-append before left after used (take n rest) octets made so_far next;
-  is_bad = bad;
-}
+-- the rest of a list is what stands at a place, and what comes after
+pub cut_at : (xs : List ℕ) (i : ℕ) → i < length xs → drop i xs ≡ get_or xs i 0 ∷ drop (i + 1) xs
+cut_at xs i below = rw (add-one, ← drop-cons xs i 0) refl

@@ -1,11 +1,11 @@
 -- Why a run is one: by how reading ended, and how the last texts were taken.
 use Rattle.std.proofs.Common.{◌≡◌, ◌≤◌, ℕ, ◌+◌, inl, inr, Bool, true, false, List, Option, sym, ap, ◌∙◌, arith}
 use Rattle.std.specs.Io.KnownBytes.{IsAtEnd}
-use Rattle.dbench.specs.Devices.{Closes, HasReadCause, HasWriteCause, IsRun, Tells}
+use Rattle.dbench.specs.Devices.{HasReadCause, HasWriteCause, IsRun, Tells}
 use Rattle.dbench.specs.Ends.{EndsBy, end_status}
-use Rattle.dbench.specs.declared.read.End.{End}
-use Rattle.dbench.specs.declared.read.End.TheVariants.{Whole, Refused, ReadFailed, TooManyReads}
-use Rattle.dbench.specs.declared.read.Refusal.TheVariants as refusals
+use Rattle.dbench.specs.declared.ends.End.{End}
+use Rattle.dbench.specs.declared.ends.End.TheVariants.{Whole, Refused, ReadFailed, TooManyReads}
+use Rattle.dbench.specs.declared.ends.Refusal.TheVariants as refusals
 use Rattle.dbench.specs.declared.status.Status.{Status}
 use Rattle.dbench.specs.declared.status.Status.TheVariants.{Fault}
 use Rattle.dbench.specs.declared.status.Status.TheVariants as statuses
@@ -71,19 +71,19 @@ read_once remaining reads failures source source' ReadFailed ends = omega arith
 read_once remaining reads failures source source' TooManyReads ends = let same = ends.0 in omega arith
 
 -- a write fault after texts that were taken
-later_cause : {O : Type 0} (failures idle : O → ℕ) (sink between sink' : O) → failures between ≡ failures sink
+pub later_cause : {O : Type 0} (failures idle : O → ℕ) (sink between sink' : O) → failures between ≡ failures sink
     → HasWriteCause failures idle between sink' → HasWriteCause failures idle sink sink'
 later_cause failures idle sink between sink' same (inl failed) = inl (failed ∙ ap (λ n. n + 1) same)
 later_cause failures idle sink between sink' same (inr row) = inr (row.0 ∙ same, row.1)
 
 -- reading ended so, and the last texts were taken or not
-pub IsRun-closed : {I O : Type 0} (remaining : I → Option (List ℕ)) (reads read_failures : I → ℕ) (write_failures idle : O → ℕ) (source source' : I) (sink between sink' : O) (end : End) (refused : Bool) (status : Status)
+pub IsRun-closed : {I O : Type 0} (remaining : I → Option (List ℕ)) (reads read_failures : I → ℕ) (contents : O → Option (List ℕ)) (write_failures idle : O → ℕ) (source source' : I) (sink between sink' : O) (text : List ℕ) (end : End) (refused : Bool) (status : Status)
     → EndsBy remaining reads read_failures source source' end → write_failures between ≡ write_failures sink
-    → Closes write_failures idle between sink' (end_status end refused) status
+    → Tells contents write_failures idle between sink' text (end_status end refused) status
     → IsRun reads read_failures write_failures idle source source' sink sink' status
-IsRun-closed remaining reads read_failures write_failures idle source source' sink between sink' end refused status ends same (inl taken) =
-    taken_after remaining reads read_failures write_failures idle source source' sink sink' end refused status ends (taken.0 ∙ same) taken.1
-IsRun-closed remaining reads read_failures write_failures idle source source' sink between sink' end refused status ends same (inr fault) =
+IsRun-closed remaining reads read_failures contents write_failures idle source source' sink between sink' text end refused status ends same (inl taken) =
+    taken_after remaining reads read_failures write_failures idle source source' sink sink' end refused status ends (taken.0.sound ∙ same) taken.1
+IsRun-closed remaining reads read_failures contents write_failures idle source source' sink between sink' text end refused status ends same (inr fault) =
     IsRun-write reads read_failures write_failures idle source source' sink sink' status
     (read_once remaining reads read_failures source source' end ends) (later_cause write_failures idle sink between sink' same fault.0) fault.1
 
@@ -117,12 +117,12 @@ done_whole remaining reads failures source source' (Refused refusals.NoMemory) r
 done_whole remaining reads failures source source' ReadFailed refused ends is = absurd (cc)
 done_whole remaining reads failures source source' TooManyReads refused ends is = absurd (cc)
 
-pub done-closed : {I O : Type 0} (remaining : I → Option (List ℕ)) (reads read_failures : I → ℕ) (write_failures idle : O → ℕ) (source source' : I) (between sink' : O) (end : End) (refused : Bool) (status : Status)
-    → EndsBy remaining reads read_failures source source' end → Closes write_failures idle between sink' (end_status end refused) status
+pub done-closed : {I O : Type 0} (remaining : I → Option (List ℕ)) (reads read_failures : I → ℕ) (contents : O → Option (List ℕ)) (write_failures idle : O → ℕ) (source source' : I) (between sink' : O) (text : List ℕ) (end : End) (refused : Bool) (status : Status)
+    → EndsBy remaining reads read_failures source source' end → Tells contents write_failures idle between sink' text (end_status end refused) status
     → status ≡ statuses.Done → IsAtEnd (remaining source')
-done-closed remaining reads read_failures write_failures idle source source' between sink' end refused status ends (inl taken) done =
+done-closed remaining reads read_failures contents write_failures idle source source' between sink' text end refused status ends (inl taken) done =
     done_whole remaining reads read_failures source source' end refused ends (sym taken.1 ∙ done)
-done-closed remaining reads read_failures write_failures idle source source' between sink' end refused status ends (inr fault) done = let is = fault.1 in absurd (cc)
+done-closed remaining reads read_failures contents write_failures idle source source' between sink' text end refused status ends (inr fault) done = let is = fault.1 in absurd (cc)
 
 -- the status of an end is never that of words
 not_usage : (end : End) (refused : Bool) → end_status end refused ≡ statuses.Usage → ⊥
@@ -134,7 +134,7 @@ not_usage (Refused refusals.NoMemory) refused is = cc
 not_usage ReadFailed refused is = cc
 not_usage TooManyReads refused is = cc
 
-pub usage-closed : {O : Type 0} (write_failures idle : O → ℕ) (between sink' : O) (end : End) (refused : Bool) (status : Status)
-    → Closes write_failures idle between sink' (end_status end refused) status → status ≡ statuses.Usage → ⊥
-usage-closed write_failures idle between sink' end refused status (inl taken) usage = not_usage end refused (sym taken.1 ∙ usage)
-usage-closed write_failures idle between sink' end refused status (inr fault) usage = let is = fault.1 in cc
+pub usage-closed : {O : Type 0} (contents : O → Option (List ℕ)) (write_failures idle : O → ℕ) (between sink' : O) (text : List ℕ) (end : End) (refused : Bool) (status : Status)
+    → Tells contents write_failures idle between sink' text (end_status end refused) status → status ≡ statuses.Usage → ⊥
+usage-closed contents write_failures idle between sink' text end refused status (inl taken) usage = not_usage end refused (sym taken.1 ∙ usage)
+usage-closed contents write_failures idle between sink' text end refused status (inr fault) usage = let is = fault.1 in cc

@@ -60,11 +60,6 @@ abbrev pub HasFailed : {I O : Type 0} → (I → ℕ) → (O → ℕ) → (I →
 HasFailed read_failures write_failures source source' sink sink' =
     (read_failures source < read_failures source') ⊎ (write_failures sink < write_failures sink')
 
--- Some texts were taken and the status is this one, or a write fault came and is the status.
-abbrev pub Closes : {O : Type 0} → (failures idle : O → ℕ) → (old new : O) → (status answer : Status) → Type 0
-Closes failures idle old new status answer =
-    ((failures new ≡ failures old) × (answer ≡ status)) ⊎ (HasWriteCause failures idle old new × (answer ≡ Fault))
-
 -- Of a run: a fault comes only where a device failed or a bound was met, and a device's failure is told.
 pub record IsRun {I O : Type 0} (reads read_failures : I → ℕ) (write_failures idle : O → ℕ) (source source' : I) (sink sink' : O) (status : Status) : Type 0 where
   pub cause : status ≡ Fault → HasReadCause reads read_failures source source' ⊎ HasWriteCause write_failures idle sink sink'

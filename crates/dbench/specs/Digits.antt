@@ -1,5 +1,5 @@
 -- What a text of hexadecimal digits means, however it is cut.
-use Rattle.std.specs.Prelude.{◌≡◌, ◌<◌, ℕ, ◌/◌, ◌%◌, ◌==◌, ◌||◌, Bool, false, List, [], ◌∷◌, ◌++◌, Option}
+use Rattle.std.specs.Prelude.{◌≡◌, ◌<◌, ℕ, ◌/◌, ◌%◌, ◌==◌, ◌||◌, Bool, List, [], ◌∷◌, ◌++◌, Option}
 use Rattle.std.specs.List.{filter_map, AllPass}
 use Rattle.std.specs.Option.{option_to_list, ForSome}
 use Rattle.hex.specs.Hex.{hex_digit_value, is_hex_digit}
@@ -23,14 +23,3 @@ pub record Means (before : Option ℕ) (text octets : List ℕ) (after : Option 
   pub clean : AllPass is_hex_text text
   pub joined : option_to_list before ++ filter_map hex_digit_value text ≡ halves octets ++ option_to_list after
   pub digit_fits : ForSome after (λ digit. digit < 16)
-
--- A character of the text is neither digit nor blank, and what stands before it means some octets.
-pub record HasBadCharacter (before : Option ℕ) (text : List ℕ) : Type 0 where
-  pub front : List ℕ
-  pub bad : ℕ
-  pub back : List ℕ
-  pub octets : List ℕ
-  pub left : Option ℕ
-  pub joined : text ≡ front ++ bad ∷ back
-  pub meaning : Means before front octets left
-  pub is_bad : is_hex_text bad ≡ false

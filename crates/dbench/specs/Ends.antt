@@ -3,11 +3,14 @@ use Rattle.std.specs.Prelude.{◌≡◌, ℕ, ◌+◌, Bool, true, false, List, 
 use Rattle.std.specs.Io.KnownBytes.{IsAtEnd}
 use Rattle.dia_frame.specs.declared.fault.FrameFault.{FrameFault}
 use Rattle.dia_frame.specs.declared.fault.FrameFault.TheVariants.{Version, Length, Broken}
-use Rattle.dbench.specs.declared.read.Refusal.TheVariants as refusals
+use Rattle.dia_frame.specs.declared.fault.FeedError.{FeedError}
+use Rattle.dia_frame.specs.declared.fault.FeedError.TheVariants as feeding
+use Rattle.dbench.specs.declared.ends.Refusal.{Refusal}
+use Rattle.dbench.specs.declared.ends.Refusal.TheVariants as refusals
 use Rattle.dbench.specs.declared.status.Status.{Status}
 use Rattle.dbench.specs.declared.status.Status.TheVariants as statuses
-use Rattle.dbench.specs.declared.read.End.{End}
-use Rattle.dbench.specs.declared.read.End.TheVariants.{Whole, Refused, ReadFailed, TooManyReads}
+use Rattle.dbench.specs.declared.ends.End.{End}
+use Rattle.dbench.specs.declared.ends.End.TheVariants.{Whole, Refused, ReadFailed, TooManyReads}
 
 -- Whole: nothing is left. Read failed: one read failed. Too many: 1,048,576 were made, and none failed.
 abbrev pub EndsBy : {I : Type 0} → (remaining : I → Option (List ℕ)) → (reads failures : I → ℕ) → (old new : I) → End → Type 0
@@ -15,6 +18,11 @@ EndsBy remaining reads failures old new Whole = IsAtEnd (remaining new) × (fail
 EndsBy remaining reads failures old new (Refused why) = failures new ≡ failures old
 EndsBy remaining reads failures old new ReadFailed = failures new ≡ failures old + 1
 EndsBy remaining reads failures old new TooManyReads = (failures new ≡ failures old) × (reads new ≡ reads old + 1048576)
+
+-- what a feed's error refuses
+abbrev pub refusal_of : FeedError → Refusal
+refusal_of feeding.NoMemory = refusals.NoMemory
+refusal_of (feeding.Fault fault) = refusals.Frame fault
 
 -- what is printed of a frame fault, by its number
 abbrev pub frame_text : FrameFault → List ℕ

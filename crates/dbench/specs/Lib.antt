@@ -8,4 +8,8 @@ pub mod Words
 pub mod Asked
 pub mod Printed
 pub mod Reports
+pub mod Inputs
+pub mod Readings
+pub mod Pieces
+pub mod Events
 pub mod Walks

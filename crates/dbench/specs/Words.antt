@@ -1,9 +1,13 @@
 -- Which words on the command line are understood, in the words of `clap`.
-use Rattle.std.specs.Prelude.{◌≢◌, ◌⊎◌, List, Option, codes, true, option_and_then}
+use Rattle.std.specs.Prelude.{◌≢◌, ◌⊎◌, ℕ, List, Option, codes, true, option_and_then}
 use Rattle.clap.specs.Words.{App, IsAmong, Kinds, Text, fault_of, first_of, new_app, new_rule, subcommand_of, with_rule, with_subcommand}
 use Rattle.clap.specs.Simple.{on_top}
 use Rattle.clap.specs.declared.error.kind.ErrorKind.{ErrorKind}
 use Rattle.clap.specs.declared.error.kind.ErrorKind.TheVariants.{DisplayHelp, DisplayVersion}
+use Rattle.dbench.specs.declared.status.Status.{Status}
+use Rattle.dbench.specs.declared.status.Status.TheVariants as statuses
+use Rattle.dbench.specs.declared.words.NoWords.{NoWords}
+use Rattle.dbench.specs.declared.words.NoWords.TheVariants as no_words
 
 -- `read`, with one FILE at most
 abbrev pub read_app : App
@@ -31,3 +35,13 @@ pub record AreRefused (words : List Text) : Type 0 where
   pub among : IsAmong kind (word_faults words)
   pub no_help : kind ≢ DisplayHelp
   pub no_version : kind ≢ DisplayVersion
+
+-- what is told where there are no words
+abbrev pub no_words_text : NoWords → List ℕ
+no_words_text no_words.NoMemory = codes "no memory\n"
+no_words_text no_words.NotText = codes "a word isn't UTF-8\n"
+
+-- and the status then
+abbrev pub no_words_status : NoWords → Status
+no_words_status no_words.NoMemory = statuses.NoMemory
+no_words_status no_words.NotText = statuses.Usage

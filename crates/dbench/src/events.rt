@@ -1,6 +1,10 @@
 //! Events as text: a line each, `KIND N=V ..`, a kind by its name and then facts by number.
-ghost use Rattle.std.specs.Prelude.{◌<◌, IfSome};
+ghost use Rattle.std.specs.Prelude.{◌≡◌, ◌==◌, ◌<◌, ◌∷◌, [], None, IfOk, IfErr, IfNone, IfSome, OnOk};
+ghost use Rattle.std.specs.List.{slice_split};
+ghost use Rattle.dbench.specs.Events.{IsBadText, event_of, events_of, fact_between, fact_of, facts_of, first_bad, is_digit, is_skipped, number_of};
+ghost use Rattle.dbench.specs.Pieces.{words_left};
 
+use crate::pieces::{Pieces, Words};
 use std::alloc::{AllocError, AllocFailed, Global};
 use tab_law::book::LawBook;
 use tab_law::limits::PLACES;
@@ -15,70 +19,146 @@ pub(crate) enum EventsError {
 }
 
 impl From<AllocError> for EventsError {
+    ghost use Rattle.dbench.specs.declared.events.EventsError.TheVariants.{NoMemory};
+
+    ghost from_gives = { λ _ e. e ≡ NoMemory };
+
     fn from(_e: AllocError) -> EventsError {
         EventsError::NoMemory
     }
 }
 
 impl<T: Drop> From<AllocFailed<T>> for EventsError {
+    ghost use Rattle.dbench.specs.declared.events.EventsError.TheVariants.{NoMemory};
+
+    ghost from_gives = { λ _ e. e ≡ NoMemory };
+
     fn from(_e: AllocFailed<T>) -> EventsError {
         EventsError::NoMemory
     }
 }
 
-/// The number and the value of a fact, written `N=V` in decimal.
-fn fact_of(word: &str) -> Option<(usize, u64)>
-    ensures { IfSome result (λ fact. fact.0 < PLACES) }
+fn is_digit(c: u8) -> bool
+    ensures { result ≡ is_digit c }
 {
-    let (number, value) = word.split_once('=')?;
-    let number = number.parse::<usize>().ok()?;
-    let value = value.parse::<u64>().ok()?;
-    if number < PLACES {
-        Some((number, value))
+    matches!(c, b'0'..=b'9')
+}
+
+/// The number that a word spells in decimal digits.
+fn number_of(word: &[u8]) -> Option<u64>
+    ensures { result ≡ number_of word.now }
+{
+    if word.is_empty() {
+        return None;
+    }
+    let mut value = 0;
+    for c in word {
+        if !is_digit(*c) {
+            return None;
+        }
+        let digit = u64::from(*c - b'0');
+        if value > (u64::MAX - digit) / 10 {
+            return None;
+        }
+        value = value * 10 + digit;
+    }
+    Some(value)
+}
+
+/// The two parts of `N=V`.
+fn two_parts(word: &[u8]) -> Option<(&[u8], &[u8])>
+    ensures some { IfSome result (λ parts. slice_split (λ c. c == 61) word.now ≡ parts.0.now ∷ parts.1.now ∷ []) }
+    ensures none { IfNone result (fact_between (slice_split (λ c. c == 61) word.now) ≡ None) }
+{
+    let mut pieces = Pieces::new(word, b'=');
+    let number = pieces.next()?;
+    let value = pieces.next()?;
+    match pieces.next() {
+        None => Some((number, value)),
+        Some(_) => None,
+    }
+}
+
+/// The number and the value of a fact, written `N=V` in decimal.
+#[tactic(auto, unfolding(crate::specs::Events::fact_of))]
+fn fact_of(word: &[u8]) -> Option<(usize, u64)>
+    ensures fact { result ≡ fact_of word.now }
+    ensures place { IfSome result (λ fact. fact.0 < PLACES) }
+{
+    let (number, value) = two_parts(word)?;
+    let number = number_of(number)?;
+    let value = number_of(value)?;
+    if number < PLACES as u64 {
+        Some((number as usize, value))
     } else {
         None
     }
 }
 
-/// The facts of a line, its words after the first; what isn't written is 0.
-fn facts_of(line: &str) -> Option<[u64; PLACES]> {
+/// The facts of words; what isn't written is 0.
+fn facts_of(words: &mut Words<'_>) -> Option<[u64; PLACES]>
+    ensures { result ≡ facts_of (words_left words.old) }
+{
     let mut facts = [0; PLACES];
     let mut given = [false; PLACES];
-    for word in line.split_whitespace().skip(1) {
+    while let Some(word) = words.next() {
         let (number, value) = fact_of(word)?;
         if given[number] {
             return None;
         }
-        given[number] = true;
         facts[number] = value;
+        given[number] = true;
     }
     Some(facts)
 }
 
 /// The event of a line.
-fn event_of(book: &LawBook, line: &str) -> Option<Event> {
-    let name = line.split_whitespace().next()?;
-    let kind = book.kinds().find(name.as_bytes())?;
+#[tactic(auto, unfolding(crate::specs::Events::event_of))]
+fn event_of(book: &LawBook, line: &[u8]) -> Option<Event>
+    ensures { result ≡ event_of book.now line.now }
+{
+    book.known();
+    let mut words = Words::new(line);
+    let name = words.next()?;
+    let kind = book.kinds().find(name)?;
+    let facts = facts_of(&mut words)?;
     Some(Event {
-        kind: u8::try_from(kind).ok()?,
-        facts: facts_of(line)?,
+        kind: kind as u8,
+        facts,
     })
+}
+
+/// Whether a line is passed over: it is empty or begins with a blank.
+fn is_skipped(line: &[u8]) -> bool
+    ensures { result ≡ is_skipped line.now }
+{
+    match line {
+        [] => true,
+        [first, ..] => *first == b' ',
+    }
 }
 
 /// The events of a text. Empty lines, and lines that begin with a blank, are skipped.
 pub(crate) fn read_events(
     alloc: Global,
     book: &LawBook,
-    text: &str,
-) -> Result<Vec<Event>, EventsError> {
+    text: &[u8],
+) -> Result<Vec<Event>, EventsError>
+    ensures events { IfOk result (λ events. events.items ≡ events_of book.now text.now) }
+    ensures sound { OnOk result (first_bad book.now text.now ≡ None) }
+    ensures bad { IfErr result (IsBadText (first_bad book.now text.now)) }
+{
     let mut events = Vec::new(alloc);
-    for (place, line) in text.lines().enumerate() {
-        if line.is_empty() || line.starts_with(' ') {
+    let mut lines = Pieces::new(text, b'\n');
+    let mut place = 0;
+    while let Some(line) = lines.next() {
+        place += 1;
+        if is_skipped(line) {
             continue;
         }
         match event_of(book, line) {
             Some(event) => events.push(event)?,
-            None => return Err(EventsError::BadLine(place + 1)),
+            None => return Err(EventsError::BadLine(place)),
         }
     }
     Ok(events)

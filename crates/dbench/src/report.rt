@@ -1,7 +1,6 @@
 //! What is printed of messages, kept until it is written out.
 ghost use Rattle.std.specs.Prelude.{◌≡◌, ℕ, List, [], false, Bool, IfOk, OnOk, OnErr};
-ghost use Rattle.dia_dict.specs.Dictionary.{base};
-ghost use Rattle.dbench.specs.Printed.{CommandText, FaultText, Prints};
+ghost use Rattle.dbench.specs.Printed.{CommandText, FaultText, Prints, dictionary};
 
 use crate::show::{put_fault, put_message};
 use dia_avp::{WriteError, write_avp};
@@ -29,7 +28,7 @@ impl Report {
     /// A report without text.
     pub(crate) fn new(alloc: Global) -> Result<Report, AllocError>
         ensures start { IfOk result (λ r. (r.out.items ≡ []) × (r.refused ≡ false)) }
-        ensures dictionary { IfOk result (λ r. r.dictionary ≡ base) }
+        ensures dictionary { IfOk result (λ r. r.dictionary ≡ dictionary) }
     {
         Ok(Report {
             alloc,
@@ -84,7 +83,7 @@ impl Report {
     {
         match read_message(self.alloc, &self.dictionary, octets) {
             Ok(command) => {
-                self.command(&command)?;
+                self.command(command)?;
                 Ok(false)
             }
             Err(MsgError::NoMemory) => Err(AllocError),
@@ -95,7 +94,15 @@ impl Report {
         }
     }
 
-    fn command(&mut self, command: &Command) -> Result<(), AllocError>
+    // Takes the command, so that no other function drops one: a proof of that is long.
+    fn command(&mut self, command: Command) -> Result<(), AllocError>
+        ensures ok { OnOk result (CommandText command self.new.lines.items) }
+        ensures stays { Stays self.old self.new }
+    {
+        self.put_command(&command)
+    }
+
+    fn put_command(&mut self, command: &Command) -> Result<(), AllocError>
         ensures ok { OnOk result (CommandText command.now self.new.lines.items) }
         ensures stays { Stays self.old self.new }
     {

@@ -1,8 +1,10 @@
 //! A walk: a table stepped over a list of events, printed event by event.
-ghost use Rattle.std.specs.Prelude.{◌≡◌, ◌≢◌, ◌<◌, ◌≤◌, ◌-◌, ◌^◌, max, true, false, if◌then◌else◌, IfOk};
+ghost use Rattle.std.specs.Prelude.{◌≡◌, ◌≢◌, ◌<◌, ◌≤◌, ◌-◌, ◌^◌, ◌++◌, ℕ, List, Bool, max, true, length, codes, decimal, if◌then◌else◌, IfOk, OnOk};
+ghost use Rattle.std.specs.List.{flat_map, slice_get};
+ghost use Rattle.std.specs.Option.{option_map};
 ghost use Rattle.tab_step.specs.Bind.{IsBoundTo};
 ghost use Rattle.dbench.specs.Devices.{HasWriteCause};
-ghost use Rattle.dbench.specs.Walks.{CanWalk};
+ghost use Rattle.dbench.specs.Walks.{IsRefused, IsWalked, IsWalkedBound, IsWalkedOn, RunText, bad_text, bind_text, deed_line, kind_text, name_or, parse_text, row_text, state_text, step_text, steps_text, table_fault, unbound_text, without_last_zeros};
 
 use crate::deeds::deed_name;
 use crate::device::ByteSink;
@@ -30,7 +32,7 @@ struct Outcome {
 }
 
 fn refusal(text: Vec<u8>) -> Outcome
-    ensures { result.refused ≡ true }
+    ensures { result ≡ record { text = text; refused = true } }
 {
     Outcome {
         text,
@@ -38,67 +40,123 @@ fn refusal(text: Vec<u8>) -> Outcome
     }
 }
 
-/// The name of a state, or its number where the table has none.
-fn put_state(out: &mut Vec<u8>, table: &Table, state: u8) -> Result<(), AllocError> {
-    match table.states().as_slice().get(state as usize) {
+/// A name behind a label, or the number where there is none.
+fn put_name(
+    out: &mut Vec<u8>,
+    label: &[u8],
+    name: Option<&[u8]>,
+    number: u64,
+) -> Result<(), AllocError>
+    ensures { OnOk result (out.new.items ≡ out.old.items ++ label.now ++ name_or (option_map (λ name. name.now) name.entry) number) }
+{
+    match name {
         Some(name) => {
-            out.extend_from_slice(b" ")?;
-            out.extend_from_slice(name.as_slice())
+            out.extend_from_slice(label)?;
+            out.extend_from_slice(name)
         }
-        None => put_number(out, b" ", u64::from(state)),
+        None => put_number(out, label, number),
     }
+}
+
+/// The name of a state, if the table has one.
+fn state_name(table: &Table, state: u8) -> Option<&[u8]>
+    ensures { option_map (λ name. name.now) result ≡ slice_get table.now.states state }
+{
+    let names = table.states().as_slice();
+    let place = state as usize;
+    if place < names.len() {
+        Some(names[place].as_slice())
+    } else {
+        None
+    }
+}
+
+fn put_state(out: &mut Vec<u8>, table: &Table, state: u8) -> Result<(), AllocError>
+    ensures { OnOk result (out.new.items ≡ out.old.items ++ state_text table.now state) }
+{
+    put_name(out, b" ", state_name(table, state), u64::from(state))
+}
+
+/// The values up to the last that isn't 0.
+fn without_last_zeros(values: &[u64]) -> &[u64]
+    ensures { result.now ≡ without_last_zeros values.now }
+{
+    let mut end = values.len();
+    while end > 0 {
+        if values[end - 1] != 0 {
+            return &values[..end];
+        }
+        end -= 1;
+    }
+    &values[..0]
+}
+
+/// Each value behind a blank.
+fn put_values(out: &mut Vec<u8>, values: &[u64]) -> Result<(), AllocError>
+    ensures { OnOk result (out.new.items ≡ out.old.items ++ flat_map (λ value. codes " " ++ decimal value) values.now) }
+{
+    for value in values {
+        put_number(out, b" ", *value)?;
+    }
+    Ok(())
 }
 
 /// A deed: two blanks, its name or else its code, and its arguments up to the last that isn't 0.
-fn put_deed(out: &mut Vec<u8>, deed: &Deed) -> Result<(), AllocError> {
-    match deed_name(deed.code) {
-        Some(name) => {
-            out.extend_from_slice(b"  ")?;
-            out.extend_from_slice(name.as_bytes())?;
-        }
-        None => put_number(out, b"  ", u64::from(deed.code))?,
-    }
-    let end = deed
-        .a
-        .iter()
-        .rposition(|value| *value != 0)
-        .map_or(0, |place| place + 1);
-    for value in &deed.a[..end] {
-        put_number(out, b" ", *value)?;
-    }
+fn put_deed(out: &mut Vec<u8>, deed: &Deed) -> Result<(), AllocError>
+    ensures { OnOk result (out.new.items ≡ out.old.items ++ deed_line deed.now) }
+{
+    put_name(out, b"  ", deed_name(deed.code), u64::from(deed.code))?;
+    put_values(out, without_last_zeros(&deed.a))?;
     out.extend_from_slice(b"\n")
 }
 
-/// A step: the kind, the states before and after it, the row; and a line for each deed.
-fn put_step(
-    out: &mut Vec<u8>,
-    table: &Table,
-    kind: &[u8],
-    before: u8,
-    step: &Stepped,
-) -> Result<(), AllocError> {
-    out.extend_from_slice(kind)?;
-    put_state(out, table, before)?;
-    put_state(out, table, step.after.state)?;
-    match step.row {
-        Some(row) => put_number(out, b" row ", u64::from(row))?,
-        None => out.extend_from_slice(b" row -")?,
-    }
-    out.extend_from_slice(b"\n")?;
-    for deed in step.deeds.as_slice() {
+fn put_deeds(out: &mut Vec<u8>, deeds: &[Deed]) -> Result<(), AllocError>
+    ensures { OnOk result (out.new.items ≡ out.old.items ++ flat_map deed_line deeds.now) }
+{
+    for deed in deeds {
         put_deed(out, deed)?;
     }
     Ok(())
 }
 
+fn put_row(out: &mut Vec<u8>, row: Option<u16>) -> Result<(), AllocError>
+    ensures { OnOk result (out.new.items ≡ out.old.items ++ row_text row) }
+{
+    match row {
+        Some(row) => put_number(out, b" row ", u64::from(row)),
+        None => out.extend_from_slice(b" row -"),
+    }
+}
+
 /// The name of a kind of events in the book.
-fn kind_name(book: &LawBook, kind: u8) -> &[u8] {
+fn kind_name(book: &LawBook, kind: u8) -> &[u8]
+    ensures { result.now ≡ kind_text book.now kind }
+{
     let place = kind as usize;
     if place < book.kinds().len() {
         book.kinds().at(place).name.as_slice()
     } else {
         b""
     }
+}
+
+/// A step: the kind, the states before and after it, the row; and a line for each deed.
+fn put_step(
+    out: &mut Vec<u8>,
+    table: &Table,
+    book: &LawBook,
+    before: u8,
+    event: &Event,
+    step: &Stepped,
+) -> Result<(), AllocError>
+    ensures { OnOk result (out.new.items ≡ out.old.items ++ step_text table.now book.now before event.now step.now) }
+{
+    out.extend_from_slice(kind_name(book, event.kind))?;
+    put_state(out, table, before)?;
+    put_state(out, table, step.after.state)?;
+    put_row(out, step.row)?;
+    out.extend_from_slice(b"\n")?;
+    put_deeds(out, step.deeds.as_slice())
 }
 
 /// The steps of a walk from state 0.
@@ -108,45 +166,69 @@ fn put_steps(
     book: &LawBook,
     events: &[Event],
     steps: &[Stepped],
-) -> Result<(), AllocError> {
+) -> Result<(), AllocError>
+    requires { length steps.now ≡ length events.now }
+    ensures { OnOk result (out.new.items ≡ out.old.items ++ steps_text table.now book.now 0 events.now steps.now) }
+{
     let mut state = 0;
-    for (event, step) in events.iter().zip(steps) {
-        put_step(out, table, kind_name(book, event.kind), state, step)?;
+    for i in 0..steps.len() {
+        let step = &steps[i];
+        put_step(out, table, book, state, &events[i], step)?;
         state = step.after.state;
     }
     Ok(())
 }
 
 /// `line N fault C`: the first fault of a table's text.
-fn fault_line(alloc: Global, fault: &TextFault) -> Result<Outcome, AllocError>
-    ensures { IfOk result (λ walk. walk.refused ≡ true) }
+fn fault_line(alloc: Global, fault: &TextFault) -> Result<Vec<u8>, AllocError>
+    ensures { IfOk result (λ text. text.items ≡ table_fault fault.now) }
 {
     let mut text = Vec::new(alloc);
     put_number(&mut text, b"line ", fault.line as u64)?;
     put_number(&mut text, b" fault ", u64::from(fault.code.number()))?;
     text.extend_from_slice(b"\n")?;
-    Ok(refusal(text))
+    Ok(text)
 }
 
 /// `bad line N`: the first line of the events that isn't one.
-fn bad_line(alloc: Global, line: usize) -> Result<Outcome, AllocError>
-    ensures { IfOk result (λ walk. walk.refused ≡ true) }
+fn bad_line(alloc: Global, line: usize) -> Result<Vec<u8>, AllocError>
+    ensures { IfOk result (λ text. text.items ≡ bad_text line) }
 {
     let mut text = Vec::new(alloc);
     put_number(&mut text, b"bad line ", line as u64)?;
     text.extend_from_slice(b"\n")?;
-    Ok(refusal(text))
+    Ok(text)
 }
 
 /// `unbound NAME`: the first name of a table that isn't in the book.
-fn unbound_line(alloc: Global, name: &[u8]) -> Result<Outcome, AllocError>
-    ensures { IfOk result (λ walk. walk.refused ≡ true) }
+fn unbound_line(alloc: Global, name: &[u8]) -> Result<Vec<u8>, AllocError>
+    ensures { IfOk result (λ text. text.items ≡ unbound_text name.now) }
 {
     let mut text = Vec::new(alloc);
     text.extend_from_slice(b"unbound ")?;
     text.extend_from_slice(name)?;
     text.extend_from_slice(b"\n")?;
-    Ok(refusal(text))
+    Ok(text)
+}
+
+/// The text of a bound table's run on events.
+fn run_text(
+    alloc: Global,
+    bound: &Bound,
+    book: &LawBook,
+    events: &[Event],
+) -> Result<Vec<u8>, AllocError>
+    requires { IsBoundTo bound.now book.now }
+    ensures { IfOk result (λ text. RunText bound.now.table book.now events.now text.items) }
+{
+    let first = MachineState {
+        state: 0,
+        regs: [0; PLACES],
+    };
+    let steps = run(alloc, bound, book, &first, events)?;
+    let mut text = Vec::new(alloc);
+    put_steps(&mut text, bound.table(), book, events, &steps)?;
+    Ok(text)
 }
 
 /// The walk of a bound table over the events of a text.
@@ -157,38 +239,49 @@ fn walk_bound(
     events: &str,
 ) -> Result<Outcome, AllocError>
     requires { IsBoundTo bound.now book.now }
+    ensures { IfOk result (λ walk. IsWalkedBound bound.now.table book.now events.now walk.text.items walk.refused) }
 {
-    let events = match read_events(alloc, book, events) {
-        Ok(events) => events,
-        Err(EventsError::NoMemory) => return Err(AllocError),
-        Err(EventsError::BadLine(line)) => return bad_line(alloc, line),
-    };
-    let first = MachineState {
-        state: 0,
-        regs: [0; PLACES],
-    };
-    let steps = run(alloc, bound, book, &first, &events)?;
-    let mut text = Vec::new(alloc);
-    put_steps(&mut text, bound.table(), book, &events, &steps)?;
-    Ok(Outcome {
-        text,
-        refused: false,
-    })
+    match read_events(alloc, book, events.as_bytes()) {
+        Ok(events) => Ok(Outcome {
+            text: run_text(alloc, bound, book, &events)?,
+            refused: false,
+        }),
+        Err(EventsError::NoMemory) => Err(AllocError),
+        Err(EventsError::BadLine(line)) => Ok(refusal(bad_line(alloc, line)?)),
+    }
+}
+
+/// The refusal of a text that gives no table.
+fn unparsed(alloc: Global, error: &ParseError) -> Result<Outcome, AllocError>
+    ensures { IfOk result (λ walk. IsRefused (parse_text error.now) walk.text.items walk.refused) }
+{
+    match error {
+        ParseError::NoMemory => Err(AllocError),
+        ParseError::Fault(fault) => Ok(refusal(fault_line(alloc, fault)?)),
+    }
+}
+
+/// The refusal of a table that names what the book lacks.
+fn unbound(alloc: Global, why: &Unbound) -> Result<Outcome, AllocError>
+    ensures { IfOk result (λ walk. IsRefused (bind_text why.now) walk.text.items walk.refused) }
+{
+    match why {
+        Unbound::NoMemory => Err(AllocError),
+        Unbound::Missing(name) => Ok(refusal(unbound_line(alloc, name.as_slice())?)),
+    }
 }
 
 /// The text of a walk, or of what was refused.
 fn text_of(alloc: Global, table: &[u8], book: &LawBook, events: &str) -> Result<Outcome, AllocError>
-    ensures { IfOk result (λ walk. walk.refused ≡ false → CanWalk table.now book.now) }
+    ensures { IfOk result (λ walk. IsWalked book.now table.now events.now walk.text.items walk.refused) }
 {
     let table = match parse(alloc, table) {
         Ok(table) => table,
-        Err(ParseError::NoMemory) => return Err(AllocError),
-        Err(ParseError::Fault(fault)) => return fault_line(alloc, &fault),
+        Err(error) => return unparsed(alloc, &error),
     };
     match bind(alloc, table, book) {
         Ok(bound) => walk_bound(alloc, &bound, book, events),
-        Err(Unbound::NoMemory) => Err(AllocError),
-        Err(Unbound::Missing(name)) => unbound_line(alloc, name.as_slice()),
+        Err(why) => unbound(alloc, &why),
     }
 }
 
@@ -219,8 +312,9 @@ pub fn walk_on<O: ByteSink>(
     requires idle { O.idle sink.old ≡ 0 }
     requires failures { O.failures sink.old < 2 ^ 64 - 1 }
 
-    // It is done only where the table's text has no fault and the book lacks none of its names.
-    ensures done { result ≡ Status.Done → CanWalk table.now book.now }
+    // What is printed is the text of the table's run on the events, or the first refusal; want of memory aside, it is
+    // done exactly where nothing is refused.
+    ensures walk { IsWalkedOn O.contents O.failures O.idle book.now table.now events.now sink.old sink.new result }
     ensures words { result ≢ Status.Usage }
 
     // A fault comes only where the sink failed, or took nothing in as many writes in a row as the bound says.

@@ -8,8 +8,36 @@ ghost use Rattle.dbench.specs.Asked.{IsAsked, IsRefusal};
 
 use clap::error::ErrorKind;
 use clap::{Arg, Command, Error};
-use std::alloc::{AllocError, AllocFailed, Global};
+use std::alloc::{AllocError, AllocFailed, AllocGlobal, Global};
 use std::convert::AsStr;
+use std::env::Env;
+use std::{env, io};
+
+/// Why there are no words.
+#[derive(Clone, Copy, Debug, PartialEq, Eq)]
+pub(crate) enum NoWords {
+    NoMemory,
+    /// One of them isn't UTF-8.
+    NotText,
+}
+
+fn no_words(error: &io::Error) -> NoWords {
+    match error.kind() {
+        io::ErrorKind::OutOfMemory => NoWords::NoMemory,
+        _ => NoWords::NotText,
+    }
+}
+
+/// The words that the system hands over, the program's name first.
+pub(crate) fn given_words<R: Env + AllocGlobal>(rt: &R) -> Result<Vec<String>, NoWords> {
+    match env::args(rt) {
+        Ok(words) => match words.collect(rt.alloc()) {
+            Ok(words) => Ok(words),
+            Err(AllocError) => Err(NoWords::NoMemory),
+        },
+        Err(error) => Err(no_words(&error)),
+    }
+}
 
 /// What the words ask for.
 #[derive(Debug, Drop)]

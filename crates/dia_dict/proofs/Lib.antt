@@ -1,3 +1,4 @@
 pub mod KeyedLemmas
+pub mod TwiceLemmas
 pub mod FieldLemmas
 pub mod BaseLemmas

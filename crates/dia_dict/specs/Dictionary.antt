@@ -1,16 +1,20 @@
--- A dictionary is the list of its definitions, in order of adding.
-use Rattle.std.specs.Prelude.{◌≡◌, ℕ, Bool, ◌==◌, ◌&&◌, nat_lt, if◌then◌else◌, List, [], ◌∷◌, length, find, Option, None, Some, unwrap_or, codes}
-use Rattle.std.specs.List.{list_all}
+-- A dictionary is the list of the definitions that were added to those which every dictionary has, in order of adding.
+use Rattle.std.specs.Prelude.{◌≡◌, ℕ, Bool, false, ◌==◌, ◌&&◌, ◌||◌, nat_le, if◌then◌else◌, List, [], ◌∷◌, ◌++◌, length, find, All, Option, None, Some, is_some, unwrap_or}
 use Rattle.std.specs.Str.{bytes_eq}
-use Rattle.dia_avp.specs.Field.{IsUnsigned32}
 use Rattle.dia_avp.specs.declared.avp.Avp.{Avp}
 use Rattle.dia_dict.specs.declared.definition.AvpKind.{AvpKind}
-use Rattle.dia_dict.specs.declared.definition.AvpKind.TheVariants.{Unsigned32, DiameterIdentity}
 use Rattle.dia_dict.specs.declared.definition.Definition.{Definition}
-use Rattle.dia_dict.specs.declared.field.DictFault.{DictFault}
-use Rattle.dia_dict.specs.declared.field.DictFault.TheVariants.{Unknown, UnknownMandatory, BadValue, BadLength}
+use Rattle.dia_dict.specs.declared.fault.DictFault.{DictFault}
+use Rattle.dia_dict.specs.declared.fault.DictFault.TheVariants.{Unknown, UnknownMandatory}
+use Rattle.dia_dict.specs.declared.fault.AddError.{AddError}
+use Rattle.dia_dict.specs.declared.fault.AddError.TheVariants.{Taken, Full}
 use Rattle.dia_dict.specs.declared.field.Field.{Field}
-use Rattle.dia_dict.specs.declared.field.Field.TheVariants.{Number, Identity}
+use Rattle.dia_dict.specs.Base.{base}
+use Rattle.dia_dict.specs.Kind.{data_fault, IsValueOf}
+
+-- all definitions: those that every dictionary has, then those that were added
+abbrev pub known : List Definition → List Definition
+known added = base ++ added
 
 -- whether two vendors are the same: 0 counts as none
 abbrev pub same_vendor : Option ℕ → Option ℕ → Bool
@@ -28,26 +32,31 @@ definition_of definitions code vendor = find (is_of code vendor) definitions
 abbrev pub is_named : List ℕ → Definition → Bool
 is_named name d = bytes_eq d.name name
 
--- an AVP of the base protocol, without a vendor
-abbrev pub of_base : ℕ → List ℕ → AvpKind → Definition
-of_base code name kind = record { code = code; vendor = None; name = name; kind = kind }
+-- the first definition of a name
+abbrev pub definition_named : List Definition → List ℕ → Option Definition
+definition_named definitions name = find (is_named name) definitions
 
--- the AVPs that are known (RFC 6733 section 4.5)
-abbrev pub base : List Definition
-base =
-    of_base 264 (codes "Origin-Host") DiameterIdentity
-    ∷ of_base 296 (codes "Origin-Realm") DiameterIdentity
-    ∷ of_base 278 (codes "Origin-State-Id") Unsigned32
-    ∷ []
+-- whether a code and vendor, or a name, has a definition
+abbrev pub is_taken : List Definition → ℕ → Option ℕ → List ℕ → Bool
+is_taken definitions code vendor name = is_some (definition_of definitions code vendor) || is_some (definition_named definitions name)
 
--- whether all octets are ASCII
-abbrev pub is_ascii : List ℕ → Bool
-is_ascii octets = list_all (λ o. nat_lt o 128) octets
+-- whether a definition is that of another's code and vendor, or has its name
+abbrev pub clashes : Definition → Definition → Bool
+clashes d other = is_of other.code other.vendor d || is_named other.name d
 
--- what is wrong with data of a type: an Unsigned32 has 4 octets, a DiameterIdentity is ASCII (RFC 6733 sections 4.2 and 4.3.1)
-abbrev pub data_fault : AvpKind → List ℕ → Option DictFault
-data_fault Unsigned32 octets = if length octets == 4 then None else Some BadLength
-data_fault DiameterIdentity octets = if is_ascii octets then None else Some BadValue
+-- no code and vendor, and no name, has two definitions
+abbrev pub NoneTwice : List Definition → Type 0
+NoneTwice [] = Unit {0}
+NoneTwice (d ∷ later) = All (λ other. clashes d other ≡ false) later × NoneTwice later
+
+-- a definition as it is added
+abbrev pub defined : ℕ → Option ℕ → List ℕ → AvpKind → Definition
+defined code vendor name kind = record { code = code; vendor = vendor; name = name; kind = kind }
+
+-- why a definition may not be added, memory aside: its code and vendor, or its name, has one, or else there are 256 already
+abbrev pub refusal : List Definition → ℕ → Option ℕ → List ℕ → Option AddError
+refusal definitions code vendor name =
+    if is_taken definitions code vendor name then Some Taken else if nat_le 256 (length definitions) then Some Full else None
 
 -- what is wrong with an AVP by the definition that it has
 abbrev pub fault_by : Option Definition → Avp → Option DictFault
@@ -57,13 +66,6 @@ fault_by (Some d) a = data_fault d.kind a.octets
 -- what is wrong with an AVP by the dictionary
 abbrev pub fault_of : List Definition → Avp → Option DictFault
 fault_of definitions a = fault_by (definition_of definitions a.code a.vendor) a
-
--- the value of data by its type
-abbrev pub IsValueOf : AvpKind → List ℕ → Field → Type 0
-IsValueOf Unsigned32 octets (Number n) = IsUnsigned32 octets n
-IsValueOf DiameterIdentity octets (Identity name) = name.now ≡ octets
-IsValueOf Unsigned32 octets (Identity name) = ⊥
-IsValueOf DiameterIdentity octets (Number n) = ⊥
 
 -- the value of data by the definition that the AVP has
 abbrev pub IsValueBy : Option Definition → List ℕ → Field → Type 0

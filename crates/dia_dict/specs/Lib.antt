@@ -1,3 +1,5 @@
+pub mod AddError
 pub mod Kind
 pub mod Keyed
+pub mod Base
 pub mod Dictionary

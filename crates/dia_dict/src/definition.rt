@@ -8,24 +8,44 @@ use dia_avp::Octets;
 pub enum AvpKind {
     /// 4 octets, a number in network byte order.
     Unsigned32,
+    /// 8 octets, a number in network byte order.
+    Unsigned64,
+    /// 4 octets, one of the values that the AVP's definition lists. Any number is read.
+    Enumerated,
+    /// Text in UTF-8.
+    Utf8String,
     /// A host or realm name in ASCII.
     DiameterIdentity,
+    /// An Address Family Number of 2 octets and an address of that family.
+    Address,
+    /// AVPs, one after the other.
+    Grouped,
+    /// 4 octets, seconds since 1900, read as a number.
+    Time,
+    /// Any octets.
+    OctetString,
 }
 
 impl AvpKind {
-    /// The fewest octets that data of this type has.
+    /// The size of data of this type where it is fixed, else 0. So many zeros stand for data of a bad length in Failed-AVP
+    /// (RFC 6733 section 7.5).
     pub fn least_size(self) -> usize
         ensures { result ≡ least_size self }
     {
         match self {
-            AvpKind::Unsigned32 => 4,
-            AvpKind::DiameterIdentity => 0,
+            AvpKind::Unsigned32 | AvpKind::Enumerated | AvpKind::Time => 4,
+            AvpKind::Unsigned64 => 8,
+            AvpKind::Utf8String
+            | AvpKind::DiameterIdentity
+            | AvpKind::Address
+            | AvpKind::Grouped
+            | AvpKind::OctetString => 0,
         }
     }
 }
 
-/// What the dictionary says of an AVP. `vendor` is its Vendor-ID; the AVPs of the base protocol have none, and 0 counts
-/// as none (RFC 6733 section 4.1). `name` is in ASCII.
+/// What the dictionary says of an AVP. `vendor` is its Vendor-ID; the AVPs of the base protocol and of credit control have
+/// none, and 0 counts as none (RFC 6733 section 4.1).
 #[derive(Debug, Drop)]
 pub struct Definition {
     pub code: u32,

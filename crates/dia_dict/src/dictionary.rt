@@ -1,103 +1,103 @@
-ghost use Rattle.std.specs.Prelude.{◌≡◌, None, Some, [], ◌∷◌, ◌++◌, IfOk, IfErr, OnOk, OnErr, slice_get, find};
+//! The dictionary.
+
+ghost use Rattle.std.specs.Prelude.{◌≡◌, None, Some, [], ◌∷◌, ◌++◌, IfOk, IfErr, OnOk, OnErr, slice_get, unwrap_or};
 ghost use Rattle.std.specs.Option.{option_copied};
 ghost use Rattle.dia_avp.specs.View.{seen};
 
-use crate::base::BASE;
 use crate::definition::{AvpKind, Definition};
-use crate::field::{DictFault, Field};
-use crate::key::Key;
-use dia_avp::{AvpView, Octets};
-use indexmap::IndexMap;
+use crate::fault::{AddError, DictFault};
+use crate::field::Field;
+use crate::table::Table;
+use dia_avp::AvpView;
 use std::alloc::{AllocError, Global};
 use std::marker::Model;
 
-/// AVP definitions in order of adding, none twice. A contract sees them as that list.
+/// AVP definitions: those of the base protocol and of credit control, and then those that were added, in order of adding.
+/// A contract sees a dictionary as the list of the added ones; `known` is the list of all.
 #[derive(Drop)]
 pub struct Dictionary {
-    map: IndexMap<Key, Definition>,
+    table: Table,
 }
 
 impl Model for Dictionary {
-    ghost use Rattle.std.specs.Prelude.{List};
-    ghost use Rattle.indexmap.specs.IndexMap.{values};
+    ghost use Rattle.std.specs.Prelude.{List, ◌≡◌, drop};
     ghost use Rattle.dia_dict.specs.declared.definition.Definition.{Definition};
-    ghost use Rattle.dia_dict.specs.Keyed.{AreKeyed};
+    ghost use Rattle.dia_dict.specs.Dictionary.{known};
 
     ghost Value = { List Definition };
 
-    ghost view = { λ d. values d.map };
+    ghost view = { λ d. drop 55 d.table };
 
-    ghost invariant = { λ d. AreKeyed d.map.entries };
+    ghost invariant = { λ d. d.table ≡ known (drop 55 d.table) };
 }
 
 impl Dictionary {
-    ghost use Rattle.dia_dict.specs.Dictionary.{definition_of, is_named, base, fault_of, IsValue};
+    ghost use Rattle.dia_dict.specs.Dictionary.{known, definition_of, definition_named, NoneTwice, defined, refusal, fault_of, IsValue};
 
-    fn new(alloc: Global) -> Dictionary
-        ensures { result ≡ [] }
+    /// The dictionary to which nothing was added.
+    pub fn base(alloc: Global) -> Result<Dictionary, AllocError>
+        ensures { IfOk result (λ d. d ≡ []) }
     {
-        Dictionary {
-            map: IndexMap::new(alloc),
-        }
+        Ok(Dictionary {
+            table: Table::base(alloc)?,
+        })
     }
 
-    // Adds a definition at the end.
-    fn append(&mut self, definition: Definition) -> Result<(), AllocError>
-        requires { definition_of self.old definition.code definition.vendor ≡ None }
-        ensures ok { OnOk result (self.new ≡ self.old ++ definition ∷ []) }
+    // All definitions.
+    fn all(&self) -> &Table
+        ensures { result.now ≡ known self.now }
+    {
+        &self.table
+    }
+
+    /// Adds a definition at the end: an AVP Code, a Vendor-ID, of which 0 counts as none, the AVP's name and its type. Refused
+    /// are, in this order, a code and vendor or a name that has a definition, and one more than 256 definitions.
+    pub fn add(
+        &mut self,
+        code: u32,
+        vendor: Option<u32>,
+        name: &str,
+        kind: AvpKind,
+    ) -> Result<(), AddError>
+        ensures ok { OnOk result (self.new ≡ self.old ++ defined code vendor name.now kind ∷ []) }
+
+        // It is refused by the definitions that are there, and for want of memory only where nothing else is refused.
+        ensures free { OnOk result (refusal (known self.old) code vendor name.now ≡ None) }
+        ensures fault { IfErr result (λ e. e ≡ unwrap_or (refusal (known self.old) code vendor name.now) AddError.NoMemory) }
         ensures err { OnErr result (self.new ≡ self.old) }
     {
-        let key = Key::new(definition.code, definition.vendor);
-        self.map.insert(key, definition)?;
-        Ok(())
+        self.table.add(code, vendor, name, kind)
     }
 
-    /// The dictionary of the AVPs that this program knows.
-    pub fn base(alloc: Global) -> Result<Dictionary, AllocError>
-        ensures { IfOk result (λ d. d ≡ base) }
-    {
-        let mut dictionary = Dictionary::new(alloc);
-        for (code, name, kind) in BASE {
-            dictionary.append(Definition {
-                code,
-                vendor: None,
-                name: Octets::from_slice(alloc, name.as_bytes())?,
-                kind,
-            })?;
-        }
-        Ok(dictionary)
-    }
-
-    /// The definition of an AVP by its code and Vendor-ID. Takes no memory.
+    /// The definition of an AVP by its code and Vendor-ID, of which 0 counts as none. Takes no memory.
     pub fn find(&self, code: u32, vendor: Option<u32>) -> Option<&Definition>
-        ensures { option_copied result ≡ definition_of self.now code vendor }
+        ensures { option_copied result ≡ definition_of (known self.now) code vendor }
     {
-        self.map.get(&Key::new(code, vendor))
+        self.all().find(code, vendor)
     }
 
     /// The definition of an AVP by its name, in which case counts. Takes no memory.
-    pub fn by_name(&self, name: &[u8]) -> Option<&Definition>
-        ensures { option_copied result ≡ find (is_named name.now) self.now }
+    pub fn by_name(&self, name: &str) -> Option<&Definition>
+        ensures { option_copied result ≡ definition_named (known self.now) name.now }
     {
-        self.map.values().find(|d| d.name.as_slice() == name)
+        self.all().by_name(name)
     }
 
-    /// The definition at a place, from 0. Takes no memory.
+    /// The definition at a place, from 0: first those that every dictionary has, by AVP Code. No two have one code and vendor,
+    /// or one name. Takes no memory.
     pub fn at(&self, place: usize) -> Option<&Definition>
-        ensures { option_copied result ≡ slice_get self.now place }
+        ensures place { option_copied result ≡ slice_get (known self.now) place }
+        ensures once { NoneTwice (known self.now) }
     {
-        match self.map.get_index(place) {
-            None => None,
-            Some((_, definition)) => Some(definition),
-        }
+        self.all().at(place)
     }
 
     /// The value of an AVP's data by the type that the dictionary gives it. Takes no memory.
     pub fn typed<'a>(&self, avp: &AvpView<'a>) -> Result<Field<'a>, DictFault>
         // The data as its type has it, and else the one fault.
-        ensures value { IfOk result (IsValue self.now (seen avp.now)) }
-        ensures none { OnOk result (fault_of self.now (seen avp.now) ≡ None) }
-        ensures fault { IfErr result (λ f. fault_of self.now (seen avp.now) ≡ Some f) }
+        ensures value { IfOk result (IsValue (known self.now) (seen avp.now)) }
+        ensures none { OnOk result (fault_of (known self.now) (seen avp.now) ≡ None) }
+        ensures fault { IfErr result (λ f. fault_of (known self.now) (seen avp.now) ≡ Some f) }
     {
         let Some(definition) = self.find(avp.code, avp.vendor) else {
             return Err(if avp.mandatory {
@@ -106,9 +106,6 @@ impl Dictionary {
                 DictFault::Unknown
             });
         };
-        match definition.kind {
-            AvpKind::Unsigned32 => Ok(Field::Number(avp.as_u32()?)),
-            AvpKind::DiameterIdentity => Ok(Field::Identity(avp.as_identity()?)),
-        }
+        Ok(definition.kind.typed(avp)?)
     }
 }

@@ -1,45 +1,48 @@
-//! The data of an AVP by its type in the dictionary.
+//! The data of an AVP by its type.
 
-ghost use Rattle.dia_avp.specs.declared.fault.FieldFault.TheVariants as field_faults;
-ghost use Rattle.std.specs.Prelude.{◌≡◌};
-ghost use Rattle.dia_dict.specs.Kind.{fault_of_field};
+ghost use Rattle.std.specs.Prelude.{◌≡◌, None, Some, IfOk, IfErr, OnOk};
+ghost use Rattle.dia_dict.specs.Kind.{fault_of_field, data_fault, IsValueOf};
 
-use dia_avp::FieldFault;
-use thiserror::Error;
+use crate::definition::AvpKind;
+use dia_avp::{Address, AvpView, FieldFault};
 
 /// The value of an AVP's data, where it was read.
-#[derive(Clone, Copy, Debug)]
+#[derive(Clone, Copy, Debug, PartialEq, Eq)]
 pub enum Field<'a> {
-    /// An Unsigned32.
+    /// An Unsigned32, an Enumerated or a Time.
     Number(u32),
+    /// An Unsigned64.
+    Number64(u64),
+    /// A UTF8String.
+    Text(&'a str),
     /// A DiameterIdentity.
     Identity(&'a [u8]),
+    /// An Address.
+    Address(Address<'a>),
+    /// A group's octets, which are at most 128 whole AVPs.
+    Group(&'a [u8]),
+    /// An OctetString.
+    Octets(&'a [u8]),
 }
 
-/// Why an AVP has no value by the dictionary.
-#[derive(Clone, Copy, Debug, PartialEq, Eq, Error)]
-pub enum DictFault {
-    /// The dictionary does not have the AVP, which may be ignored.
-    #[error("unknown AVP without flag M; ignore it")]
-    Unknown,
-    /// The dictionary does not have the AVP, which has flag M.
-    #[error("unknown AVP with flag M; its sender wants it understood")]
-    UnknownMandatory,
-    /// The data is none that the AVP's type allows.
-    #[error("AVP data that its type does not allow")]
-    BadValue,
-    /// The data has a size that the AVP's type does not have.
-    #[error("AVP data of a size that its type does not have")]
-    BadLength,
-}
-
-impl From<FieldFault> for DictFault {
-    ghost from_gives = { λ f e. e ≡ fault_of_field f };
-
-    fn from(fault: FieldFault) -> DictFault {
-        match fault {
-            FieldFault::BadValue => DictFault::BadValue,
-            FieldFault::BadLength => DictFault::BadLength,
+impl AvpKind {
+    /// The value that an AVP's data has by this type. Of a group one level is looked at. Takes no memory.
+    pub fn typed<'a>(self, avp: &AvpView<'a>) -> Result<Field<'a>, FieldFault>
+        // The data as this type has it, and else the one fault.
+        ensures value { IfOk result (IsValueOf self avp.now.octets.now) }
+        ensures none { OnOk result (data_fault self avp.now.octets.now ≡ None) }
+        ensures fault { IfErr result (λ f. data_fault self avp.now.octets.now ≡ Some (fault_of_field f)) }
+    {
+        match self {
+            AvpKind::Unsigned32 | AvpKind::Enumerated | AvpKind::Time => {
+                Ok(Field::Number(avp.as_u32()?))
+            }
+            AvpKind::Unsigned64 => Ok(Field::Number64(avp.as_u64()?)),
+            AvpKind::Utf8String => Ok(Field::Text(avp.as_text()?)),
+            AvpKind::DiameterIdentity => Ok(Field::Identity(avp.as_identity()?)),
+            AvpKind::Address => Ok(Field::Address(avp.as_address()?)),
+            AvpKind::Grouped => Ok(Field::Group(avp.as_group(1)?)),
+            AvpKind::OctetString => Ok(Field::Octets(avp.octets)),
         }
     }
 }

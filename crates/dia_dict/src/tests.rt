@@ -1,28 +1,145 @@
 use super::*;
-use dia_avp::AvpView;
+use dia_avp::{Address, AvpView};
 use std::test::Fail;
 
+/// AVP Code, name and type, type by type.
+const KNOWN: [(u32, &str, AvpKind); 55] = [
+    (258, "Auth-Application-Id", AvpKind::Unsigned32),
+    (259, "Acct-Application-Id", AvpKind::Unsigned32),
+    (265, "Supported-Vendor-Id", AvpKind::Unsigned32),
+    (266, "Vendor-Id", AvpKind::Unsigned32),
+    (267, "Firmware-Revision", AvpKind::Unsigned32),
+    (268, "Result-Code", AvpKind::Unsigned32),
+    (278, "Origin-State-Id", AvpKind::Unsigned32),
+    (299, "Inband-Security-Id", AvpKind::Unsigned32),
+    (415, "CC-Request-Number", AvpKind::Unsigned32),
+    (420, "CC-Time", AvpKind::Unsigned32),
+    (432, "Rating-Group", AvpKind::Unsigned32),
+    (439, "Service-Identifier", AvpKind::Unsigned32),
+    (448, "Validity-Time", AvpKind::Unsigned32),
+    (412, "CC-Input-Octets", AvpKind::Unsigned64),
+    (414, "CC-Output-Octets", AvpKind::Unsigned64),
+    (417, "CC-Service-Specific-Units", AvpKind::Unsigned64),
+    (419, "CC-Sub-Session-Id", AvpKind::Unsigned64),
+    (421, "CC-Total-Octets", AvpKind::Unsigned64),
+    (273, "Disconnect-Cause", AvpKind::Enumerated),
+    (285, "Re-Auth-Request-Type", AvpKind::Enumerated),
+    (295, "Termination-Cause", AvpKind::Enumerated),
+    (416, "CC-Request-Type", AvpKind::Enumerated),
+    (418, "CC-Session-Failover", AvpKind::Enumerated),
+    (422, "Check-Balance-Result", AvpKind::Enumerated),
+    (427, "Credit-Control-Failure-Handling", AvpKind::Enumerated),
+    (428, "Direct-Debiting-Failure-Handling", AvpKind::Enumerated),
+    (436, "Requested-Action", AvpKind::Enumerated),
+    (449, "Final-Unit-Action", AvpKind::Enumerated),
+    (450, "Subscription-Id-Type", AvpKind::Enumerated),
+    (455, "Multiple-Services-Indicator", AvpKind::Enumerated),
+    (459, "User-Equipment-Info-Type", AvpKind::Enumerated),
+    (1, "User-Name", AvpKind::Utf8String),
+    (263, "Session-Id", AvpKind::Utf8String),
+    (269, "Product-Name", AvpKind::Utf8String),
+    (281, "Error-Message", AvpKind::Utf8String),
+    (444, "Subscription-Id-Data", AvpKind::Utf8String),
+    (461, "Service-Context-Id", AvpKind::Utf8String),
+    (264, "Origin-Host", AvpKind::DiameterIdentity),
+    (282, "Route-Record", AvpKind::DiameterIdentity),
+    (283, "Destination-Realm", AvpKind::DiameterIdentity),
+    (293, "Destination-Host", AvpKind::DiameterIdentity),
+    (296, "Origin-Realm", AvpKind::DiameterIdentity),
+    (257, "Host-IP-Address", AvpKind::Address),
+    (260, "Vendor-Specific-Application-Id", AvpKind::Grouped),
+    (430, "Final-Unit-Indication", AvpKind::Grouped),
+    (431, "Granted-Service-Unit", AvpKind::Grouped),
+    (437, "Requested-Service-Unit", AvpKind::Grouped),
+    (443, "Subscription-Id", AvpKind::Grouped),
+    (446, "Used-Service-Unit", AvpKind::Grouped),
+    (458, "User-Equipment-Info", AvpKind::Grouped),
+    (55, "Event-Timestamp", AvpKind::Time),
+    (411, "CC-Correlation-Id", AvpKind::OctetString),
+    (460, "User-Equipment-Info-Value", AvpKind::OctetString),
+    (279, "Failed-AVP", AvpKind::OctetString),
+    (284, "Proxy-Info", AvpKind::OctetString),
+];
+
 #[test]
-fn base_has_each_avp_by_code_and_by_name(rt: HostRuntime) -> Result<(), Fail> {
+fn each_avp_of_the_base_is_found_by_code_and_by_name(rt: HostRuntime) -> Result<(), Fail> {
     let dictionary = Dictionary::base(rt.alloc())?;
-    let known = [
-        (264, "Origin-Host", AvpKind::DiameterIdentity),
-        (296, "Origin-Realm", AvpKind::DiameterIdentity),
-        (278, "Origin-State-Id", AvpKind::Unsigned32),
-    ];
-    for (place, (code, name, kind)) in known.into_iter().enumerate() {
+    for (code, name, kind) in KNOWN {
         for vendor in [None, Some(0)] {
             let found = dictionary.find(code, vendor).ok_or("not found")?;
-            assert_eq!(rt; found.kind, kind);
+            assert_eq!(rt; found.kind, kind, "{name}");
+            assert!(rt; found.name.as_slice() == name.as_bytes(), "{name}");
         }
-        let named = dictionary.by_name(name.as_bytes()).ok_or("no such name")?;
-        assert_eq!(rt; named.code, code);
-        let placed = dictionary.at(place).ok_or("no such place")?;
-        assert_eq!(rt; placed.code, code);
+        let named = dictionary.by_name(name).ok_or("no such name")?;
+        assert_eq!(rt; named.code, code, "{name}");
+        assert!(rt; dictionary.find(code, Some(10_415)).is_none(), "{name}");
     }
-    assert!(rt; dictionary.find(264, Some(1)).is_none());
-    assert!(rt; dictionary.by_name(b"origin-host").is_none());
-    assert!(rt; dictionary.at(3).is_none());
+    assert!(rt; dictionary.find(456, None).is_none());
+    assert!(rt; dictionary.by_name("origin-host").is_none());
+    Ok(())
+}
+
+#[test]
+fn an_added_definition_is_found_and_goes_last(rt: HostRuntime) -> Result<(), Fail> {
+    let mut dictionary = Dictionary::base(rt.alloc())?;
+    dictionary.add(9999, None, "Test", AvpKind::Unsigned32)?;
+    dictionary.add(9999, Some(10_415), "Vendor-Test", AvpKind::OctetString)?;
+    let placed = dictionary.at(55).ok_or("no such place")?;
+    assert_eq!(rt; placed.code, 9999);
+    assert_eq!(rt; placed.vendor, None);
+    let named = dictionary.by_name("Vendor-Test").ok_or("no such name")?;
+    assert_eq!(rt; named.vendor, Some(10_415));
+    let plain = dictionary.find(9999, None).ok_or("not found")?;
+    assert_eq!(rt; plain.kind, AvpKind::Unsigned32);
+    let of_vendor = dictionary.find(9999, Some(10_415)).ok_or("not found")?;
+    assert_eq!(rt; of_vendor.kind, AvpKind::OctetString);
+    assert!(rt; dictionary.find(9999, Some(1)).is_none());
+    let read = dictionary.typed(&view(9999, true, &[0, 0, 0, 1]))?;
+    assert_eq!(rt; read, Field::Number(1));
+    Ok(())
+}
+
+#[test]
+fn a_code_of_a_vendor_and_a_name_have_one_definition(rt: HostRuntime) -> Result<(), Fail> {
+    let mut dictionary = Dictionary::base(rt.alloc())?;
+    dictionary.add(278, Some(10_415), "Vendor-State", AvpKind::Time)?;
+    let taken = [
+        (278, None, "Another"),
+        (278, Some(0), "Another"),
+        (278, Some(10_415), "Another"),
+        (9999, None, "Session-Id"),
+        (9999, Some(10_415), "Vendor-State"),
+    ];
+    for (code, vendor, name) in taken {
+        let refused = dictionary.add(code, vendor, name, AvpKind::Time).err();
+        assert_eq!(rt; refused, Some(AddError::Taken), "{name}");
+    }
+    assert_eq!(rt; AddError::Taken.number(), 1);
+    assert!(rt; dictionary.at(56).is_none());
+    assert!(rt; dictionary.by_name("Another").is_none());
+    assert!(rt; dictionary.find(9999, None).is_none());
+    let state = dictionary.find(278, None).ok_or("not found")?;
+    assert_eq!(rt; state.kind, AvpKind::Unsigned32);
+    Ok(())
+}
+
+#[test]
+fn a_dictionary_has_256_definitions_at_most(rt: HostRuntime) -> Result<(), Fail> {
+    let alloc = rt.alloc();
+    let mut dictionary = Dictionary::base(alloc)?;
+    for code in 1000..1201u32 {
+        let name = format!(in alloc; "Test-{code}")?;
+        dictionary.add(code, None, name.as_str(), AvpKind::Grouped)?;
+    }
+    let full = dictionary.add(1201, None, "Test-1201", AvpKind::Grouped);
+    assert_eq!(rt; full.err(), Some(AddError::Full));
+    let taken = dictionary.add(1200, None, "Test-1201", AvpKind::Grouped);
+    assert_eq!(rt; taken.err(), Some(AddError::Taken));
+    assert_eq!(rt; AddError::Full.number(), 2);
+    let last = dictionary.at(255).ok_or("no such place")?;
+    assert_eq!(rt; last.code, 1200);
+    assert!(rt; dictionary.at(256).is_none());
+    assert!(rt; dictionary.find(1201, None).is_none());
     Ok(())
 }
 
@@ -36,33 +153,68 @@ fn view(code: u32, mandatory: bool, octets: &[u8]) -> AvpView<'_> {
     }
 }
 
-fn number_of(field: Field<'_>) -> Option<u32> {
-    match field {
-        Field::Number(number) => Some(number),
-        Field::Identity(_) => None,
+#[test]
+fn each_type_has_its_value(rt: HostRuntime) -> Result<(), Fail> {
+    let dictionary = Dictionary::base(rt.alloc())?;
+    // CC-Request-Number, CC-Request-Type, Event-Timestamp, CC-Total-Octets.
+    for code in [415, 416, 55] {
+        let read = dictionary.typed(&view(code, true, &[0, 1, 0, 2]))?;
+        assert_eq!(rt; read, Field::Number(65_538));
     }
+    let total = dictionary.typed(&view(421, true, &[0, 0, 0, 1, 0, 0, 0, 0]))?;
+    assert_eq!(rt; total, Field::Number64(4_294_967_296));
+    // Session-Id, Origin-Host.
+    let session = dictionary.typed(&view(263, true, b"c1;\xc3\xa9"))?;
+    assert_eq!(rt; session, Field::Text("c1;\u{e9}"));
+    let host = dictionary.typed(&view(264, true, b"a.example"))?;
+    assert_eq!(rt; host, Field::Identity(b"a.example"));
+    // Host-IP-Address: 10.0.0.1, and family 8, E.164.
+    let address = dictionary.typed(&view(257, true, &[0, 1, 10, 0, 0, 1]))?;
+    assert_eq!(rt; address, Field::Address(Address::V4([10, 0, 0, 1])));
+    let number = dictionary.typed(&view(257, true, &[0, 8, 0x34]))?;
+    let e164 = Address::Other {
+        family: 8,
+        octets: &[0x34],
+    };
+    assert_eq!(rt; number, Field::Address(e164));
+    // Subscription-Id with Subscription-Id-Type 0, Failed-AVP with octets that are no AVP.
+    let inner = [0, 0, 1, 0xc2, 0x40, 0, 0, 12, 0, 0, 0, 0];
+    let group = dictionary.typed(&view(443, true, &inner))?;
+    assert_eq!(rt; group, Field::Group(&inner));
+    let failed = dictionary.typed(&view(279, true, &[0xff]))?;
+    assert_eq!(rt; failed, Field::Octets(&[0xff]));
+    Ok(())
 }
 
 #[test]
-fn typed_reads_by_kind(rt: HostRuntime) -> Result<(), Fail> {
-    let dictionary = Dictionary::base(rt.alloc())?;
-    let read = [
-        (278, [0, 1, 0, 2].as_slice(), Some(65_538)),
-        (264, b"a.example".as_slice(), None),
-    ];
-    for (code, octets, number) in read {
-        let field = dictionary.typed(&view(code, true, octets))?;
-        assert_eq!(rt; number_of(field), number);
+fn data_that_a_type_does_not_have_is_a_fault(rt: HostRuntime) -> Result<(), Fail> {
+    let alloc = rt.alloc();
+    let dictionary = Dictionary::base(alloc)?;
+    let mut many = Vec::new(alloc);
+    for _ in 0..128 {
+        many.extend_from_slice(&[0, 0, 0, 1, 0, 0, 0, 8])?;
     }
+    many.push(0)?;
     let faulty = [
-        (278, true, b"123".as_slice(), DictFault::BadLength),
-        (296, true, [0x61, 0x80].as_slice(), DictFault::BadValue),
-        (999, false, b"".as_slice(), DictFault::Unknown),
-        (999, true, b"".as_slice(), DictFault::UnknownMandatory),
+        (415, true, b"123".as_slice(), DictFault::BadLength),
+        (421, true, b"1234".as_slice(), DictFault::BadLength),
+        (263, true, [0x63, 0xc3].as_slice(), DictFault::BadValue),
+        (264, true, [0x61, 0x80].as_slice(), DictFault::BadValue),
+        (257, true, [0, 1, 10, 0, 0].as_slice(), DictFault::BadLength),
+        (
+            257,
+            true,
+            [0, 2, 10, 0, 0, 1].as_slice(),
+            DictFault::BadLength,
+        ),
+        (443, true, [0, 0, 1, 0xc2].as_slice(), DictFault::BadLength),
+        (443, true, many.as_slice(), DictFault::BadValue),
+        (9999, false, b"".as_slice(), DictFault::Unknown),
+        (9999, true, b"".as_slice(), DictFault::UnknownMandatory),
     ];
     for (code, mandatory, octets, fault) in faulty {
         let refused = dictionary.typed(&view(code, mandatory, octets)).err();
-        assert_eq!(rt; refused, Some(fault));
+        assert_eq!(rt; refused, Some(fault), "{code}");
     }
     Ok(())
 }

@@ -11,7 +11,7 @@ use std::marker::Model;
 
 /// Takes the octets of a stream in any pieces and gives its messages (RFC 6733 section 3).
 ///
-/// In: `feed`. Out: `next_frame`. Look: `rest_len`. The feed that finds a fault keeps the frames
+/// In: `feed`. Out: `next_frame`. Looks: `rest`, `rest_len`. The feed that finds a fault keeps the frames
 /// before it, which are still handed out.
 #[derive(Drop)]
 pub struct Framer {
@@ -95,6 +95,13 @@ impl Framer {
             → Holds self.old limit handed stream → Holds self.new limit (handed ++ m ∷ []) stream) }
     {
         self.waiting.pop_front()
+    }
+
+    /// The octets behind the last whole message, and no others. Takes no memory.
+    pub fn rest(&self) -> &[u8]
+        ensures { result.now ≡ self.now.rest }
+    {
+        self.rest.as_slice()
     }
 
     /// How many octets are held that are no whole message. Takes no memory.

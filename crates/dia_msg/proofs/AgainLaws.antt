@@ -1,34 +1,47 @@
 -- The spelling of a command that was read is read as that command.
-use Rattle.std.proofs.Common.{◌≡◌, ℕ, zero, suc, ◌+◌, ◌-◌, ◌%◌, ◌<◌, ◌≤◌, ◌^◌, Bool, true, false, List, [], ◌∷◌, ◌++◌, length, drop, map, Option, Some, Result, Ok, Err, All, refl, sym, ap, subst, ◌∙◌, arith, inl}
-use Rattle.std.specs.Prelude.{slice_index, IfSome, IfOk}
+use Rattle.std.proofs.Common.{◌≡◌, ◌==◌, ◌&&◌, ◌||◌, ℕ, zero, suc, ◌+◌, ◌-◌, ◌*◌, ◌/◌, ◌%◌, ◌<◌, ◌≤◌, ◌^◌, Bool, true, false, not, List, [], ◌∷◌, ◌++◌, length, drop, map, filter, Option, None, Some, Result, Ok, Err, All, refl, sym, ap, subst, ◌∙◌, arith}
+use Rattle.std.specs.Prelude.{if◌then◌else◌, slice_index, slice_get, IfOk, sum_by}
+use Rattle.std.specs.List.{flat_map}
+use Rattle.std.specs.Option.{option_map, option_map_or}
 use Rattle.std.proofs.lemmas.List.{length-append, length-drop}
 use Rattle.std.proofs.lemmas.List.Concat.{length-flat_map}
 use Rattle.std.proofs.lemmas.List.Elements.{All-nil, All-cons}
-use Rattle.byteorder.specs.Endian.{big_bytes}
+use Rattle.std.proofs.lemmas.List.Sums.{sum_by-cons}
 use Rattle.byteorder.specs.Numbers.{big_number-reads_back}
 use Rattle.dia_avp.specs.declared.avp.Avp.{Avp}
-use Rattle.dia_avp.specs.Spelling.{padded, vendor_id, length_of, header, spelled, spelling}
-use Rattle.dia_avp.specs.Avps.{has_flag, vendor_of, IsVendor, AvpThen, AvpsThen, Avps}
+use Rattle.dia_avp.specs.Reading.{avps_in}
+use Rattle.dia_avp.specs.Spelling.{padded, length_of, spelled, spelling}
 use Rattle.dia_avp.specs.Writing.{HasNumbers, NoZeroVendor}
 use Rattle.dia_avp.proofs.Bytes.{IsBytes, IsBytes-drop, big_number_4-lt, big_number_3-lt}
-use Rattle.dia_avp.proofs.Spelled.{length_spelled, Avps-spelling}
+use Rattle.dia_avp.proofs.PartLaws.{avps_in-numbers, avps_in-not_zero, avps_in-bytes, avps_in-short, avps_in-spelling, avps_in-room}
+use Rattle.dia_avp.proofs.Spelled.{length_spelled}
 use Rattle.dia_dict.specs.declared.definition.Definition.{Definition}
+use Rattle.dia_dict.specs.Dictionary.{known, definition_of}
+use Rattle.dia_tree.specs.declared.fault.MsgFault.{MsgFault}
+use Rattle.dia_tree.specs.Faults.{group_faults, missing_fault, IsGood}
+use Rattle.dia_tree.specs.Normal.{normal}
+use Rattle.dia_tree.proofs.FaultLaws.{each_good, few, good_octets}
+use Rattle.dia_tree.proofs.NormalLaws.{normals_good, normals_numbers, normals_not_zero, normals_room, normals_again}
 use Rattle.dia_msg.specs.declared.command.Command.{Command}
-use Rattle.dia_msg.specs.declared.command.Command.TheVariants.{Dwr}
 use Rattle.dia_msg.specs.declared.fault.MsgError.{MsgError}
-use Rattle.dia_msg.specs.declared.rules.CommandKind.{CommandKind}
-use Rattle.dia_msg.specs.declared.rules.Rule.{Rule}
 use Rattle.dia_msg.specs.declared.header.Flags.{Flags}
 use Rattle.dia_msg.specs.declared.header.Header.{Header}
+use Rattle.dia_msg.specs.declared.rules.CommandKind.{CommandKind}
+use Rattle.dia_msg.specs.declared.rules.CommandKind.TheVariants as kinds
+use Rattle.dia_msg.specs.declared.rules.Rule.{Rule}
 use Rattle.dia_msg.specs.Header.{header_in, header_octets, flags_in, flags_octet}
-use Rattle.dia_msg.specs.Command.{kind_of, header_of, fields, rest_of, avps_of, with_length}
-use Rattle.dia_msg.specs.Rules.{kind_coded, rules_of, missing}
+use Rattle.dia_msg.specs.Command.{kind_of, header_of, fields, rest_of, avps_of, made, number_in, with_length}
+use Rattle.dia_msg.specs.Rules.{kind_coded, application_of, rules_of, is_coded, first_of, taken, groups, untaken, missing}
 use Rattle.dia_msg.specs.Spelling.{message_len, spell}
-use Rattle.dia_msg.specs.Faults.{kind_in, rules_in, header_faults, avps_faults, left_faults, missing_fault}
+use Rattle.dia_msg.specs.Faults.{kind_in, header_faults, whole_avps, has_event_type, is_event, has_failed, is_complete, read_as, kind_read, rules_in, faults}
 use Rattle.dia_msg.specs.Reading.{Means, IsReading, IsReadAgain, UnlessNoMemory}
-use Rattle.dia_msg.proofs.FaultlessLaws.{none_both, SoundHeader, sound_header, SoundLength, sound_length, length-good, header-faultless, IsGood, each_good, good_each, nothing_left, map_none, sum_by-ones}
-use Rattle.dia_msg.proofs.SpreadLemmas.{spread, spread-is, spread-All, spread-sum, groups-spread, untaken-spread, missing-spread}
-use Rattle.dia_msg.proofs.WriteLemmas.{length-spell, spelling-fours, short_each}
+use Rattle.dia_msg.proofs.FaultlessLaws.{none_both, SoundHeader, sound_header, SoundLength, sound_length, length-good, header-faultless}
+use Rattle.dia_msg.proofs.SpreadLemmas.{spread, spread-is, spread-All, spread-sum, coded-spread, taken-spread, groups-spread, untaken-spread}
+use Rattle.dia_msg.proofs.MapLemmas.{untaken-each, spread-each, missing-same, missing-each}
+use Rattle.dia_msg.proofs.FieldLemmas.{IsPlain, plain_same, normal_keeps}
+use Rattle.dia_msg.proofs.KindLemmas.{made_again, kind_of-made, header_of-made, rest_of-made, with_length-made, distinct, kind_of-with_length, fields-with_length}
+use Rattle.dia_msg.proofs.ReadingLaws.{source, kind_read-is, rules_in-is, all_none}
+use Rattle.dia_msg.proofs.WriteLemmas.{length-spell, spell-whole}
 
 -- the flags that were written are read
 flags_again : (r p e t : Bool) → let f : Flags = record { request = r; proxiable = p; error = e; retransmitted = t } in flags_in (flags_octet f) ≡ f
@@ -56,18 +69,18 @@ pub record HasFields (h : Header) : Type 0 where
   pub hop_by_hop : h.hop_by_hop < 2 ^ 32
   pub end_to_end : h.end_to_end < 2 ^ 32
 
-made : ℕ → Flags → ℕ → ℕ → ℕ → ℕ → Header
-made l f c a p e = record { length = l; flags = f; command = c; application = a; hop_by_hop = p; end_to_end = e }
+header_made : ℕ → Flags → ℕ → ℕ → ℕ → ℕ → Header
+header_made l f c a p e = record { length = l; flags = f; command = c; application = a; hop_by_hop = p; end_to_end = e }
 
-same_made : (l m : ℕ) (f g : Flags) (c d a b p q e t : ℕ) → l ≡ m → f ≡ g → c ≡ d → a ≡ b → p ≡ q → e ≡ t → made l f c a p e ≡ made m g d b q t
-same_made l m f g c d a b p q e t i j k o u v = rw (i, j, k, o, u, v) refl
+same_header : (l m : ℕ) (f g : Flags) (c d a b p q e t : ℕ) → l ≡ m → f ≡ g → c ≡ d → a ≡ b → p ≡ q → e ≡ t → header_made l f c a p e ≡ header_made m g d b q t
+same_header l m f g c d a b p q e t i j k o u v = rw (i, j, k, o, u, v) refl
 
 -- the header that was written is read
 pub header_again : (h : Header) (n : ℕ) (s : List ℕ) → HasFields h → n < 2 ^ 24 → header_in (header_octets h n ++ s) ≡ record h { length = n }
-unfolding made
+unfolding header_made
 header_again h n s fits short =
     let x = header_octets h n ++ s in
-    same_made _ n _ h.flags _ h.command _ h.application _ h.hop_by_hop _ h.end_to_end
+    same_header _ n _ h.flags _ h.command _ h.application _ h.hop_by_hop _ h.end_to_end
     (big_number-reads_back 3 n (drop 4 x) short)
     (flags_again h.flags.request h.flags.proxiable h.flags.error h.flags.retransmitted)
     (big_number-reads_back 3 h.command (drop 8 x) fits.command)
@@ -84,124 +97,28 @@ HasFields-header_in octets fits = record {
   end_to_end = big_number_4-lt (drop 16 octets) (IsBytes-drop 16 octets fits);
 }
 
--- the vendor of an AVP that was read
-record ReadVendor (id : List ℕ) (v : Option ℕ) : Type 0 where
-  pub no_longer : length (vendor_id v) ≤ length id
-  pub fits : IfSome v (λ n. n < 2 ^ 32)
-  pub not_zero : v ≡ Some 0 → ⊥
-
-vendor_number : (id : List ℕ) (v : Option ℕ) (n : ℕ) → n < 2 ^ 32 → id ≡ big_bytes 4 n → v ≡ vendor_of n → ReadVendor id v
-vendor_number id v zero lt e k = subst (λ (x : Option ℕ). ReadVendor id x) (sym k) (record { no_longer = omega arith; fits = tt; not_zero = λ h. cc })
-vendor_number id v (suc n) lt e k = subst (λ (x : Option ℕ). ReadVendor id x) (sym k) (record { no_longer = rw e (omega arith); fits = lt; not_zero = λ h. let z : suc n ≡ 0 = cc in omega arith })
-
-vendor_read : (b : Bool) (id : List ℕ) (v : Option ℕ) → IsVendor b id v → ReadVendor id v
-vendor_read false id v h = subst (λ (x : Option ℕ). ReadVendor id x) (sym h.1) (record { no_longer = omega arith; fits = tt; not_zero = λ e. cc })
-vendor_read true id v h = vendor_number id v h.0 h.1 h.2 h.3
-
--- an AVP that was read can be written in the octets that it had
-record Written (octets : List ℕ) (a : Avp) (rest : List ℕ) : Type 0 where
-  pub numbers : HasNumbers a
-  pub not_zero : a.vendor ≡ Some 0 → ⊥
-  pub room : length (spelled a) + length rest ≤ length octets
-  pub aligned : length rest % 4 ≡ 0
-
-written : (octets : List ℕ) (a : Avp) (rest : List ℕ) → length octets % 4 ≡ 0 → AvpThen octets a rest → Written octets a rest
-unfolding length_of
-written octets a [] fours t =
-    let v = vendor_read (has_flag 128 t.flags) t.id a.vendor t.vendor in
-    let hd = header a.code t.flags t.len in
-    let hd_len : length hd ≡ 8 = refl in
-    let all = length-append hd (t.id ++ (a.octets ++ (t.padding ++ []))) in
-    record {
-      numbers = record { code = t.code_fits; vendor = v.fits };
-      not_zero = v.not_zero;
-      room = omega (arith, length_spelled a, t.len_is, v.no_longer, ap length t.joined, all, length-append t.id (a.octets ++ (t.padding ++ [])), length-append a.octets (t.padding ++ []), length-append t.padding []);
-      aligned = refl;
-    }
-written octets a (x ∷ rest) fours t =
-    let v = vendor_read (has_flag 128 t.flags) t.id a.vendor t.vendor in
-    let hd = header a.code t.flags t.len in
-    let hd_len : length hd ≡ 8 = refl in
-    let whole = t.padding_whole (λ e. cc) in
-    let all = length-append hd (t.id ++ (a.octets ++ (t.padding ++ x ∷ rest))) in
-    let total : length octets ≡ padded t.len + length (x ∷ rest) = omega (arith, t.len_is, whole, ap length t.joined, all, length-append t.id (a.octets ++ (t.padding ++ x ∷ rest)), length-append a.octets (t.padding ++ x ∷ rest), length-append t.padding (x ∷ rest)) in
-    record {
-      numbers = record { code = t.code_fits; vendor = v.fits };
-      not_zero = v.not_zero;
-      room = omega (arith, length_spelled a, t.len_is, v.no_longer, total);
-      aligned = omega (arith, total);
-    }
-
--- so can all AVPs of octets
-pub record AllWritten (octets : List ℕ) (list : List Avp) : Type 0 where
-  pub numbers : All HasNumbers list
-  pub not_zero : NoZeroVendor list
-  pub room : length (spelling list) ≤ length octets
-
-pub all_written : (octets : List ℕ) (list : List Avp) → length octets % 4 ≡ 0 → Avps octets list → AllWritten octets list
-all_written octets [] fours h = record { numbers = All-nil HasNumbers; not_zero = All-nil (λ a. a.vendor ≡ Some 0 → ⊥); room = omega arith }
-all_written octets (a ∷ list) fours h =
-    let one = written octets a h.0 fours h.1 in
-    let next = all_written h.0 list one.aligned h.2 in
-    let both : length (spelling (a ∷ list)) ≡ length (spelled a) + length (spelling list) = length-append (spelled a) (spelling list) in
-    record {
-      numbers = All-cons HasNumbers a list one.numbers next.numbers;
-      not_zero = All-cons (λ b. b.vendor ≡ Some 0 → ⊥) a list one.not_zero next.not_zero;
-      room = omega (arith, one.room, next.room, both);
-    }
-
-abbrev with_field : Header → ℕ → Header
-with_field h n = record h { length = n }
-
--- the length field aside nothing of a command is changed
-pub header_of-with_length : (n : ℕ) (c : Command) → header_of (with_length n c) ≡ record (header_of c) { length = n }
-header_of-with_length n (Dwr d) = refl
-
-pub kind_of-with_length : (n : ℕ) (c : Command) → kind_of (with_length n c) ≡ kind_of c
-kind_of-with_length n (Dwr d) = refl
-
-pub fields-with_length : (n : ℕ) (c : Command) → fields (with_length n c) ≡ fields c
-fields-with_length n (Dwr d) = refl
-
-pub rest_of-with_length : (n : ℕ) (c : Command) → rest_of (with_length n c) ≡ rest_of c
-rest_of-with_length n (Dwr d) = refl
-
--- the parts of a command that was read
-record Parts (definitions : List Definition) (octets : List ℕ) (c : Command) : Type 0 where
-  pub list : List Avp
-  pub whole : Avps (drop 20 octets) list
-  pub means : Means octets list c
-  pub header_sound : SoundHeader octets
-  pub avps_good : avps_faults definitions 0 list ≡ []
-  pub complete : missing (rules_of (kind_of c)) list ≡ []
-
-parts : (definitions : List Definition) (octets : List ℕ) (c : Command) → IsReading definitions octets (Ok c) → Parts definitions octets c
-parts definitions octets c r =
-    let gone = map (missing_fault definitions) (missing (rules_in octets) r.list) in
-    let a = none_both (header_faults octets) (avps_faults definitions 0 r.list ++ (left_faults definitions r.left ++ gone)) r.answered.0 in
-    let b = none_both (avps_faults definitions 0 r.list) (left_faults definitions r.left ++ gone) a.1 in
-    let d = none_both (left_faults definitions r.left) gone b.1 in
-    let end = nothing_left definitions r.left d.0 in
-    let none = map_none (missing_fault definitions) (missing (rules_in octets) r.list) d.1 in
-    record {
-      list = r.list;
-      whole = subst (λ (o : List ℕ). AvpsThen (drop 20 octets) r.list o) end r.avps.whole;
-      means = r.answered.1;
-      header_sound = sound_header octets a.0;
-      avps_good = b.0;
-      complete = rw r.answered.1.kind at none;
-    }
-
--- as it is written it has the same AVPs, in the order of its rules
-avps_of-spread : (octets : List ℕ) (list : List Avp) (c : Command) → Means octets list c → avps_of c ≡ spread (rules_of (kind_of c)) list
-avps_of-spread octets list c m = rw (m.fields_are, m.rest_is) (spread-is (rules_of (kind_of c)) list)
+-- no AVP of a list is longer than the list's spelling
+short_each : (list : List Avp) (n : ℕ) → length (spelling list) < n → All (λ a. length_of a < n) list
+short_each [] n short = All-nil (λ a. length_of a < n)
+short_each (a ∷ list) n short =
+    let all : length (spelling (a ∷ list)) ≡ length (spelled a) + length (spelling list) = length-append (spelled a) (spelling list) in
+    All-cons (λ x. length_of x < n) a list (omega (arith, length_spelled a)) (short_each list n (omega arith))
 
 length-spelling-spread : (rules : List Rule) (list : List Avp) → length (spelling (spread rules list)) ≡ length (spelling list)
 length-spelling-spread rules list =
     length-flat_map spelled (spread rules list) ∙ spread-sum (λ a. length (spelled a)) rules list ∙ sym (length-flat_map spelled list)
 
+-- how many there are, as a sum
+sum_by-ones : (list : List Avp) → sum_by (λ a. 1) list ≡ length list
+sum_by-ones [] = refl
+sum_by-ones (a ∷ list) = omega (arith, sum_by-cons (λ (x : Avp). 1) a list, sum_by-ones list)
+
 length-spread : (rules : List Rule) (list : List Avp) → length (spread rules list) ≡ length list
 length-spread rules list = sym (sum_by-ones (spread rules list)) ∙ spread-sum (λ a. 1) rules list ∙ sum_by-ones list
+
+length-each : (f : Avp → Avp) (list : List Avp) → length (map f list) ≡ length list
+length-each f [] = refl
+length-each f (a ∷ list) = rw (length-each f list) refl
 
 spell-body : (c : Command) → drop 20 (spell c) ≡ spelling (avps_of c)
 unfolding spell
@@ -215,85 +132,267 @@ spell-version : (c : Command) → slice_index (spell c) 0 ≡ 1
 unfolding spell
 spell-version c = refl
 
+-- a command that was read, with the kind and the rules by which it was
+record Parts (x : List Definition) (octets : List ℕ) (c : Command) : Type 0 where
+  pub header_sound : header_faults octets ≡ []
+  pub good : group_faults (known x) (is_event octets) 5 (drop 20 octets) ≡ []
+  pub complete : missing (rules_in octets) (whole_avps octets) ≡ []
+  pub means : Means (known x) octets c
+
+map_none : (g : Rule → MsgFault) (rules : List Rule) → map g rules ≡ [] → rules ≡ []
+map_none g [] e = refl
+map_none g (r ∷ rules) e = let k : g r ∷ map g rules ≡ [] = e in absurd cc
+
+parts : (x : List Definition) (octets : List ℕ) (c : Command) → IsReading (known x) octets (Ok c) → Parts x octets c
+parts x octets c r =
+    let g : Rule → MsgFault = λ q. missing_fault (known x) q.code in
+    let gone = map g (missing (rules_in octets) (whole_avps octets)) in
+    let a = none_both (header_faults octets) (group_faults (known x) (is_event octets) 5 (drop 20 octets) ++ gone) r.0 in
+    let b = none_both (group_faults (known x) (is_event octets) 5 (drop 20 octets)) gone a.1 in
+    record { header_sound = a.0; good = b.0; complete = map_none g (missing (rules_in octets) (whole_avps octets)) b.1; means = r.1 }
+
+-- the AVPs as they are written: of a kind, of these AVPs
+abbrev written : List Definition → CommandKind → Bool → List Avp → List Avp
+written d kind e list = spread (rules_of kind e) (map (normal d 4) list)
+
+-- a command that was read: its header, its rules, its AVPs
+record Shape (x : List Definition) (octets : List ℕ) (c : Command) : Type 0 where
+  pub rules_are : rules_in octets ≡ rules_of (kind_of c) (is_event octets)
+  pub header_is : header_of c ≡ header_in octets
+  pub avps_are : avps_of c ≡ written (known x) (kind_of c) (is_event octets) (whole_avps octets)
+
+abbrev joined : List (List Avp) → List Avp → List Avp
+joined g rest = flat_map (λ group. group) g ++ rest
+
+shape : (x : List Definition) (octets : List ℕ) (c : Command) → Means (known x) octets c → Shape x octets c
+shape x octets c m =
+    let d = known x in
+    let kind = kind_of c in
+    let list = whole_avps octets in
+    let normals = map (normal d 4) list in
+    let rules = rules_of kind (is_event octets) in
+    let rules_are : rules_in octets ≡ rules = rules_in-is octets kind m.kind in
+    let g = groups (rules_in octets) list in
+    let rest = map (normal d 4) (untaken (rules_in octets) list) in
+    let rest_is : rest_of c ≡ untaken rules normals =
+    ap rest_of m.is_made ∙ rest_of-made kind d (header_in octets) g rest ∙ ap (λ (rs : List Rule). map (normal d 4) (untaken rs list)) rules_are ∙ sym (untaken-each (normal d 4) rules list (normal_keeps d 4)) in
+    let fields_are : fields c ≡ groups rules normals = m.fields_are ∙ ap (λ (rs : List Rule). groups rs normals) rules_are in
+    record {
+      rules_are = rules_are;
+      header_is = ap header_of m.is_made ∙ header_of-made kind d (header_in octets) g rest;
+      avps_are =
+          ap (λ (fs : List (List Avp)). joined fs (rest_of c)) fields_are ∙ ap (joined (groups rules normals)) rest_is ∙ spread-is rules normals (distinct kind (is_event octets));
+    }
+
 -- what was read is no longer as it is written
-fits_again : (octets : List ℕ) (list : List Avp) (c : Command) → IsBytes octets → SoundLength octets → Avps (drop 20 octets) list → Means octets list c → message_len c < 2 ^ 24
-fits_again octets list c fits s whole m =
+fits_again : (x : List Definition) (octets : List ℕ) (c : Command) → IsBytes octets → SoundLength octets → Shape x octets c → message_len c < 2 ^ 24
+fits_again x octets c fits s shape =
+    let body = drop 20 octets in
+    let bytes = IsBytes-drop 20 octets fits in
+    let list = whole_avps octets in
+    let rules = rules_of (kind_of c) (is_event octets) in
     let short : (header_in octets).length < 2 ^ 24 = big_number_3-lt (drop 1 octets) (IsBytes-drop 1 octets fits) in
-    let body : length (drop 20 octets) ≡ length octets - 20 = length-drop 20 octets in
-    let w = all_written (drop 20 octets) list (omega (arith, s.aligned, s.has_header)) whole in
-    omega (arith, short, s.own, s.has_header, w.room, ap (λ (l : List Avp). length (spelling l)) (avps_of-spread octets list c m), length-spelling-spread (rules_of (kind_of c)) list)
+    let body_len : length body ≡ length octets - 20 = length-drop 20 octets in
+    let room = avps_in-room body bytes in
+    let normal_room = normals_room (known x) 4 list (avps_in-bytes body bytes) in
+    let same = length-spelling-spread rules (map (normal (known x) 4) list) in
+    omega (arith, short, s.own, s.has_header, s.aligned, body_len, room, normal_room, same, ap (λ (l : List Avp). length (spelling l)) shape.avps_are)
+
+abbrev some_kind : CommandKind → Option CommandKind
+some_kind k = Some k
+
+abbrev application_bad : Header → Bool
+application_bad h = not (h.application == application_of h.command)
 
 -- the header of the spelling
 record SpelledHeader (octets : List ℕ) (c : Command) : Type 0 where
-  pub header_is : header_in (spell c) ≡ record (header_of c) { length = message_len c }
-  pub known : kind_in (spell c) ≡ Some (kind_of c)
+  pub header_is : header_in (spell c) ≡ record (header_in octets) { length = message_len c }
+  pub known_by : kind_in (spell c) ≡ kind_in octets
   pub none : header_faults (spell c) ≡ []
+
+abbrev with_field : ℕ → Header → Header
+with_field n h = record h { length = n }
 
 abbrev kind_by : Header → Option CommandKind
 kind_by h = kind_coded h.command h.flags.request
 
-spelled_header : (octets : List ℕ) (c : Command) → IsBytes octets → SoundHeader octets → header_of c ≡ header_in octets → kind_in octets ≡ Some (kind_of c) → message_len c < 2 ^ 24 → SpelledHeader octets c
+some_known : (octets : List ℕ) (o : Option CommandKind) (kind : CommandKind) (f : CommandKind → CommandKind) → o ≡ kind_in octets → option_map f o ≡ Some kind → (k : CommandKind) × (kind_in octets ≡ Some k)
+some_known octets None kind f e h = absurd cc
+some_known octets (Some k) kind f e h = (k, sym e)
+
+spelled_header : (octets : List ℕ) (c : Command) → IsBytes octets → SoundHeader octets → header_of c ≡ header_in octets → ((k : CommandKind) × (kind_in octets ≡ Some k)) → message_len c < 2 ^ 24 → SpelledHeader octets c
 spelled_header octets c fits sound is kind short =
-    let x = spell c in
-    let header_is = spell-header c (subst (λ (h : Header). HasFields h) (sym is) (HasFields-header_in octets fits)) short in
-    let known : kind_in x ≡ Some (kind_of c) = ap kind_by header_is ∙ ap kind_by is ∙ kind in
-    let application : (header_in x).application ≡ (header_in octets).application = ap (λ (h : Header). h.application) header_is ∙ ap (λ (h : Header). h.application) is in
-    let len = length-spell c in
-    let own : (header_in x).length ≡ length x = ap (λ (h : Header). h.length) header_is ∙ sym len in
-    let fours = spelling-fours (avps_of c) in
-    let good = length-good x (omega arith) own (omega (arith, fours.1)) in
-    let fit = rw kind at sound.application_good in
-    record { header_is = header_is; known = known; none = header-faultless x (kind_of c) good (spell-version c) known (rw application fit) }
+    let s = spell c in
+    let n = message_len c in
+    let header_is : header_in s ≡ with_field n (header_in octets) =
+    spell-header c (subst (λ (h : Header). HasFields h) (sym is) (HasFields-header_in octets fits)) short ∙ ap (with_field n) is in
+    let known_by : kind_in s ≡ kind_in octets = ap kind_by header_is in
+    let application : application_bad (header_in s) ≡ application_bad (header_in octets) = ap application_bad header_is in
+    let w = spell-whole c short in
+    let good = length-good s w.has_header w.length_is w.aligned in
+    record { header_is = header_is; known_by = known_by; none = header-faultless s kind.0 good w.version (known_by ∙ kind.1) (application ∙ sound.application_good) }
 
 -- the AVPs of the spelling are those that were read, in the order of the rules
-spelled_avps : (octets : List ℕ) (list : List Avp) (c : Command) → length (drop 20 octets) % 4 ≡ 0 → Avps (drop 20 octets) list → Means octets list c → message_len c < 2 ^ 24 → Avps (drop 20 (spell c)) (spread (rules_of (kind_of c)) list)
-spelled_avps octets list c fours whole m short =
-    let rules = rules_of (kind_of c) in
-    let written = spread rules list in
-    let is = avps_of-spread octets list c m in
-    let w = all_written (drop 20 octets) list fours whole in
-    let fit : length (spelling written) < 2 ^ 24 = omega (arith, short, ap (λ (l : List Avp). length (spelling l)) is) in
-    subst (λ (o : List ℕ). Avps o written) (sym (spell-body c ∙ ap spelling is))
-    (Avps-spelling written (spread-All HasNumbers rules list w.numbers) (short_each written (2 ^ 24) fit) (spread-All (λ a. a.vendor ≡ Some 0 → ⊥) rules list w.not_zero))
+abbrev Parted : Type 0
+Parted = List Avp × List ℕ
 
--- and have no fault
-spread_good : (definitions : List Definition) (rules : List Rule) (list : List Avp) → avps_faults definitions 0 list ≡ [] → avps_faults definitions 0 (spread rules list) ≡ []
-spread_good definitions rules list e =
-    let each = each_good definitions 0 list (omega arith) e in
-    good_each definitions 0 (spread rules list) (spread-All (IsGood definitions) rules list each.0) (omega (arith, each.1, length-spread rules list))
+spelled_avps : (x : List Definition) (octets : List ℕ) (c : Command) → IsBytes octets → Shape x octets c → message_len c < 2 ^ 24 → avps_in (drop 20 (spell c)) ≡ (written (known x) (kind_of c) (is_event octets) (whole_avps octets), [])
+spelled_avps x octets c fits shape short =
+    let d = known x in
+    let body = drop 20 octets in
+    let bytes = IsBytes-drop 20 octets fits in
+    let rules = rules_of (kind_of c) (is_event octets) in
+    let list = whole_avps octets in
+    let normals = map (normal d 4) list in
+    let w = spread rules normals in
+    let fit : length (spelling w) < 2 ^ 24 = omega (arith, short, ap (λ (l : List Avp). length (spelling l)) shape.avps_are) in
+    ap avps_in (spell-body c ∙ ap spelling shape.avps_are)
+    ∙ avps_in-spelling w (spread-All HasNumbers rules normals (normals_numbers d 4 list (avps_in-numbers body bytes))) (short_each w (2 ^ 24) fit)
+    (spread-All (λ a. a.vendor ≡ Some 0 → ⊥) rules normals (normals_not_zero d 4 list (avps_in-not_zero body bytes)))
 
-with_own_length : (c : Command) (n m : ℕ) → n ≡ m → header_of (with_length n c) ≡ record (header_of c) { length = m }
-with_own_length c n m e = header_of-with_length n c ∙ ap (λ (k : ℕ). with_field (header_of c) k) e
+-- those of a code that is no group's are the same
+stays : (x : List Definition) (rules : List Rule) (list : List Avp) (code : ℕ) → IsPlain (known x) code → filter (is_coded code) (spread rules (map (normal (known x) 4) list)) ≡ filter (is_coded code) list
+stays x rules list code plain = coded-spread code rules (map (normal (known x) 4) list) ∙ plain_same (known x) code list plain
 
-spell_again : (definitions : List Definition) (octets : List ℕ) (c : Command) → IsBytes octets → Parts definitions octets c → IsReadAgain definitions c
-spell_again definitions octets c fits p =
-    let m = p.means in
-    let x = spell c in
-    let rules = rules_of (kind_of c) in
-    let written = spread rules p.list in
-    let sound = sound_length octets p.header_sound.length_good in
-    let fours : length (drop 20 octets) % 4 ≡ 0 = omega (arith, sound.aligned, sound.has_header, length-drop 20 octets) in
-    let short = fits_again octets p.list c fits sound p.whole m in
-    let h = spelled_header octets c fits p.header_sound m.header m.kind short in
-    let whole = spelled_avps octets p.list c fours p.whole m short in
-    let complete : missing rules written ≡ [] = missing-spread rules p.list ∙ p.complete in
-    let own = kind_of-with_length (length x) c in
+missing_stays : (x : List Definition) (others rules : List Rule) (list : List Avp) → missing others (spread rules (map (normal (known x) 4) list)) ≡ missing others list
+missing_stays x others rules list =
+    let d = known x in
+    let normals = map (normal d 4) list in
+    missing-same others (spread rules normals) normals (λ r. ap length (taken-spread r rules normals)) ∙ missing-each (normal d 4) others list (normal_keeps d 4)
+
+abbrev event_by : List Avp → Bool
+event_by coded = option_map_or (λ a. (number_in a).value == 4) (slice_get coded 0) false
+
+abbrev failed_by : List Avp → Bool
+failed_by coded = option_map_or (λ a. not ((number_in a).value / 1000 == 2)) (slice_get coded 0) false
+
+abbrev as_read : Bool → Bool → Flags → CommandKind → CommandKind
+as_read failed complete flags kind = if not flags.request && (flags.error || (failed && not complete)) then kinds.ErrorAnswer else kind
+
+read_stays : (x : List Definition) (rules : List Rule) (list : List Avp) (flags : Flags) (kind : CommandKind) → read_as kind flags (spread rules (map (normal (known x) 4) list)) ≡ read_as kind flags list
+read_stays x rules list flags kind =
+    let w = spread rules (map (normal (known x) 4) list) in
+    let failed : has_failed w ≡ has_failed list = ap failed_by (stays x rules list 268 refl) in
+    let complete : is_complete kind w ≡ is_complete kind list = ap (λ (rs : List Rule). length rs == 0) (missing_stays x (rules_of kind false) rules list) in
+    ap (λ (b : Bool). as_read b (is_complete kind w) flags kind) failed ∙ ap (λ (b : Bool). as_read (has_failed list) b flags kind) complete
+
+abbrev event_from : Header → Bool → Bool
+event_from h b = (h.command == 272) && (h.flags.request && b)
+
+same_kinds : (o : Option CommandKind) (f g : CommandKind → CommandKind) → ((k : CommandKind) → f k ≡ g k) → option_map f o ≡ option_map g o
+same_kinds None f g h = refl
+same_kinds (Some k) f g h = ap some_kind (h k)
+
+abbrev read_by : Flags → List Avp → CommandKind → CommandKind
+read_by flags list k = read_as k flags list
+
+-- the spelling is the message of the same kind, by the same rules
+record Respelled (x : List Definition) (octets : List ℕ) (c : Command) : Type 0 where
+  pub header : SpelledHeader octets c
+  pub avps : avps_in (drop 20 (spell c)) ≡ (written (known x) (kind_of c) (is_event octets) (whole_avps octets), [])
+  pub event : is_event (spell c) ≡ is_event octets
+  pub kind : kind_read (spell c) ≡ Some (kind_of c)
+  pub rules : rules_in (spell c) ≡ rules_of (kind_of c) (is_event octets)
+
+respelled : (x : List Definition) (octets : List ℕ) (c : Command) → Means (known x) octets c → Shape x octets c → SpelledHeader octets c
+    → avps_in (drop 20 (spell c)) ≡ (written (known x) (kind_of c) (is_event octets) (whole_avps octets), []) → Respelled x octets c
+respelled x octets c m shape h avps =
+    let s = spell c in
+    let rules = rules_of (kind_of c) (is_event octets) in
+    let list = whole_avps octets in
+    let w = written (known x) (kind_of c) (is_event octets) list in
+    let whole : whole_avps s ≡ w = ap (λ (p : Parted). p.0) avps in
+    let typed : has_event_type (whole_avps s) ≡ has_event_type list = ap has_event_type whole ∙ ap event_by (stays x rules list 416 refl) in
+    let event : is_event s ≡ is_event octets =
+    ap (λ (k : Header). event_from k (has_event_type (whole_avps s))) h.header_is ∙ ap (event_from (header_in octets)) typed in
+    let flags : (header_in s).flags ≡ (header_in octets).flags = ap (λ (k : Header). k.flags) h.header_is in
+    let kind : kind_read s ≡ Some (kind_of c) =
+    ap (option_map (read_by (header_in s).flags (whole_avps s))) h.known_by
+    ∙ same_kinds (kind_in octets) (read_by (header_in s).flags (whole_avps s)) (read_by (header_in octets).flags list)
+    (λ k. ap (λ (f : Flags). read_as k f (whole_avps s)) flags ∙ ap (λ (l : List Avp). read_as k (header_in octets).flags l) whole ∙ read_stays x rules list (header_in octets).flags k)
+    ∙ m.kind in
     record {
-      list = written;
-      left = [];
-      avps = record { whole = whole; stops = inl refl };
-      answered = (
-        rw (h.none, spread_good definitions rules p.list p.avps_good, h.known, complete) refl,
-        record {
-          header = with_own_length c (length x) (message_len c) (length-spell c) ∙ sym h.header_is;
-          kind = rw own h.known;
-          fields_are = rw own (fields-with_length (length x) c ∙ m.fields_are ∙ sym (groups-spread rules p.list));
-          rest_is = rw own (rest_of-with_length (length x) c ∙ m.rest_is ∙ sym (untaken-spread rules p.list));
-        },
-      );
+      header = h;
+      avps = avps;
+      event = event;
+      kind = kind;
+      rules = rules_in-is s (kind_of c) kind ∙ ap (λ (e : Bool). rules_of (kind_of c) e) event;
     }
 
+-- and has no fault
+spelled_good : (x : List Definition) (octets : List ℕ) (c : Command) → IsBytes octets → Parts x octets c → Shape x octets c → Respelled x octets c → faults (known x) (spell c) ≡ []
+spelled_good x octets c fits p shape r =
+    let d = known x in
+    let s = spell c in
+    let e = is_event octets in
+    let body = drop 20 octets in
+    let bytes = IsBytes-drop 20 octets fits in
+    let list = whole_avps octets in
+    let normals = map (normal d 4) list in
+    let rules = rules_of (kind_of c) e in
+    let w = spread rules normals in
+    let each = normals_good d e 4 list (avps_in-bytes body bytes) (avps_in-short body bytes) (each_good d e 4 body p.good) in
+    let many : length w ≤ 128 = omega (arith, few d e 4 body p.good, length-spread rules normals, length-each (normal d 4) list) in
+    let good : group_faults d e 5 (drop 20 s) ≡ [] = good_octets d e 4 (drop 20 s) w r.avps (spread-All (IsGood d e 4) rules normals each) many in
+    let whole : whole_avps s ≡ w = ap (λ (q : Parted). q.0) r.avps in
+    let complete : missing (rules_in s) (whole_avps s) ≡ [] =
+    ap (λ (rs : List Rule). missing rs (whole_avps s)) r.rules ∙ ap (λ (l : List Avp). missing rules l) whole ∙ missing_stays x rules rules list
+    ∙ ap (λ (rs : List Rule). missing rs list) (sym shape.rules_are) ∙ p.complete in
+    all_none (header_faults s) (group_faults d (is_event s) 5 (drop 20 s)) (map (λ q. missing_fault d q.code) (missing (rules_in s) (whole_avps s)))
+    r.header.none (subst (λ (b : Bool). group_faults d b 5 (drop 20 s) ≡ []) (sym r.event) good) (ap (λ (rs : List Rule). map (λ q. missing_fault d q.code) rs) complete)
+
+same_made : (d : List Definition) (kind other : CommandKind) (h k : Header) (g f : List (List Avp)) (rest left : List Avp) → kind ≡ other → h ≡ k → g ≡ f → rest ≡ left → made d kind h g rest ≡ made d other k f left
+same_made d kind other h k g f rest left i j e r = rw (i, j, e, r) refl
+
+spelled_means : (x : List Definition) (octets : List ℕ) (c : Command) → IsBytes octets → Parts x octets c → Shape x octets c → Respelled x octets c → Means (known x) (spell c) (with_length (length (spell c)) c)
+spelled_means x octets c fits p shape r =
+    let d = known x in
+    let s = spell c in
+    let n = length s in
+    let kind = kind_of c in
+    let e = is_event octets in
+    let body = drop 20 octets in
+    let bytes = IsBytes-drop 20 octets fits in
+    let list = whole_avps octets in
+    let f = normal d 4 in
+    let normals = map f list in
+    let rules = rules_of kind e in
+    let w = spread rules normals in
+    let whole : whole_avps s ≡ w = ap (λ (q : Parted). q.0) r.avps in
+    let own : kind_of (with_length n c) ≡ kind = kind_of-with_length n c in
+    let again : map f normals ≡ normals = normals_again d 4 list (avps_in-bytes body bytes) (avps_in-short body bytes) in
+    let rest = map f (untaken (rules_in octets) list) in
+    let left : map f (untaken (rules_in s) (whole_avps s)) ≡ rest =
+    ap (λ (rs : List Rule). map f (untaken rs (whole_avps s))) r.rules ∙ ap (λ (l : List Avp). map f (untaken rules l)) whole ∙ ap (λ (l : List Avp). map f l) (untaken-spread rules normals)
+    ∙ sym (untaken-each f rules normals (normal_keeps d 4)) ∙ ap (λ (l : List Avp). untaken rules l) again ∙ untaken-each f rules list (normal_keeps d 4)
+    ∙ ap (λ (rs : List Rule). map f (untaken rs list)) (sym shape.rules_are) in
+    let taken_again : groups (rules_in s) (whole_avps s) ≡ groups rules normals =
+    ap (λ (rs : List Rule). groups rs (whole_avps s)) r.rules ∙ ap (λ (l : List Avp). groups rules l) whole ∙ groups-spread rules rules normals in
+    let header : header_in s ≡ record (header_in octets) { length = n } = r.header.header_is ∙ ap (λ (k : ℕ). with_field k (header_in octets)) (sym (length-spell c)) in
+    let was : c ≡ made d kind (header_in octets) (groups rules list) rest = p.means.is_made ∙ ap (λ (rs : List Rule). made d kind (header_in octets) (groups rs list) rest) shape.rules_are in
+    record {
+      kind = r.kind ∙ ap some_kind (sym own);
+      is_made =
+          ap (with_length n) was ∙ with_length-made kind d (header_in octets) (groups rules list) rest n
+          ∙ sym (made_again kind x e (record (header_in octets) { length = n }) list rest (source d octets fits p.good))
+          ∙ same_made d kind (kind_of (with_length n c)) (record (header_in octets) { length = n }) (header_in s) (groups rules normals) (groups (rules_in s) (whole_avps s)) rest (map f (untaken (rules_in s) (whole_avps s)))
+          (sym own) (sym header) (sym taken_again) (sym left);
+      fields_are =
+          fields-with_length n c ∙ p.means.fields_are ∙ ap (λ (rs : List Rule). groups rs normals) shape.rules_are ∙ sym (groups-spread rules rules normals)
+          ∙ ap (λ (l : List Avp). groups rules l) (ap (λ (l : List Avp). spread rules l) (sym again) ∙ spread-each f rules normals (normal_keeps d 4) ∙ ap (λ (l : List Avp). map f l) (sym whole))
+          ∙ ap (λ (rs : List Rule). groups rs (map f (whole_avps s))) (sym r.rules);
+    }
+
+spell_again : (x : List Definition) (octets : List ℕ) (c : Command) → IsBytes octets → Parts x octets c → IsReadAgain (known x) c
+spell_again x octets c fits p =
+    let sound = sound_header octets p.header_sound in
+    let shape = shape x octets c p.means in
+    let short = fits_again x octets c fits (sound_length octets sound.length_good) shape in
+    let kind = some_known octets (kind_in octets) (kind_of c) (read_by (header_in octets).flags (whole_avps octets)) refl p.means.kind in
+    let r = respelled x octets c p.means shape (spelled_header octets c fits sound shape.header_is kind short) (spelled_avps x octets c fits shape short) in
+    (spelled_good x octets c fits p shape r, spelled_means x octets c fits p shape r)
+
 -- the spelling of what was read is read as the same command
-pub read_again : (definitions : List Definition) (octets : List ℕ) (r : Result Command MsgError) → IsBytes octets → UnlessNoMemory r (IsReading definitions octets) → IfOk r (IsReadAgain definitions)
-read_again definitions octets (Ok c) fits h = spell_again definitions octets c fits (parts definitions octets c h)
-read_again definitions octets (Err e) fits h = tt
+pub read_again : (x : List Definition) (octets : List ℕ) (r : Result Command MsgError) → IsBytes octets → UnlessNoMemory r (IsReading (known x) octets) → IfOk r (IsReadAgain (known x))
+read_again x octets (Ok c) fits h = spell_again x octets c fits (parts x octets c h)
+read_again x octets (Err e) fits h = tt

@@ -1,9 +1,11 @@
-pub mod WriteLemmas
-pub mod BuildLemmas
-pub mod RuleLemmas
-pub mod FaultLemmas
-pub mod ReadingLaws
+pub mod ViewLemmas
 pub mod SpreadLemmas
+pub mod MapLemmas
+pub mod FieldLemmas
+pub mod KindLemmas
 pub mod FaultlessLaws
+pub mod ReadingLaws
+pub mod WriteLemmas
 pub mod AgainLaws
+pub mod SpellingFacts
 pub mod StandardFacts

@@ -1,14 +1,15 @@
 -- A list that is written in the order of rules is taken apart as before.
-use Rattle.std.proofs.Common.{◌≡◌, ℕ, ◌+◌, Bool, true, false, cond, not, List, [], ◌∷◌, ◌++◌, take, filter, All, refl, ap, ◌∙◌, arith, append_assoc}
-use Rattle.std.specs.Prelude.{sum_by}
-use Rattle.std.specs.List.{flat_map}
+use Rattle.std.proofs.Common.{◌≡◌, ◌==◌, ◌&&◌, ℕ, ◌+◌, Bool, true, false, cond, not, List, [], ◌∷◌, ◌++◌, take, filter, All, refl, ap, subst, ◌∙◌, arith, append_assoc}
+use Rattle.std.specs.Prelude.{sum_by, is_none}
+use Rattle.std.specs.List.{flat_map, list_all}
+use Rattle.std.proofs.lemmas.Bool.{eqb-true}
 use Rattle.std.proofs.lemmas.List.{append-nil}
 use Rattle.std.proofs.lemmas.List.Elements.{All-nil, All-cons, All-head, All-tail, All-append, All-filter, All-take, All-weaker, filter-append, filter_passes}
 use Rattle.std.proofs.lemmas.List.Filters.{sum_by-filter_both}
 use Rattle.std.proofs.lemmas.List.Sums.{sum_by-append, sum_by-cons}
 use Rattle.dia_avp.specs.declared.avp.Avp.{Avp}
 use Rattle.dia_msg.specs.declared.rules.Rule.{Rule}
-use Rattle.dia_msg.specs.Rules.{is_for, taken, left_by, without_first, groups, untaken, missing}
+use Rattle.dia_msg.specs.Rules.{is_coded, is_for, taken, left_by, without_first, groups, untaken}
 
 abbrev Test : Type 0
 Test = Avp → Bool
@@ -38,6 +39,10 @@ without_first-All P p (a ∷ list) h = keep_or_drop P p a list (p a) refl (All-t
 took-All : (P : Avp → Type 0) (several : Bool) (p : Test) (list : List Avp) → All P list → All P (took several p list)
 took-All P true p list h = All-filter p P list h
 took-All P false p list h = All-take P 1 (filter p list) (All-filter p P list h)
+
+took-Passes : (several : Bool) (p : Test) (list : List Avp) → Passes p (took several p list)
+took-Passes true p list = filter_passes p list
+took-Passes false p list = All-take (λ a. p a ≡ true) 1 (filter p list) (filter_passes p list)
 
 leaves-All : (P : Avp → Type 0) (several : Bool) (p : Test) (list : List Avp) → All P list → All P (leaves several p list)
 leaves-All P true p list h = All-filter (λ a. not (p a)) P list h
@@ -115,12 +120,11 @@ abbrev pub spread : List Rule → List Avp → List Avp
 spread [] list = list
 spread (r ∷ rules) list = taken r list ++ spread rules (left_by r list)
 
-pub spread-is : (rules : List Rule) (list : List Avp) → flat_map (λ group. group) (groups rules list) ++ untaken rules list ≡ spread rules list
-spread-is [] list = refl
-spread-is (r ∷ rules) list =
-    append_assoc (taken r list) (flat_map (λ group. group) (groups rules (left_by r list))) (untaken rules (left_by r list)) ∙ ap (λ (l : List Avp). taken r list ++ l) (spread-is rules (left_by r list))
+-- what holds of each AVP holds of each that is left, and of each as written
+pub untaken-All : (P : Avp → Type 0) (rules : List Rule) (list : List Avp) → All P list → All P (untaken rules list)
+untaken-All P [] list h = h
+untaken-All P (r ∷ rules) list h = untaken-All P rules (left_by r list) (leaves-All P r.several (is_for r) list h)
 
--- what holds of each AVP holds of each as written
 pub spread-All : (P : Avp → Type 0) (rules : List Rule) (list : List Avp) → All P list → All P (spread rules list)
 spread-All P [] list h = h
 spread-All P (r ∷ rules) list h =
@@ -135,19 +139,110 @@ spread-sum f (r ∷ rules) list =
 rule_again : (r : Rule) (rules : List Rule) (list : List Avp) → (taken r (spread (r ∷ rules) list) ≡ taken r list) × (left_by r (spread (r ∷ rules) list) ≡ spread rules (left_by r list))
 rule_again r rules list = again r.several (is_for r) list (spread rules (left_by r list)) (λ fails. spread-All (λ a. is_for r a ≡ false) rules (left_by r list) fails)
 
--- as written, the rules take the same
-pub groups-spread : (rules : List Rule) (list : List Avp) → groups rules (spread rules list) ≡ groups rules list
-groups-spread [] list = refl
-groups-spread (r ∷ rules) list =
-    let e = rule_again r rules list in
-    rw (e.0, e.1) (ap (λ (l : List (List Avp)). taken r list ∷ l) (groups-spread rules (left_by r list)))
-
+-- as written, the rules leave the same
 pub untaken-spread : (rules : List Rule) (list : List Avp) → untaken rules (spread rules list) ≡ untaken rules list
 untaken-spread [] list = refl
 untaken-spread (r ∷ rules) list = rw (rule_again r rules list).1 (untaken-spread rules (left_by r list))
 
-pub missing-spread : (rules : List Rule) (list : List Avp) → missing rules (spread rules list) ≡ missing rules list
-missing-spread [] list = refl
-missing-spread (r ∷ rules) list =
-    let e = rule_again r rules list in
-    rw (e.0, e.1, missing-spread rules (left_by r list)) refl
+-- those that pass are those taken and those left, where the rule's test is the same
+one_own : (p : Test) (a : Avp) (list : List Avp) (b : Bool) → p a ≡ b → filter p (took false p list) ++ filter p (leaves false p list) ≡ filter p list
+    → filter p (took false p (a ∷ list)) ++ filter p (leaves false p (a ∷ list)) ≡ filter p (a ∷ list)
+one_own p a list true e next = rw (e, e) refl
+one_own p a list false e next = rw (e, e) next
+
+own : (several : Bool) (p : Test) (list : List Avp) → filter p (took several p list) ++ filter p (leaves several p list) ≡ filter p list
+own true p list =
+    rw (passes-filter p (filter p list) (filter_passes p list), fails-filter p (filter (λ a. not (p a)) list) (filter_not-fails p list)) (append-nil (filter p list))
+own false p [] = refl
+own false p (a ∷ list) = one_own p a list (p a) refl (own false p list)
+
+-- where it is another, those that pass are all left
+abbrev Apart : Test → Test → Type 0
+Apart p q = (a : Avp) → q a ≡ true → p a ≡ false
+
+keep_both : (p q : Test) (a : Avp) (list : List Avp) (b c : Bool) → p a ≡ b → q a ≡ c → Apart p q → filter p (filter (λ x. not (q x)) list) ≡ filter p list
+    → filter p (filter (λ x. not (q x)) (a ∷ list)) ≡ filter p (a ∷ list)
+keep_both p q a list true true e f apart next = let g = apart a f in absurd (cc)
+keep_both p q a list false true e f apart next = rw (f, e) next
+keep_both p q a list true false e f apart next = rw (f, e) (ap (λ (l : List Avp). a ∷ l) next)
+keep_both p q a list false false e f apart next = rw (f, e) next
+
+keep_one : (p q : Test) (a : Avp) (list : List Avp) (b c : Bool) → p a ≡ b → q a ≡ c → Apart p q → filter p (without_first q list) ≡ filter p list
+    → filter p (without_first q (a ∷ list)) ≡ filter p (a ∷ list)
+keep_one p q a list true true e f apart next = let g = apart a f in absurd (cc)
+keep_one p q a list false true e f apart next = rw (f, e) refl
+keep_one p q a list true false e f apart next = rw (f, e) (ap (λ (l : List Avp). a ∷ l) next)
+keep_one p q a list false false e f apart next = rw (f, e) next
+
+stay : (several : Bool) (p q : Test) (list : List Avp) → Apart p q → filter p (leaves several q list) ≡ filter p list
+stay true p q [] apart = refl
+stay true p q (a ∷ list) apart = keep_both p q a list (p a) (q a) refl refl apart (stay true p q list apart)
+stay false p q [] apart = refl
+stay false p q (a ∷ list) apart = keep_one p q a list (p a) (q a) refl refl apart (stay false p q list apart)
+
+none_taken : (several : Bool) (p q : Test) (list : List Avp) → Apart p q → filter p (took several q list) ≡ []
+none_taken several p q list apart =
+    fails-filter p (took several q list) (All-weaker (λ a. q a ≡ true) (λ a. p a ≡ false) apart (took several q list) (took-Passes several q list))
+
+other : (several : Bool) (p q : Test) (list : List Avp) → Apart p q → filter p (took several q list) ++ filter p (leaves several q list) ≡ filter p list
+other several p q list apart = rw (none_taken several p q list apart, stay several p q list apart) refl
+
+both_true : (a b : Bool) → (a && b) ≡ true → a ≡ true
+both_true true b e = refl
+both_true false b e = absurd cc
+
+-- AVPs of another code are no AVPs of this
+apart_codes : (code other : ℕ) → (other == code) ≡ false → Apart (is_coded code) (is_coded other)
+apart_codes code other differ a e =
+    let is : a.code ≡ other = eqb-true a.code other (both_true (a.code == other) (is_none a.vendor) e) in
+    rw (is, differ) refl
+
+coded_by : (b : Bool) (code : ℕ) (r : Rule) (list : List Avp) → (r.code == code) ≡ b → filter (is_coded code) (taken r list) ++ filter (is_coded code) (left_by r list) ≡ filter (is_coded code) list
+coded_by true code r list e =
+    let same : r.code ≡ code = eqb-true r.code code e in
+    subst (λ (n : ℕ). filter (is_coded n) (taken r list) ++ filter (is_coded n) (left_by r list) ≡ filter (is_coded n) list) same (own r.several (is_for r) list)
+coded_by false code r list e = other r.several (is_coded code) (is_for r) list (apart_codes code r.code e)
+
+-- as written, the AVPs of one code are in the same order
+pub coded-spread : (code : ℕ) (rules : List Rule) (list : List Avp) → filter (is_coded code) (spread rules list) ≡ filter (is_coded code) list
+coded-spread code [] list = refl
+coded-spread code (r ∷ rules) list =
+    filter-append (is_coded code) (taken r list) (spread rules (left_by r list))
+    ∙ ap (λ (l : List Avp). filter (is_coded code) (taken r list) ++ l) (coded-spread code rules (left_by r list))
+    ∙ coded_by (r.code == code) code r list refl
+
+pub taken-spread : (r : Rule) (rules : List Rule) (list : List Avp) → taken r (spread rules list) ≡ taken r list
+taken-spread r rules list = rw (coded-spread r.code rules list) refl
+
+pub groups-spread : (others rules : List Rule) (list : List Avp) → groups others (spread rules list) ≡ groups others list
+groups-spread [] rules list = refl
+groups-spread (r ∷ others) rules list =
+    rw (taken-spread r rules list) (ap (λ (l : List (List Avp)). taken r list ∷ l) (groups-spread others rules list))
+
+-- no rule of a list has this code, and no two rules have one
+abbrev is_new : Rule → List Rule → Bool
+is_new r rules = list_all (λ q. not (r.code == q.code)) rules
+
+abbrev pub is_distinct : List Rule → Bool
+is_distinct [] = true
+is_distinct (r ∷ rules) = is_new r rules && is_distinct rules
+
+both_are : (a b : Bool) → (a && b) ≡ true → (a ≡ true) × (b ≡ true)
+both_are true b e = (refl, e)
+both_are false b e = absurd cc
+
+groups-left : (r : Rule) (rules : List Rule) (list : List Avp) → is_new r rules ≡ true → groups rules (left_by r list) ≡ groups rules list
+groups-left r [] list e = refl
+groups-left r (q ∷ rules) list e =
+    let h = both_are (not (r.code == q.code)) (is_new r rules) e in
+    let same : filter (is_coded q.code) (left_by r list) ≡ filter (is_coded q.code) list =
+    stay r.several (is_coded q.code) (is_for r) list (apart_codes q.code r.code (fails_from (r.code == q.code) h.0)) in
+    rw same (ap (λ (l : List (List Avp)). taken q list ∷ l) (groups-left r rules list h.1))
+
+-- where no two rules have one code, what each takes, and then the rest, is the list as written
+pub spread-is : (rules : List Rule) (list : List Avp) → is_distinct rules ≡ true → flat_map (λ group. group) (groups rules list) ++ untaken rules list ≡ spread rules list
+spread-is [] list e = refl
+spread-is (r ∷ rules) list e =
+    let h = both_are (is_new r rules) (is_distinct rules) e in
+    rw (← groups-left r rules list h.0)
+    (append_assoc (taken r list) (flat_map (λ group. group) (groups rules (left_by r list))) (untaken rules (left_by r list)) ∙ ap (λ (l : List Avp). taken r list ++ l) (spread-is rules (left_by r list) h.1))

@@ -1,44 +1,77 @@
--- A Device-Watchdog-Request spelled octet by octet, and faults of octets: the definitions are checked by examples.
+-- Headers, kinds and missing AVPs by example: the definitions of reading are checked by computation.
 use Rattle.std.proofs.Common.{◌≡◌, ℕ, true, false, List, [], ◌∷◌, ◌++◌, None, Some, refl}
-use Rattle.std.specs.Prelude.{codes}
-use Rattle.dia_avp.specs.Spelling.{length_of, spelled}
-use Rattle.dia_dict.specs.Dictionary.{base}
-use Rattle.dia_msg.specs.declared.command.Command.{Command}
-use Rattle.dia_msg.specs.declared.command.Command.TheVariants.{Dwr}
-use Rattle.dia_msg.specs.declared.fault.ResultCode.TheVariants.{UnsupportedVersion, InvalidAvpLength}
-use Rattle.dia_msg.specs.Faults.{fault, header_faults, left_faults}
-use Rattle.dia_msg.specs.Spelling.{spell}
+use Rattle.dia_avp.specs.declared.avp.Avp.{Avp}
+use Rattle.dia_tree.specs.declared.code.ResultCode.TheVariants.{InvalidMessageLength, UnsupportedVersion, CommandUnsupported, ApplicationUnsupported}
+use Rattle.dia_tree.specs.Faults.{fault}
+use Rattle.dia_msg.specs.declared.header.Flags.{Flags}
+use Rattle.dia_msg.specs.declared.rules.CommandKind.TheVariants.{DeviceWatchdogRequest, CreditControlRequest, CreditControlAnswer, ErrorAnswer}
+use Rattle.dia_msg.specs.Rules.{required, rules_of, kind_coded, taken, untaken, missing}
+use Rattle.dia_msg.specs.Faults.{header_faults, has_event_type, read_as}
 
--- the watchdog of a.example in the realm example, both identifiers 1
-pub watchdog : Command
-watchdog = Dwr (record {
-  header = record { length = 0; flags = record { request = true; proxiable = false; error = false; retransmitted = false }; command = 280; application = 0; hop_by_hop = 1; end_to_end = 1 };
-  origin_host = record { mandatory = true; protected = false; value = codes "a.example" };
-  origin_realm = record { mandatory = true; protected = false; value = codes "example" };
-  rest = [];
-})
+-- what follows version, length, flags and Command Code in a header: Application-Id and identifiers
+abbrev rest : ℕ → List ℕ
+rest application = 0 ∷ 0 ∷ 0 ∷ application ∷ 0 ∷ 0 ∷ 0 ∷ 1 ∷ 0 ∷ 0 ∷ 0 ∷ 1 ∷ []
 
-pub front : List ℕ
-front = 1 ∷ 0 ∷ 0 ∷ 56 ∷ 128 ∷ 0 ∷ 1 ∷ 24 ∷ 0 ∷ 0 ∷ 0 ∷ 0 ∷ 0 ∷ 0 ∷ 0 ∷ 1 ∷ 0 ∷ 0 ∷ 0 ∷ 1 ∷ []
+-- a header alone is a message of 20 octets
+pub header_alone : header_faults (1 ∷ 0 ∷ 0 ∷ 20 ∷ 128 ∷ 0 ∷ 1 ∷ 24 ∷ rest 0) ≡ []
+header_alone = refl
 
-pub host : List ℕ
-host = 0 ∷ 0 ∷ 1 ∷ 8 ∷ 64 ∷ 0 ∷ 0 ∷ 17 ∷ 97 ∷ 46 ∷ 101 ∷ 120 ∷ 97 ∷ 109 ∷ 112 ∷ 108 ∷ 101 ∷ 0 ∷ 0 ∷ 0 ∷ []
+-- the length counts before the version, this before the command, and this before the Application-Id
+pub length_first : header_faults (2 ∷ 0 ∷ 0 ∷ 24 ∷ 128 ∷ 0 ∷ 1 ∷ 25 ∷ rest 4) ≡ fault InvalidMessageLength None ∷ fault UnsupportedVersion None ∷ fault CommandUnsupported None ∷ fault ApplicationUnsupported None ∷ []
+length_first = refl
 
-pub realm : List ℕ
-realm = 0 ∷ 0 ∷ 1 ∷ 40 ∷ 64 ∷ 0 ∷ 0 ∷ 15 ∷ 101 ∷ 120 ∷ 97 ∷ 109 ∷ 112 ∷ 108 ∷ 101 ∷ 0 ∷ []
+pub watchdog_of_4 : header_faults (1 ∷ 0 ∷ 0 ∷ 20 ∷ 128 ∷ 0 ∷ 1 ∷ 24 ∷ rest 4) ≡ fault ApplicationUnsupported None ∷ []
+watchdog_of_4 = refl
 
-pub watchdog_spelled : spell watchdog ≡ front ++ host ++ realm
-unfolding watchdog front host realm spell spelled length_of
-watchdog_spelled = refl
+-- AVPs with flag M and without a vendor
+abbrev avp : ℕ → List ℕ → Avp
+avp code octets = record { code = code; vendor = None; mandatory = true; protected = false; octets = octets }
 
--- its header has no fault, and with version 2 has one
-pub watchdog_faultless : header_faults (front ++ host ++ realm) ≡ []
-unfolding front host realm
-watchdog_faultless = refl
+abbrev host : Avp
+host = avp 264 (97 ∷ [])
 
-pub version_2 : header_faults (2 ∷ 0 ∷ 0 ∷ 20 ∷ 128 ∷ 0 ∷ 1 ∷ 24 ∷ 0 ∷ 0 ∷ 0 ∷ 0 ∷ 0 ∷ 0 ∷ 0 ∷ 1 ∷ 0 ∷ 0 ∷ 0 ∷ 1 ∷ []) ≡ fault UnsupportedVersion None ∷ []
-version_2 = refl
+abbrev other : Avp
+other = avp 264 (98 ∷ [])
 
--- an Origin-State-Id that is cut off after its code fails with four zeros
-pub cut_state : left_faults base (0 ∷ 0 ∷ 1 ∷ 22 ∷ []) ≡ fault InvalidAvpLength (Some (record { code = 278; vendor = None; mandatory = false; protected = false; octets = 0 ∷ 0 ∷ 0 ∷ 0 ∷ [] })) ∷ []
-cut_state = refl
+abbrev realm : Avp
+realm = avp 296 (99 ∷ [])
+
+-- what is missing is told in the order of the format
+pub both_missing : missing (rules_of DeviceWatchdogRequest false) [] ≡ required 264 ∷ required 296 ∷ []
+both_missing = refl
+
+pub realm_missing : missing (rules_of DeviceWatchdogRequest false) (host ∷ other ∷ []) ≡ required 296 ∷ []
+realm_missing = refl
+
+-- the first of two counts, and the second is one of the rest
+pub first_counts : taken (required 264) (realm ∷ host ∷ other ∷ []) ≡ host ∷ []
+first_counts = refl
+
+pub second_stays : untaken (rules_of DeviceWatchdogRequest false) (realm ∷ host ∷ other ∷ []) ≡ other ∷ []
+second_stays = refl
+
+-- the first CC-Request-Type says whether it is an EVENT request
+pub event_first : has_event_type (realm ∷ avp 416 (0 ∷ 0 ∷ 0 ∷ 4 ∷ []) ∷ avp 416 (0 ∷ 0 ∷ 0 ∷ 1 ∷ []) ∷ []) ≡ true
+event_first = refl
+
+pub event_second : has_event_type (avp 416 (0 ∷ 0 ∷ 0 ∷ 1 ∷ []) ∷ avp 416 (0 ∷ 0 ∷ 0 ∷ 4 ∷ []) ∷ []) ≡ false
+event_second = refl
+
+-- an answer tells an error by flag E, or by a Result-Code that is not 2xxx where it lacks an AVP; 4012 here
+abbrev answer : Flags
+answer = record { request = false; proxiable = true; error = false; retransmitted = false }
+
+pub error_by_flag : read_as CreditControlAnswer (record answer { error = true }) [] ≡ ErrorAnswer
+error_by_flag = refl
+
+pub error_by_code : read_as CreditControlAnswer answer (host ∷ realm ∷ avp 268 (0 ∷ 0 ∷ 15 ∷ 172 ∷ []) ∷ []) ≡ ErrorAnswer
+error_by_code = refl
+
+pub success_is_no_error : read_as CreditControlAnswer answer (host ∷ realm ∷ avp 268 (0 ∷ 0 ∷ 7 ∷ 209 ∷ []) ∷ []) ≡ CreditControlAnswer
+success_is_no_error = refl
+
+pub request_is_no_error : read_as CreditControlRequest (record answer { request = true; error = true }) [] ≡ CreditControlRequest
+request_is_no_error = refl
+
+pub answer_of_272 : kind_coded 272 false ≡ Some CreditControlAnswer
+answer_of_272 = refl

@@ -1,38 +1,65 @@
--- The length of a spelling, AVP by AVP.
-use Rattle.std.proofs.Common.{◌≡◌, ℕ, ◌+◌, ◌*◌, ◌/◌, ◌<◌, ◌≤◌, ◌^◌, List, [], ◌∷◌, ◌++◌, length, take, drop, get_or, All, Result, Ok, Err, refl, sym, ap, ◌∙◌, arith, append_assoc}
-use Rattle.std.specs.Prelude.{IfErr, IsErrOf, OnOk, OnErr}
-use Rattle.std.proofs.lemmas.List.{length-append, take_at, take-append-drop}
-use Rattle.std.proofs.lemmas.List.Elements.{All-nil, All-cons}
+-- The length of a spelling, and that it is one message.
+use Rattle.std.proofs.Common.{◌≡◌, ℕ, ◌+◌, ◌*◌, ◌/◌, ◌<◌, ◌≤◌, ◌^◌, List, [], ◌∷◌, ◌++◌, length, take, drop, get_or, refl, sym, ap, ◌∙◌, arith, append_assoc}
+use Rattle.std.specs.List.{flat_map}
+use Rattle.std.proofs.lemmas.List.{length-append, take_more, append-nil}
+use Rattle.std.proofs.lemmas.List.Concat.{flat_map-append}
+use Rattle.std.proofs.lemmas.List.Folds.{length-flat_map-take}
 use Rattle.byteorder.specs.Numbers.{big_number-reads_back}
 use Rattle.dia_avp.specs.declared.avp.Avp.{Avp}
-use Rattle.dia_avp.specs.declared.fault.WriteError.{WriteError}
-use Rattle.dia_avp.specs.declared.fault.WriteError.TheVariants.{NoMemory, LengthOver24Bits}
-use Rattle.dia_avp.specs.Spelling.{length_of, spelled, spelling, HasLong}
+use Rattle.dia_avp.specs.Spelling.{length_of, spelled, spelling}
 use Rattle.dia_avp.proofs.Spelled.{length_spelled}
 use Rattle.dia_frame.proofs.LawLemmas.{first_frame}
-use Rattle.dia_msg.specs.Framing.{IsFirstFrame}
 use Rattle.dia_msg.specs.declared.command.Command.{Command}
+use Rattle.dia_msg.specs.declared.fields.FieldView.{FieldView}
+use Rattle.dia_msg.specs.declared.fields.Item.{Item}
+use Rattle.dia_msg.specs.Framing.{IsFirstFrame}
 use Rattle.dia_msg.specs.Header.{header_octets, IsWholeMessage}
 use Rattle.dia_msg.specs.Command.{header_of, avps_of}
+use Rattle.dia_msg.specs.Fields.{content_octets, item_avp, field_avps, fields_avps}
 use Rattle.dia_msg.specs.Spelling.{message_len, spell}
 
 -- a spelling is no shorter than the AVP Length
 pub length_of-spelled : (a : Avp) → length_of a ≤ length (spelled a)
 length_of-spelled a = omega (arith, length_spelled a)
 
--- what a Dwr's spelling is made of
-pub spelling-rest : (a b : Avp) (rest : List Avp) → spelling (a ∷ b ∷ rest) ≡ spelled a ++ (spelled b ++ spelling rest)
-spelling-rest a b rest = refl
+-- an AVP has 8 octets, its data, and padding to a multiple of 4
+pub length_item : (item : Item) → length (spelled (item_avp item)) ≡ (8 + length (content_octets item.content) + 3) / 4 * 4
+unfolding length_of
+length_item item = length_spelled (item_avp item)
 
--- no AVP of a list is longer than the list's spelling
-pub short_each : (list : List Avp) (n : ℕ) → length (spelling list) < n → All (λ a. length_of a < n) list
-short_each [] n short = All-nil (λ a. length_of a < n)
-short_each (a ∷ list) n short =
-    let all : length (spelling (a ∷ list)) ≡ length (spelled a) + length (spelling list) = length-append (spelled a) (spelling list) in
-    All-cons (λ x. length_of x < n) a list (omega (arith, length_of-spelled a)) (short_each list n (omega arith))
+-- one piece more
+pub pieces-more : {X : Type 0} (f : X → List ℕ) (xs : List X) (i : ℕ) (x : X) → i < length xs → x ≡ get_or xs i x → flat_map f (take (i + 1) xs) ≡ flat_map f (take i xs) ++ f x
+pieces-more f xs i x lt e =
+    ap (flat_map f) (take_more xs i x lt) ∙ flat_map-append f (take i xs) (get_or xs i x ∷ []) ∙ rw (← e) (ap (λ (y : List ℕ). flat_map f (take i xs) ++ y) (append-nil (f x)))
+
+pub length-pieces-more : {X : Type 0} (f : X → List ℕ) (xs : List X) (i : ℕ) (x : X) → i < length xs → x ≡ get_or xs i x → length (flat_map f (take (i + 1) xs)) ≡ length (flat_map f (take i xs)) + length (f x)
+length-pieces-more f xs i x lt e = omega (arith, ap length (pieces-more f xs i x lt e), length-append (flat_map f (take i xs)) (f x))
+
+-- the next piece is among all
+pub length-pieces-next : {X : Type 0} (f : X → List ℕ) (xs : List X) (i : ℕ) (x : X) → i < length xs → x ≡ get_or xs i x → length (flat_map f (take i xs)) + length (f x) ≤ length (flat_map f xs)
+length-pieces-next {X} f xs i x lt e = omega (arith, length-flat_map-take f xs i x lt, ap (λ (y : X). length (f y)) e)
+
+-- room for all is room for the next
+pub room-next : {X : Type 0} (f : X → List ℕ) (xs : List X) (i : ℕ) (x : X) (start out : List ℕ) (room : ℕ) → i < length xs → x ≡ get_or xs i x → out ≡ start ++ flat_map f (take i xs) → length start + length (flat_map f xs) ≤ room → length out + length (f x) ≤ room
+room-next f xs i x start out room lt e is fits = omega (arith, ap length is, length-append start (flat_map f (take i xs)), length-pieces-next f xs i x lt e)
+
+-- the next piece is written behind those before
+pub written-next : {X : Type 0} (f : X → List ℕ) (xs : List X) (i : ℕ) (x : X) (start out new : List ℕ) → i < length xs → x ≡ get_or xs i x → out ≡ start ++ flat_map f (take i xs) → new ≡ out ++ f x → new ≡ start ++ flat_map f (take (i + 1) xs)
+written-next f xs i x start out new lt e is more =
+    more ∙ ap (λ (l : List ℕ). l ++ f x) is ∙ append_assoc start (flat_map f (take i xs)) (f x) ∙ ap (λ (l : List ℕ). start ++ l) (sym (pieces-more f xs i x lt e))
+
+-- the spelling of a field
+abbrev pub spelled_field : FieldView → List ℕ
+spelled_field field = spelling (field_avps field)
+
+-- fields are spelled one after the other
+pub spelling_fields : (fields : List FieldView) → spelling (fields_avps fields) ≡ flat_map spelled_field fields
+spelling_fields [] = refl
+spelling_fields (f ∷ fields) =
+    flat_map-append spelled (field_avps f) (fields_avps fields) ∙ ap (λ (l : List ℕ). spelled_field f ++ l) (spelling_fields fields)
 
 -- AVPs with their padding are a multiple of 4
-pub spelling-fours : (list : List Avp) → (k : ℕ) × (length (spelling list) ≡ k * 4)
+spelling-fours : (list : List Avp) → (k : ℕ) × (length (spelling list) ≡ k * 4)
 spelling-fours [] = (0, refl)
 spelling-fours (a ∷ list) =
     let next = spelling-fours list in
@@ -42,6 +69,19 @@ spelling-fours (a ∷ list) =
 pub length-spell : (command : Command) → length (spell command) ≡ message_len command
 unfolding spell
 length-spell command = length-append (header_octets (header_of command) (message_len command)) (spelling (avps_of command))
+
+-- AVPs are spelled one after the other
+pub length-parts : (list rest : List Avp) → length (spelling (list ++ rest)) ≡ length (spelling list) + length (spelling rest)
+length-parts list rest = ap length (flat_map-append spelled list rest) ∙ length-append (spelling list) (spelling rest)
+
+-- what a spelling is made of
+pub spell-parts : (command : Command) (out : List ℕ) (list rest : List Avp) → list ++ rest ≡ avps_of command → ((out ++ header_octets (header_of command) (message_len command)) ++ spelling list) ++ spelling rest ≡ out ++ spell command
+unfolding spell
+spell-parts command out list rest e =
+    let front = header_octets (header_of command) (message_len command) in
+    append_assoc (out ++ front) (spelling list) (spelling rest)
+    ∙ append_assoc out front (spelling list ++ spelling rest)
+    ∙ ap (λ (l : List ℕ). out ++ (front ++ l)) (sym (flat_map-append spelled list rest) ∙ ap spelling e)
 
 -- a spelling is one message by its own header
 pub spell-whole : (command : Command) → message_len command < 2 ^ 24 → IsWholeMessage (spell command)
@@ -55,43 +95,6 @@ spell-whole command short =
       has_header = omega arith;
       aligned = omega (arith, fours.1);
     }
-
--- a list whose spelling 24 bits can count has no AVP that is too long
-pub none_long : (list : List Avp) → length (spelling list) < 2 ^ 24 → HasLong list → ⊥
-none_long list short long =
-    let all : length_of (get_or list long.0 long.1) < 2 ^ 24 = short_each list (2 ^ 24) short long.0 long.1 long.2 in
-    omega (arith, ap length_of long.3, long.4)
-
--- an error that isn't a length is want of memory
-pub only_memory : (r : Result (Unit {0}) WriteError) (P : Type 0) → (IsErrOf r LengthOver24Bits → P) → (P → ⊥) → IfErr r (λ e. e ≡ NoMemory)
-only_memory (Ok x) P long none = tt
-only_memory (Err NoMemory) P long none = refl
-only_memory (Err LengthOver24Bits) P long none = absurd (none (long refl))
-
-pub memory_passed : (r : Result (Unit {0}) WriteError) (e f : WriteError) → r ≡ Err e → e ≡ f → f ≡ NoMemory → IfErr r (λ x. x ≡ NoMemory)
-memory_passed r e f p q h = rw p (q ∙ h)
-
--- what was there stays, where more is added or nothing changes
-pub front_stays : (r : Result (Unit {0}) WriteError) (old rest mid new more : List ℕ) → mid ≡ old ++ rest → OnOk r (new ≡ mid ++ more) → OnErr r (new ≡ mid) → take (length old) new ≡ old
-front_stays (Ok x) old rest mid new more e ok err =
-    let is : new ≡ old ++ (rest ++ more) = ok ∙ ap (λ (l : List ℕ). l ++ more) e ∙ append_assoc old rest more in
-    rw is (take_at old (rest ++ more) (length old) refl)
-front_stays (Err f) old rest mid new more e ok err = rw (err, e) (take_at old rest (length old) refl)
-
-pub front_of_front : (old head mid new : List ℕ) → mid ≡ old ++ head → take (length mid) new ≡ mid → take (length old) new ≡ old
-front_of_front old head mid new e front =
-    let more = drop (length mid) new in
-    let is : new ≡ old ++ (head ++ more) = sym (take-append-drop (length mid) new) ∙ ap (λ (l : List ℕ). l ++ more) (front ∙ e) ∙ append_assoc old head more in
-    rw is (take_at old (head ++ more) (length old) refl)
-
--- one after the other
-pub ok_after : (r : Result (Unit {0}) WriteError) (old head mid new more : List ℕ) → mid ≡ old ++ head → OnOk r (new ≡ mid ++ more) → OnOk r (new ≡ old ++ (head ++ more))
-ok_after (Ok x) old head mid new more e h = h ∙ ap (λ (l : List ℕ). l ++ more) e ∙ append_assoc old head more
-ok_after (Err f) old head mid new more e h = tt
-
-pub on_any : (r : Result (Unit {0}) WriteError) (P : Type 0) → P → OnOk r P
-on_any (Ok x) P h = h
-on_any (Err f) P h = tt
 
 -- a whole message is the first frame of what it begins
 whole-first_frame : (octets : List ℕ) → IsWholeMessage octets → IsFirstFrame octets

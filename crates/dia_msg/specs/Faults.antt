@@ -1,25 +1,20 @@
 -- The faults of a message, in the order in which they count.
-use Rattle.std.specs.Prelude.{ℕ, ◌+◌, ◌%◌, Bool, true, false, not, ◌==◌, ◌||◌, nat_lt, nat_le, if◌then◌else◌, List, [], ◌∷◌, ◌++◌, length, slice_index, drop, map, replicate, Option, None, Some, is_none}
-use Rattle.std.specs.Option.{option_map_or}
-use Rattle.byteorder.specs.Endian.{big_number}
+use Rattle.std.specs.Prelude.{ℕ, ◌%◌, ◌/◌, Bool, true, false, not, ◌==◌, ◌&&◌, ◌||◌, nat_lt, if◌then◌else◌, List, [], ◌∷◌, ◌++◌, length, slice_index, drop, map, Option, None, Some, is_none}
+use Rattle.std.specs.Option.{option_map, option_map_or}
 use Rattle.dia_avp.specs.declared.avp.Avp.{Avp}
-use Rattle.dia_avp.specs.Avps.{has_flag, vendor_of}
+use Rattle.dia_avp.specs.Reading.{avps_in}
 use Rattle.dia_dict.specs.declared.definition.Definition.{Definition}
-use Rattle.dia_dict.specs.declared.field.DictFault.{DictFault}
-use Rattle.dia_dict.specs.declared.field.DictFault.TheVariants.{Unknown, UnknownMandatory, BadValue, BadLength}
-use Rattle.dia_dict.specs.Kind.{least_size}
-use Rattle.dia_dict.specs.Dictionary.{definition_of, fault_of}
-use Rattle.dia_msg.specs.declared.fault.MsgFault.{MsgFault}
-use Rattle.dia_msg.specs.declared.fault.ResultCode.{ResultCode}
-use Rattle.dia_msg.specs.declared.fault.ResultCode.TheVariants.{CommandUnsupported, ApplicationUnsupported, AvpUnsupported, InvalidAvpValue, MissingAvp, UnsupportedVersion, UnableToComply, InvalidAvpLength, InvalidMessageLength}
+use Rattle.dia_tree.specs.declared.fault.MsgFault.{MsgFault}
+use Rattle.dia_tree.specs.declared.code.ResultCode.{ResultCode}
+use Rattle.dia_tree.specs.declared.code.ResultCode.TheVariants.{CommandUnsupported, ApplicationUnsupported, UnsupportedVersion, InvalidMessageLength}
+use Rattle.dia_tree.specs.Faults.{fault, group_faults, missing_fault}
+use Rattle.dia_msg.specs.declared.header.Flags.{Flags}
 use Rattle.dia_msg.specs.declared.rules.CommandKind.{CommandKind}
+use Rattle.dia_msg.specs.declared.rules.CommandKind.TheVariants as kinds
 use Rattle.dia_msg.specs.declared.rules.Rule.{Rule}
 use Rattle.dia_msg.specs.Header.{header_in}
-use Rattle.dia_msg.specs.Rules.{kind_coded, application_of, rules_of, missing}
-
--- a fault of a code, with its failed AVP
-abbrev pub fault : ResultCode → Option Avp → MsgFault
-fault code failed = record { result = code; failed = failed }
+use Rattle.dia_msg.specs.Rules.{kind_coded, application_of, rules_of, first_of, missing}
+use Rattle.dia_msg.specs.Command.{number_in}
 
 -- the fault where a test says so, and else none
 abbrev pub fault_if : Bool → ResultCode → List MsgFault
@@ -36,9 +31,8 @@ abbrev pub kind_in : List ℕ → Option CommandKind
 kind_in octets = kind_coded (header_in octets).command (header_in octets).flags.request
 
 -- whether the Application-Id isn't the command's
-abbrev pub is_bad_application : Option CommandKind → ℕ → Bool
-is_bad_application None application = false
-is_bad_application (Some kind) application = not (application == application_of kind)
+abbrev pub is_bad_application : List ℕ → Bool
+is_bad_application octets = not ((header_in octets).application == application_of (header_in octets).command)
 
 -- the faults of the header: length, version, command, Application-Id
 abbrev pub header_faults : List ℕ → List MsgFault
@@ -46,62 +40,46 @@ header_faults octets =
     fault_if (is_bad_length octets) InvalidMessageLength
     ++ (fault_if (not (slice_index octets 0 == 1)) UnsupportedVersion
     ++ (fault_if (is_none (kind_in octets)) CommandUnsupported
-    ++ fault_if (is_bad_application (kind_in octets) (header_in octets).application) ApplicationUnsupported))
+    ++ fault_if (is_bad_application octets) ApplicationUnsupported))
 
--- an AVP's header with zeros of the least size of its type, none where the type is unknown
-abbrev pub zeroed : List Definition → Avp → Avp
-zeroed definitions a =
-    record a { octets = replicate (option_map_or (λ d. least_size d.kind) (definition_of definitions a.code a.vendor) 0) 0 }
+-- the whole AVPs of a message, behind its header
+abbrev pub whole_avps : List ℕ → List Avp
+whole_avps octets = (avps_in (drop 20 octets)).0
 
--- what an AVP's fault by the dictionary means for the message; an unknown AVP without flag M is none
-abbrev pub typed_faults : Option DictFault → List Definition → Avp → List MsgFault
-typed_faults None definitions a = []
-typed_faults (Some Unknown) definitions a = []
-typed_faults (Some UnknownMandatory) definitions a = fault AvpUnsupported (Some a) ∷ []
-typed_faults (Some BadValue) definitions a = fault InvalidAvpValue (Some a) ∷ []
-typed_faults (Some BadLength) definitions a = fault InvalidAvpLength (Some (zeroed definitions a)) ∷ []
+-- whether the first CC-Request-Type is EVENT_REQUEST (RFC 8506 section 8.3)
+abbrev pub has_event_type : List Avp → Bool
+has_event_type list = option_map_or (λ a. (number_in a).value == 4) (first_of 416 list) false
 
--- the faults of a whole AVP with so many before it: over 128 there may be none, then the dictionary counts
-abbrev pub avp_faults : List Definition → ℕ → Avp → List MsgFault
-avp_faults definitions before a =
-    if nat_le 128 before then fault UnableToComply None ∷ [] else typed_faults (fault_of definitions a) definitions a
+-- whether a message is an EVENT request of credit control
+abbrev pub is_event : List ℕ → Bool
+is_event octets =
+    ((header_in octets).command == 272) && ((header_in octets).flags.request && has_event_type (whole_avps octets))
 
--- the faults of whole AVPs in order of place
-abbrev pub avps_faults : List Definition → ℕ → List Avp → List MsgFault
-avps_faults definitions before [] = []
-avps_faults definitions before (a ∷ list) = avp_faults definitions before a ++ avps_faults definitions (before + 1) list
+-- whether the first Result-Code tells no success: it is not 2xxx (RFC 6733 section 7.1)
+abbrev pub has_failed : List Avp → Bool
+has_failed list = option_map_or (λ a. not ((number_in a).value / 1000 == 2)) (first_of 268 list) false
 
--- the header of an AVP that is broken, without data; octets that are missing count as zero
-abbrev pub cut_avp : List ℕ → Avp
-cut_avp octets = record {
-  code = big_number 4 octets;
-  vendor = if has_flag 128 (slice_index octets 4) then vendor_of (big_number 4 (drop 8 octets)) else None;
-  mandatory = has_flag 64 (slice_index octets 4);
-  protected = has_flag 32 (slice_index octets 4);
-  octets = [];
-}
+-- whether AVPs of a kind of command have all that are required
+abbrev pub is_complete : CommandKind → List Avp → Bool
+is_complete kind list = length (missing (rules_of kind false) list) == 0
 
--- the fault of an AVP whose length is broken
-abbrev pub broken_fault : List Definition → List ℕ → MsgFault
-broken_fault definitions octets = fault InvalidAvpLength (Some (zeroed definitions (cut_avp octets)))
+-- the kind as which a message with these AVPs is read: an answer that has flag E, or that tells no success and lacks an
+-- AVP of its command, is an ErrorAnswer (RFC 6733 sections 6.2 and 7.2)
+abbrev pub read_as : CommandKind → Flags → List Avp → CommandKind
+read_as kind flags list =
+    if not flags.request && (flags.error || (has_failed list && not (is_complete kind list))) then kinds.ErrorAnswer else kind
 
--- the fault of what is left after the whole AVPs: nothing, or an AVP whose length is broken
-abbrev pub left_faults : List Definition → List ℕ → List MsgFault
-left_faults definitions [] = []
-left_faults definitions (octet ∷ left) = broken_fault definitions (octet ∷ left) ∷ []
+-- the kind as which a message is read, where its command is known
+abbrev pub kind_read : List ℕ → Option CommandKind
+kind_read octets = option_map (λ kind. read_as kind (header_in octets).flags (whole_avps octets)) (kind_in octets)
 
--- the fault of a required AVP that is missing: it is to have flag M
-abbrev pub missing_fault : List Definition → Rule → MsgFault
-missing_fault definitions r =
-    let header : Avp = record { code = r.code; vendor = None; mandatory = true; protected = false; octets = [] } in
-    fault MissingAvp (Some (zeroed definitions header))
-
--- the rules of the message's command
+-- the rules by which a message is read
 abbrev pub rules_in : List ℕ → List Rule
-rules_in octets = option_map_or rules_of (kind_in octets) []
+rules_in octets = option_map_or (λ kind. rules_of kind (is_event octets)) (kind_read octets) []
 
--- all faults of a message that has these whole AVPs and then what is left: of the header, of each AVP in order of place,
--- of the broken one, of those that are missing
-abbrev pub faults : List Definition → List ℕ → List Avp → List ℕ → List MsgFault
-faults definitions octets list left =
-    header_faults octets ++ (avps_faults definitions 0 list ++ (left_faults definitions left ++ map (missing_fault definitions) (missing (rules_in octets) list)))
+-- all faults of a message: of its header, of its AVPs in order of place, of those that are missing
+abbrev pub faults : List Definition → List ℕ → List MsgFault
+faults definitions octets =
+    header_faults octets
+    ++ (group_faults definitions (is_event octets) 5 (drop 20 octets)
+    ++ map (λ r. missing_fault definitions r.code) (missing (rules_in octets) (whole_avps octets)))

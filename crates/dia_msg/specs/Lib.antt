@@ -1,4 +1,3 @@
-pub mod Code
 pub mod Header
 pub mod Rules
 pub mod Command
@@ -7,3 +6,5 @@ pub mod Spelling
 pub mod Reading
 pub mod Steps
 pub mod Framing
+pub mod Fields
+pub mod Answer

@@ -1,46 +1,34 @@
 -- What the steps of reading say, each of its part.
-use Rattle.std.specs.Prelude.{◌≡◌, ℕ, List, [], ◌++◌, slice_get, Some, IsSome}
-use Rattle.std.specs.Option.{option_map}
+use Rattle.std.specs.Prelude.{◌≡◌, Bool, List, map, get_or, slice_get, IsSome}
 use Rattle.dia_avp.specs.declared.avp.Avp.{Avp}
+use Rattle.dia_avp.specs.declared.avp.AvpView.{AvpView}
 use Rattle.dia_avp.specs.View.{seen}
-use Rattle.dia_avp.specs.Avps.{Avps}
+use Rattle.dia_tree.specs.declared.fault.MsgFault.{MsgFault}
 use Rattle.dia_dict.specs.declared.definition.Definition.{Definition}
-use Rattle.dia_msg.specs.declared.check.FaultView.{FaultView}
+use Rattle.dia_tree.specs.Normal.{normal}
 use Rattle.dia_msg.specs.declared.command.Command.{Command}
-use Rattle.dia_msg.specs.declared.fault.MsgFault.{MsgFault}
 use Rattle.dia_msg.specs.declared.fault.MsgError.{MsgError}
 use Rattle.dia_msg.specs.declared.fault.MsgError.TheVariants as msg_errors
 use Rattle.dia_msg.specs.declared.header.Header.{Header}
-use Rattle.dia_msg.specs.Rules.{rules_of, groups, untaken, missing}
-use Rattle.dia_msg.specs.Command.{kind_of, header_of, fields, rest_of}
-use Rattle.dia_msg.specs.Faults.{avps_faults, left_faults}
-use Rattle.dia_msg.specs.Reading.{WholeAvps}
+use Rattle.dia_msg.specs.declared.rules.CommandKind.{CommandKind}
+use Rattle.dia_msg.specs.declared.rules.Rule.{Rule}
+use Rattle.dia_msg.specs.Rules.{rules_of, taken, groups, untaken}
+use Rattle.dia_msg.specs.Command.{no_avp, made}
 
--- a fault as a value
-abbrev pub seen_fault : FaultView → MsgFault
-seen_fault f = record { result = f.result; failed = option_map seen f.failed }
+-- AVPs as values
+abbrev pub seen_all : List AvpView → List Avp
+seen_all views = map seen views
+
+-- the AVP that a rule takes, and what stands there where it is missing
+abbrev pub one_taken : Rule → List Avp → Avp
+one_taken r list = get_or (taken r list) 0 no_avp
 
 -- the error for a fault: memory may run out for its failed AVP
 abbrev pub IsErrorOf : MsgFault → MsgError → Type 0
 IsErrorOf f msg_errors.NoMemory = IsSome f.failed
 IsErrorOf f (msg_errors.Fault g) = g ≡ f
 
--- the octets are whole AVPs, none of which has a fault
-pub record IsFaultless (definitions : List Definition) (octets : List ℕ) : Type 0 where
-  pub list : List Avp
-  pub whole : Avps octets list
-  pub none : avps_faults definitions 0 list ≡ []
-
--- the first fault of the octets' AVPs in order of place
-pub record IsFirstFault (definitions : List Definition) (octets : List ℕ) (f : MsgFault) : Type 0 where
-  pub list : List Avp
-  pub left : List ℕ
-  pub avps : WholeAvps octets list left
-  pub first : slice_get (avps_faults definitions 0 list ++ left_faults definitions left) 0 ≡ Some f
-
--- the command is made of this header and these AVPs, none of which is missing
-pub record IsBuilt (header : Header) (list : List Avp) (command : Command) : Type 0 where
-  pub header_is : header_of command ≡ header
-  pub fields_are : fields command ≡ groups (rules_of (kind_of command)) list
-  pub rest_is : rest_of command ≡ untaken (rules_of (kind_of command)) list
-  pub complete : missing (rules_of (kind_of command)) list ≡ []
+-- the command of a kind with this header that is made of these AVPs
+abbrev pub made_by : List Definition → CommandKind → Header → Bool → List Avp → Command
+made_by definitions kind header event list =
+    made definitions kind header (groups (rules_of kind event) list) (map (normal definitions 4) (untaken (rules_of kind event) list))

@@ -1,102 +1,318 @@
-//! From a list of AVPs to a command: each rule takes its AVPs, and what is left is the rest.
+//! From the AVPs of a message to its command: each field is made of the AVPs that its rule takes, and the rest of those
+//! that no rule takes.
 
-ghost use Rattle.std.specs.Prelude.{◌≡◌, List, [], ◌∷◌, true, false, Some, IfOk, IfErr, IfSome, slice_get, position};
-ghost use Rattle.std.specs.Option.{option_to_list};
-ghost use Rattle.dia_avp.specs.declared.avp.Avp.{Avp as AvpValue};
-ghost use Rattle.dia_avp.specs.Avps.{Avps};
-ghost use Rattle.dia_msg.specs.Rules.{is_for, taken, left_by, missing, rules_of};
-ghost use Rattle.dia_msg.specs.Command.{octets_avp, kind_of};
-ghost use Rattle.dia_msg.specs.Steps.{IsBuilt};
+ghost use Rattle.std.specs.Prelude.{◌≡◌, ◌<◌, ◌^◌, All, IfOk, false};
+ghost use Rattle.dia_avp.specs.Spelling.{length_of};
+ghost use Rattle.dia_dict.specs.Dictionary.{known};
+ghost use Rattle.dia_msg.specs.Steps.{seen_all, made_by};
 
-use crate::command::{Command, DeviceWatchdogRequest};
+use crate::command::{
+    CapabilitiesExchangeAnswer, CapabilitiesExchangeRequest, Command, CreditControlAnswer,
+    CreditControlRequest, DeviceWatchdogAnswer, DeviceWatchdogRequest, DisconnectPeerAnswer,
+    DisconnectPeerRequest, ErrorAnswer, ReAuthAnswer, ReAuthRequest,
+};
 use crate::header::Header;
-use crate::rules::{CommandKind, DEVICE_WATCHDOG_REQUEST, Rule};
-use crate::typed::TypedAvp;
-use dia_avp::{Avp, AvpList, Octets, first_avp};
-use std::alloc::{AllocError, Global};
+use crate::rules;
+use crate::rules::CommandKind;
+use crate::source::Source;
+use std::alloc::AllocError;
 
-/// The AVPs of octets, which are whole; `count` is how many there are.
-pub(crate) fn whole_avps(alloc: Global, octets: &[u8], count: usize) -> Result<Vec<Avp>, AllocError>
-    requires { (list : List AvpValue) × Avps octets.now list }
-    ensures { IfOk result (λ v. Avps octets.now v.items) }
-{
-    let mut avps = Vec::with_capacity(alloc, count)?;
-    let mut rest = octets;
-    while let Ok((avp, after)) = first_avp(rest) {
-        avps.push(avp.to_avp(alloc)?)?;
-        rest = after;
+impl Source<'_> {
+    fn capabilities_exchange_request(
+        &self,
+        header: Header,
+    ) -> Result<CapabilitiesExchangeRequest, AllocError>
+        requires { All (λ a. length_of a < 2 ^ 24) (seen_all self.now.avps.now) }
+        ensures { IfOk result (λ c. Command.Cer c ≡ made_by (known self.now.dictionary.now) CommandKind.CapabilitiesExchangeRequest header false (seen_all self.now.avps.now)) }
+    {
+        let rules = rules::capabilities_exchange_request();
+        let [
+            origin_host,
+            origin_realm,
+            host_ip_address,
+            vendor_id,
+            product_name,
+            auth_application_id,
+        ] = rules;
+        Ok(CapabilitiesExchangeRequest {
+            header,
+            origin_host: self.octets(origin_host)?,
+            origin_realm: self.octets(origin_realm)?,
+            host_ip_address: self.all_octets(host_ip_address)?,
+            vendor_id: self.number(vendor_id),
+            product_name: self.octets(product_name)?,
+            auth_application_id: self.all_numbers(auth_application_id)?,
+            rest: self.rest(&rules)?,
+        })
     }
-    Ok(avps)
-}
 
-fn place_of(avps: &[Avp], rule: Rule) -> Option<usize>
-    ensures { result ≡ position (is_for rule) avps.now }
-{
-    avps.iter().position(|avp| rule.is_for(avp))
-}
-
-// Takes the first AVP that a rule is for; where there is none, nothing changes.
-fn take_first(avps: &mut Vec<Avp>, rule: Rule) -> Option<Avp>
-    requires { rule.several ≡ false }
-    ensures taken { option_to_list result ≡ taken rule avps.old.items }
-    ensures left { avps.new.items ≡ left_by rule avps.old.items }
-    ensures fits { IfSome result (λ a. is_for rule a ≡ true) }
-{
-    let place = place_of(avps, rule)?;
-    Some(avps.remove(place))
-}
-
-fn take_required(avps: &mut Vec<Avp>, rule: Rule) -> Result<Avp, Rule>
-    requires { rule.several ≡ false }
-    ensures taken { IfOk result (λ a. taken rule avps.old.items ≡ a ∷ []) }
-    ensures none { IfErr result (λ r. (r ≡ rule) × (taken rule avps.old.items ≡ [])) }
-    ensures left { avps.new.items ≡ left_by rule avps.old.items }
-    ensures fits { IfOk result (λ a. is_for rule a ≡ true) }
-{
-    match take_first(avps, rule) {
-        Some(avp) => Ok(avp),
-        None => Err(rule),
+    fn capabilities_exchange_answer(
+        &self,
+        header: Header,
+    ) -> Result<CapabilitiesExchangeAnswer, AllocError>
+        requires { All (λ a. length_of a < 2 ^ 24) (seen_all self.now.avps.now) }
+        ensures { IfOk result (λ c. Command.Cea c ≡ made_by (known self.now.dictionary.now) CommandKind.CapabilitiesExchangeAnswer header false (seen_all self.now.avps.now)) }
+    {
+        let rules = rules::capabilities_exchange_answer();
+        let [
+            result_code,
+            origin_host,
+            origin_realm,
+            host_ip_address,
+            vendor_id,
+            product_name,
+            auth_application_id,
+        ] = rules;
+        Ok(CapabilitiesExchangeAnswer {
+            header,
+            result_code: self.number(result_code),
+            origin_host: self.octets(origin_host)?,
+            origin_realm: self.octets(origin_realm)?,
+            host_ip_address: self.all_octets(host_ip_address)?,
+            vendor_id: self.number(vendor_id),
+            product_name: self.octets(product_name)?,
+            auth_application_id: self.all_numbers(auth_application_id)?,
+            rest: self.rest(&rules)?,
+        })
     }
-}
 
-fn identity(avp: Avp) -> TypedAvp<Octets>
-    ensures mandatory { result.mandatory ≡ avp.mandatory }
-    ensures protected { result.protected ≡ avp.protected }
-    ensures value { result.value ≡ avp.octets }
-{
-    TypedAvp {
-        mandatory: avp.mandatory,
-        protected: avp.protected,
-        value: avp.octets,
+    fn device_watchdog_request(&self, header: Header) -> Result<DeviceWatchdogRequest, AllocError>
+        requires { All (λ a. length_of a < 2 ^ 24) (seen_all self.now.avps.now) }
+        ensures { IfOk result (λ c. Command.Dwr c ≡ made_by (known self.now.dictionary.now) CommandKind.DeviceWatchdogRequest header false (seen_all self.now.avps.now)) }
+    {
+        let rules = rules::device_watchdog_request();
+        let [origin_host, origin_realm] = rules;
+        Ok(DeviceWatchdogRequest {
+            header,
+            origin_host: self.octets(origin_host)?,
+            origin_realm: self.octets(origin_realm)?,
+            rest: self.rest(&rules)?,
+        })
     }
-}
 
-fn device_watchdog_request(
-    header: Header,
-    mut avps: Vec<Avp>,
-) -> Result<DeviceWatchdogRequest, Rule>
-    ensures built { IfOk result (λ d. IsBuilt header avps.items (Command.Dwr d)) }
-    ensures missing { IfErr result (λ r. slice_get (missing (rules_of CommandKind.DeviceWatchdogRequest) avps.items) 0 ≡ Some r) }
-{
-    let [host, realm] = DEVICE_WATCHDOG_REQUEST;
-    let origin_host = identity(take_required(&mut avps, host)?);
-    let origin_realm = identity(take_required(&mut avps, realm)?);
-    Ok(DeviceWatchdogRequest {
-        header,
-        origin_host,
-        origin_realm,
-        rest: AvpList::from_vec(avps),
-    })
-}
+    fn device_watchdog_answer(&self, header: Header) -> Result<DeviceWatchdogAnswer, AllocError>
+        requires { All (λ a. length_of a < 2 ^ 24) (seen_all self.now.avps.now) }
+        ensures { IfOk result (λ c. Command.Dwa c ≡ made_by (known self.now.dictionary.now) CommandKind.DeviceWatchdogAnswer header false (seen_all self.now.avps.now)) }
+    {
+        let rules = rules::device_watchdog_answer();
+        let [result_code, origin_host, origin_realm] = rules;
+        Ok(DeviceWatchdogAnswer {
+            header,
+            result_code: self.number(result_code),
+            origin_host: self.octets(origin_host)?,
+            origin_realm: self.octets(origin_realm)?,
+            rest: self.rest(&rules)?,
+        })
+    }
 
-/// The command of a header and AVPs, or the first rule whose required AVP is missing.
-pub(crate) fn command_of(kind: CommandKind, header: Header, avps: Vec<Avp>) -> Result<Command, Rule>
-    ensures built { IfOk result (λ c. (kind_of c ≡ kind) × IsBuilt header avps.items c) }
-    ensures missing { IfErr result (λ r. slice_get (missing (rules_of kind) avps.items) 0 ≡ Some r) }
-{
-    match kind {
-        CommandKind::DeviceWatchdogRequest => {
-            Ok(Command::Dwr(device_watchdog_request(header, avps)?))
+    fn disconnect_peer_request(&self, header: Header) -> Result<DisconnectPeerRequest, AllocError>
+        requires { All (λ a. length_of a < 2 ^ 24) (seen_all self.now.avps.now) }
+        ensures { IfOk result (λ c. Command.Dpr c ≡ made_by (known self.now.dictionary.now) CommandKind.DisconnectPeerRequest header false (seen_all self.now.avps.now)) }
+    {
+        let rules = rules::disconnect_peer_request();
+        let [origin_host, origin_realm, disconnect_cause] = rules;
+        Ok(DisconnectPeerRequest {
+            header,
+            origin_host: self.octets(origin_host)?,
+            origin_realm: self.octets(origin_realm)?,
+            disconnect_cause: self.number(disconnect_cause),
+            rest: self.rest(&rules)?,
+        })
+    }
+
+    fn disconnect_peer_answer(&self, header: Header) -> Result<DisconnectPeerAnswer, AllocError>
+        requires { All (λ a. length_of a < 2 ^ 24) (seen_all self.now.avps.now) }
+        ensures { IfOk result (λ c. Command.Dpa c ≡ made_by (known self.now.dictionary.now) CommandKind.DisconnectPeerAnswer header false (seen_all self.now.avps.now)) }
+    {
+        let rules = rules::disconnect_peer_answer();
+        let [result_code, origin_host, origin_realm] = rules;
+        Ok(DisconnectPeerAnswer {
+            header,
+            result_code: self.number(result_code),
+            origin_host: self.octets(origin_host)?,
+            origin_realm: self.octets(origin_realm)?,
+            rest: self.rest(&rules)?,
+        })
+    }
+
+    fn re_auth_request(&self, header: Header) -> Result<ReAuthRequest, AllocError>
+        requires { All (λ a. length_of a < 2 ^ 24) (seen_all self.now.avps.now) }
+        ensures { IfOk result (λ c. Command.Rar c ≡ made_by (known self.now.dictionary.now) CommandKind.ReAuthRequest header false (seen_all self.now.avps.now)) }
+    {
+        let rules = rules::re_auth_request();
+        let [
+            session_id,
+            origin_host,
+            origin_realm,
+            destination_realm,
+            destination_host,
+            auth_application_id,
+            re_auth_request_type,
+        ] = rules;
+        Ok(ReAuthRequest {
+            header,
+            session_id: self.octets(session_id)?,
+            origin_host: self.octets(origin_host)?,
+            origin_realm: self.octets(origin_realm)?,
+            destination_realm: self.octets(destination_realm)?,
+            destination_host: self.octets(destination_host)?,
+            auth_application_id: self.number(auth_application_id),
+            re_auth_request_type: self.number(re_auth_request_type),
+            rest: self.rest(&rules)?,
+        })
+    }
+
+    fn re_auth_answer(&self, header: Header) -> Result<ReAuthAnswer, AllocError>
+        requires { All (λ a. length_of a < 2 ^ 24) (seen_all self.now.avps.now) }
+        ensures { IfOk result (λ c. Command.Raa c ≡ made_by (known self.now.dictionary.now) CommandKind.ReAuthAnswer header false (seen_all self.now.avps.now)) }
+    {
+        let rules = rules::re_auth_answer();
+        let [session_id, result_code, origin_host, origin_realm] = rules;
+        Ok(ReAuthAnswer {
+            header,
+            session_id: self.octets(session_id)?,
+            result_code: self.number(result_code),
+            origin_host: self.octets(origin_host)?,
+            origin_realm: self.octets(origin_realm)?,
+            rest: self.rest(&rules)?,
+        })
+    }
+
+    fn credit_control_request(
+        &self,
+        header: Header,
+        event: bool,
+    ) -> Result<CreditControlRequest, AllocError>
+        requires { All (λ a. length_of a < 2 ^ 24) (seen_all self.now.avps.now) }
+        ensures { IfOk result (λ c. Command.Ccr c ≡ made_by (known self.now.dictionary.now) CommandKind.CreditControlRequest header event (seen_all self.now.avps.now)) }
+    {
+        let rules = rules::credit_control_request(event);
+        let [
+            session_id,
+            origin_host,
+            origin_realm,
+            destination_realm,
+            auth_application_id,
+            service_context_id,
+            cc_request_type,
+            cc_request_number,
+            subscription_id,
+            requested_action,
+            requested_service_unit,
+            used_service_unit,
+        ] = rules;
+        Ok(CreditControlRequest {
+            header,
+            session_id: self.octets(session_id)?,
+            origin_host: self.octets(origin_host)?,
+            origin_realm: self.octets(origin_realm)?,
+            destination_realm: self.octets(destination_realm)?,
+            auth_application_id: self.number(auth_application_id),
+            service_context_id: self.octets(service_context_id)?,
+            cc_request_type: self.number(cc_request_type),
+            cc_request_number: self.number(cc_request_number),
+            subscription_id: self.all_groups(subscription_id)?,
+            requested_action: self.optional_number(requested_action),
+            requested_service_unit: self.optional_group(requested_service_unit)?,
+            used_service_unit: self.all_groups(used_service_unit)?,
+            rest: self.rest(&rules)?,
+        })
+    }
+
+    fn credit_control_answer(&self, header: Header) -> Result<CreditControlAnswer, AllocError>
+        requires { All (λ a. length_of a < 2 ^ 24) (seen_all self.now.avps.now) }
+        ensures { IfOk result (λ c. Command.Cca c ≡ made_by (known self.now.dictionary.now) CommandKind.CreditControlAnswer header false (seen_all self.now.avps.now)) }
+    {
+        let rules = rules::credit_control_answer();
+        let [
+            session_id,
+            result_code,
+            origin_host,
+            origin_realm,
+            auth_application_id,
+            cc_request_type,
+            cc_request_number,
+            granted_service_unit,
+            final_unit_indication,
+            check_balance_result,
+        ] = rules;
+        Ok(CreditControlAnswer {
+            header,
+            session_id: self.octets(session_id)?,
+            result_code: self.number(result_code),
+            origin_host: self.octets(origin_host)?,
+            origin_realm: self.octets(origin_realm)?,
+            auth_application_id: self.number(auth_application_id),
+            cc_request_type: self.number(cc_request_type),
+            cc_request_number: self.number(cc_request_number),
+            granted_service_unit: self.optional_group(granted_service_unit)?,
+            final_unit_indication: self.optional_group(final_unit_indication)?,
+            check_balance_result: self.optional_number(check_balance_result),
+            rest: self.rest(&rules)?,
+        })
+    }
+
+    fn error_answer(&self, header: Header) -> Result<ErrorAnswer, AllocError>
+        requires { All (λ a. length_of a < 2 ^ 24) (seen_all self.now.avps.now) }
+        ensures { IfOk result (λ c. Command.ErrorAnswer c ≡ made_by (known self.now.dictionary.now) CommandKind.ErrorAnswer header false (seen_all self.now.avps.now)) }
+    {
+        let rules = rules::error_answer();
+        let [
+            session_id,
+            origin_host,
+            origin_realm,
+            result_code,
+            failed_avp,
+        ] = rules;
+        Ok(ErrorAnswer {
+            header,
+            session_id: self.optional_octets(session_id)?,
+            origin_host: self.octets(origin_host)?,
+            origin_realm: self.octets(origin_realm)?,
+            result_code: self.number(result_code),
+            failed_avp: self.optional_octets(failed_avp)?,
+            rest: self.rest(&rules)?,
+        })
+    }
+
+    /// The command of a kind with a header and these AVPs; `event` where the message is an EVENT request.
+    pub(crate) fn command(
+        &self,
+        kind: CommandKind,
+        header: Header,
+        event: bool,
+    ) -> Result<Command, AllocError>
+        requires { All (λ a. length_of a < 2 ^ 24) (seen_all self.now.avps.now) }
+        ensures { IfOk result (λ c. c ≡ made_by (known self.now.dictionary.now) kind header event (seen_all self.now.avps.now)) }
+    {
+        match kind {
+            CommandKind::CapabilitiesExchangeRequest => Ok(Command::Cer(
+                self.capabilities_exchange_request(header)?,
+            )),
+            CommandKind::CapabilitiesExchangeAnswer => Ok(Command::Cea(
+                self.capabilities_exchange_answer(header)?,
+            )),
+            CommandKind::DeviceWatchdogRequest => Ok(Command::Dwr(self.device_watchdog_request(
+                header,
+            )?)),
+            CommandKind::DeviceWatchdogAnswer => Ok(Command::Dwa(self.device_watchdog_answer(
+                header,
+            )?)),
+            CommandKind::DisconnectPeerRequest => Ok(Command::Dpr(self.disconnect_peer_request(
+                header,
+            )?)),
+            CommandKind::DisconnectPeerAnswer => Ok(Command::Dpa(self.disconnect_peer_answer(
+                header,
+            )?)),
+            CommandKind::ReAuthRequest => Ok(Command::Rar(self.re_auth_request(header)?)),
+            CommandKind::ReAuthAnswer => Ok(Command::Raa(self.re_auth_answer(header)?)),
+            CommandKind::CreditControlRequest => Ok(Command::Ccr(self.credit_control_request(
+                header, event,
+            )?)),
+            CommandKind::CreditControlAnswer => Ok(Command::Cca(self.credit_control_answer(
+                header,
+            )?)),
+            CommandKind::ErrorAnswer => Ok(Command::ErrorAnswer(self.error_answer(header)?)),
         }
     }
 }

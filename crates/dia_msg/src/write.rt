@@ -1,19 +1,20 @@
 //! The spelling of a command: how long it is, and its octets.
 
-ghost use Rattle.std.specs.Prelude.{◌≡◌, ◌+◌, ◌<◌, ◌≤◌, ◌^◌, ◌↔◌, ◌++◌, length, take, OnOk, OnErr, IfErr, IsErrOf};
+ghost use Rattle.std.specs.Prelude.{◌≡◌, ◌+◌, ◌<◌, ◌≤◌, ◌^◌, ◌↔◌, ◌++◌, length, vec_len, vec_capacity, OnOk, OnErr, IfErr, IsErrOf};
 ghost use Rattle.std.specs.Option.{SomeIff};
 ghost use Rattle.dia_avp.specs.View.{seen};
-ghost use Rattle.dia_avp.specs.Spelling.{spelling};
-ghost use Rattle.dia_msg.specs.Header.{IsWholeMessage};
+ghost use Rattle.dia_avp.specs.Spelling.{length_of, spelled, spelling};
+ghost use Rattle.dia_msg.specs.Header.{IsWholeMessage, header_octets};
 ghost use Rattle.dia_msg.specs.Framing.{IsFirstFrame};
-ghost use Rattle.dia_msg.specs.Command.{octets_avp, avps_of};
+ghost use Rattle.dia_msg.specs.Command.{header_of, avps_of, rest_of};
+ghost use Rattle.dia_msg.specs.Fields.{content_octets, item_avp, field_avps, fields_avps};
 ghost use Rattle.dia_msg.specs.Spelling.{message_len, spell, IsTooLong};
 
-use crate::command::{Command, DeviceWatchdogRequest};
-use crate::header::{HEADER_LEN, octets_of};
-use crate::rules::{DEVICE_WATCHDOG_REQUEST, Rule};
-use crate::typed::TypedAvp;
-use dia_avp::{AvpView, Octets, WriteError, write_avp, write_avps};
+use crate::command::Command;
+use crate::fields::{Content, FieldView, Item, fields_of};
+use crate::header::{HEADER_LEN, Header, octets_of};
+use byteorder::{BigEndian, ByteOrder};
+use dia_avp::{AvpList, AvpView, WriteError, put_avp, put_avps, put_group};
 
 /// The greatest length that 24 bits hold.
 const MAX_LENGTH: usize = 0xff_ffff;
@@ -30,74 +31,123 @@ fn total(len: usize, more: usize) -> Option<usize>
     }
 }
 
-fn identity_avp(rule: Rule, field: &TypedAvp<Octets>) -> AvpView<'_>
-    ensures { seen result ≡ octets_avp rule.code field.now }
+// How many octets the data has, where 24 bits hold the number.
+fn content_len(content: &Content<'_>) -> Option<usize>
+    ensures { let len = length (content_octets content.now) in SomeIff result (len < 2 ^ 24) len }
 {
-    AvpView {
-        code: rule.code,
-        vendor: None,
-        mandatory: field.mandatory,
-        protected: field.protected,
-        octets: field.value.as_slice(),
+    match content {
+        Content::Octets(octets) => total(0, octets.len()),
+        Content::Number(_) => Some(4),
+        Content::Group(list) => total(0, list.spelled_len()?),
     }
+}
+
+// A length and the octets of an AVP, where 24 bits hold their sum.
+#[tactic(auto, using(crate::proofs::WriteLemmas::length_item))]
+fn with_item(start: usize, item: &Item<'_>) -> Option<usize>
+    requires { start < 2 ^ 24 }
+    ensures { let len = start + length (spelled (item_avp item.now)) in SomeIff result (len < 2 ^ 24) len }
+{
+    let data = content_len(&item.content)?;
+    total(start, (8 + data).div_ceil(4) * 4)
+}
+
+// A length and the octets of a field, where 24 bits hold their sum.
+fn with_field(start: usize, field: &FieldView<'_>) -> Option<usize>
+    requires { start < 2 ^ 24 }
+    ensures { let len = start + length (spelling (field_avps field.now)) in SomeIff result (len < 2 ^ 24) len }
+{
+    let mut len = start;
+    for place in 0..field.len() {
+        len = with_item(len, &field.at(place))?;
+    }
+    Some(len)
+}
+
+// A length and the octets of fields, where 24 bits hold their sum.
+fn with_fields(start: usize, fields: &[FieldView<'_>]) -> Option<usize>
+    requires { start < 2 ^ 24 }
+    ensures { let len = start + length (spelling (fields_avps fields.now)) in SomeIff result (len < 2 ^ 24) len }
+{
+    let mut len = start;
+    for field in fields {
+        len = with_field(len, field)?;
+    }
+    Some(len)
 }
 
 // How many octets the message has, where 24 bits hold the number.
-fn watchdog_request_len(dwr: &DeviceWatchdogRequest) -> Option<usize>
-    ensures { SomeIff result (message_len (Command.Dwr dwr.now) < 2 ^ 24) (message_len (Command.Dwr dwr.now)) }
+fn message_len(fields: &[FieldView<'_>], rest: &AvpList) -> Option<usize>
+    ensures { let len = 20 + length (spelling (fields_avps fields.now ++ rest.now)) in SomeIff result (len < 2 ^ 24) len }
 {
-    let [host, realm] = DEVICE_WATCHDOG_REQUEST;
-    let host_len = identity_avp(host, &dwr.origin_host).spelled_len();
-    let realm_len = identity_avp(realm, &dwr.origin_realm).spelled_len();
-    let with_host = total(HEADER_LEN, host_len)?;
-    let with_realm = total(with_host, realm_len)?;
-    total(with_realm, dwr.rest.spelled_len()?)
+    let len = with_fields(HEADER_LEN, fields)?;
+    total(len, rest.spelled_len()?)
 }
 
-// Appends the AVPs. Only memory may be wanting, and what was there stays.
-fn write_watchdog_request(dwr: &DeviceWatchdogRequest, out: &mut Vec<u8>) -> Result<(), WriteError>
-    requires { message_len (Command.Dwr dwr.now) < 2 ^ 24 }
-    ensures ok { OnOk result (out.new.items ≡ out.old.items ++ spelling (avps_of (Command.Dwr dwr.now))) }
-    ensures memory { IfErr result (λ e. e ≡ WriteError.NoMemory) }
-    ensures front { take (length out.old.items) out.new.items ≡ out.old.items }
+fn view_of<'a>(item: &Item<'_>, octets: &'a [u8]) -> AvpView<'a>
+    requires { octets.now ≡ content_octets item.now.content }
+    ensures { seen result ≡ item_avp item.now }
 {
-    let [host, realm] = DEVICE_WATCHDOG_REQUEST;
-    write_avp(&identity_avp(host, &dwr.origin_host), out)?;
-    write_avp(&identity_avp(realm, &dwr.origin_realm), out)?;
-    write_avps(&dwr.rest, out)
-}
-
-fn message_len(command: &Command) -> Option<usize>
-    ensures { SomeIff result (message_len command.now < 2 ^ 24) (message_len command.now) }
-{
-    match command {
-        Command::Dwr(dwr) => watchdog_request_len(dwr),
+    AvpView {
+        code: item.code,
+        vendor: None,
+        mandatory: item.mandatory,
+        protected: item.protected,
+        octets,
     }
 }
 
-fn write_fields(command: &Command, out: &mut Vec<u8>) -> Result<(), WriteError>
-    requires { message_len command.now < 2 ^ 24 }
-    ensures ok { OnOk result (out.new.items ≡ out.old.items ++ spelling (avps_of command.now)) }
-    ensures memory { IfErr result (λ e. e ≡ WriteError.NoMemory) }
-    ensures front { take (length out.old.items) out.new.items ≡ out.old.items }
+// Appends an AVP for which there is room.
+fn put_item(item: &Item<'_>, out: &mut Vec<u8>)
+    requires short { length_of (item_avp item.now) < 2 ^ 24 }
+    requires room { vec_len out.old + length (spelled (item_avp item.now)) ≤ vec_capacity out.old }
+    ensures items { out.new.items ≡ out.old.items ++ spelled (item_avp item.now) }
+    ensures room { vec_capacity out.old ≤ vec_capacity out.new }
 {
-    match command {
-        Command::Dwr(dwr) => write_watchdog_request(dwr, out),
+    match item.content {
+        Content::Octets(octets) => put_avp(&view_of(item, octets), out),
+        Content::Number(number) => {
+            let mut octets = [0; 4];
+            BigEndian::write_u32(&mut octets, number);
+            put_avp(&view_of(item, &octets), out);
+        }
+        Content::Group(list) => put_group(item.code, item.mandatory, item.protected, list, out),
     }
 }
 
-// Appends the spelling of a command. Only memory may be wanting, and what was there stays.
-#[tactic(auto, unfolding(crate::specs::Spelling::spell))]
-fn write_spelling(command: &Command, len: usize, out: &mut Vec<u8>) -> Result<(), WriteError>
-    requires len { len ≡ message_len command.now }
+// Appends the AVPs of a field, for which there is room.
+fn put_field(field: &FieldView<'_>, out: &mut Vec<u8>)
+    requires short { length (spelling (field_avps field.now)) < 2 ^ 24 }
+    requires room { vec_len out.old + length (spelling (field_avps field.now)) ≤ vec_capacity out.old }
+    ensures items { out.new.items ≡ out.old.items ++ spelling (field_avps field.now) }
+    ensures room { vec_capacity out.old ≤ vec_capacity out.new }
+{
+    for place in 0..field.len() {
+        put_item(&field.at(place), out);
+    }
+}
+
+// Appends the AVPs of fields, for which there is room.
+fn put_fields(fields: &[FieldView<'_>], out: &mut Vec<u8>)
+    requires short { length (spelling (fields_avps fields.now)) < 2 ^ 24 }
+    requires room { vec_len out.old + length (spelling (fields_avps fields.now)) ≤ vec_capacity out.old }
+    ensures items { out.new.items ≡ out.old.items ++ spelling (fields_avps fields.now) }
+    ensures room { vec_capacity out.old ≤ vec_capacity out.new }
+{
+    for field in fields {
+        put_field(field, out);
+    }
+}
+
+// Appends the header of a message of so many octets, for which there is room.
+fn put_header(header: &Header, len: usize, out: &mut Vec<u8>)
     requires short { len < 2 ^ 24 }
-    ensures ok { OnOk result (out.new.items ≡ out.old.items ++ spell command.now) }
-    ensures memory { IfErr result (λ e. e ≡ WriteError.NoMemory) }
-    ensures front { take (length out.old.items) out.new.items ≡ out.old.items }
+    requires room { vec_len out.old + 20 ≤ vec_capacity out.old }
+    ensures items { out.new.items ≡ out.old.items ++ header_octets header.now len }
+    ensures room { vec_capacity out.old ≤ vec_capacity out.new }
 {
-    out.reserve(len)?;
-    out.extend_from_slice(&octets_of(command.header(), len as u32))?;
-    write_fields(command, out)
+    out.extend_from_slice(&octets_of(header, len as u32))
+        .unwrap();
 }
 
 /// Appends the one spelling of a command (RFC 6733 sections 3 and 4): the AVPs of its fields in the order of its format,
@@ -115,13 +165,13 @@ pub fn write_message(command: &Command, out: &mut Vec<u8>) -> Result<(), WriteEr
     // Within a framer's limit it is the first frame of itself, whatever comes behind it.
     ensures frame { OnOk result (IsFirstFrame (spell command.now)) }
 {
-    let Some(len) = message_len(command) else {
+    let fields = fields_of(command);
+    let Some(len) = message_len(&fields, command.rest()) else {
         return Err(WriteError::LengthOver24Bits);
     };
-    let start = out.len();
-    let written = write_spelling(command, len, out);
-    if written.is_err() {
-        out.truncate(start);
-    }
-    written
+    out.reserve(len)?;
+    put_header(command.header(), len, out);
+    put_fields(&fields, out);
+    put_avps(command.rest().as_slice(), out);
+    Ok(())
 }

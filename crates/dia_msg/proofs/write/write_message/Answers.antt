@@ -1,13 +1,48 @@
-use Rattle.dia_msg.specs.Framing.{IsFirstFrame}
-use Rattle.dia_msg.specs.Header.{IsWholeMessage}
-use Rattle.dia_msg.specs.Spelling.{spell}
-use Rattle.dia_msg.proofs.WriteLemmas.{spell-whole, spell-first_frame, on_any}
+use Rattle.std.proofs.Common.{◌≡◌, ◌<◌, ◌^◌, ◌+◌, ◌++◌, List, ℕ, length, refl, sym, ap, ◌∙◌, arith}
+use Rattle.std.proofs.lemmas.List.{length-append}
+use Rattle.std.proofs.lemmas.List.Concat.{flat_map-append}
+use Rattle.dia_avp.specs.declared.avp.Avp.{Avp}
+use Rattle.dia_avp.specs.Spelling.{spelled, spelling}
+use Rattle.dia_avp.proofs.Spelled.{short_inner}
+use Rattle.dia_msg.specs.Header.{header_octets}
+use Rattle.dia_msg.specs.Command.{header_of, avps_of, rest_of}
+use Rattle.dia_msg.specs.Fields.{fields_avps}
+use Rattle.dia_msg.specs.Spelling.{message_len}
+use Rattle.dia_msg.proofs.WriteLemmas.{length-parts, spell-parts, spell-whole, spell-first_frame}
 use Rattle.dia_msg.proofs.write.write_message.Goals as goal
 
-pub returns-else-is_err-clause-message : goal.returns-else-is_err-clause-message
-returns-else-is_err-clause-message c =
-    on_any c.write_spelling-written.result (IsWholeMessage (spell c.args.command.now)) (spell-whole c.args.command.now c.in-Some.ensures.0)
+pub put_avps-requires-clause-short : goal.put_avps-requires-clause-short
+put_avps-requires-clause-short c =
+    let list = fields_avps c.fields_of-fields.result in
+    let rest : c.as_slice.result.now ≡ c.rest.result.now = c.as_slice.ensures ∙ c.rest-2.ensures ∙ sym c.rest.ensures in
+    rw rest (short_inner c.rest.result.now (2 ^ 24) (omega (arith, length-parts list c.rest.result.now)))
 
-pub returns-else-is_err-clause-frame : goal.returns-else-is_err-clause-frame
-returns-else-is_err-clause-frame c =
-    on_any c.write_spelling-written.result (IsFirstFrame (spell c.args.command.now)) (spell-first_frame c.args.command.now c.in-Some.ensures.0)
+pub put_avps-requires-clause-room : goal.put_avps-requires-clause-room
+put_avps-requires-clause-room c =
+    let list = fields_avps c.fields_of-fields.result in
+    let rest : c.as_slice.result.now ≡ c.rest.result.now = c.as_slice.ensures ∙ c.rest-2.ensures ∙ sym c.rest.ensures in
+    let front = header_octets c.header.result.now c.in-Some.len in
+    let fields = ap length c.put_fields.ensures.items ∙ length-append c.put_header.new.out.items (spelling list) in
+    let header = ap length c.put_header.ensures.items ∙ length-append c.reserve.new.self.items front in
+    rw rest (omega (arith, length-parts list c.rest.result.now, c.in_ok-reserve.ensures.ok, c.in-Some.ensures.1))
+
+pub returns-clause-ok : goal.returns-clause-ok
+returns-clause-ok c =
+    let command = c.args.command.now in
+    let list = fields_avps c.fields_of-fields.result in
+    let all : list ++ rest_of command ≡ avps_of command = ap (λ (l : List Avp). l ++ rest_of command) c.fields_of-fields.ensures in
+    let len : c.in-Some.len ≡ message_len command = omega (arith, c.in-Some.ensures.1, ap (λ (l : List Avp). length (spelling (list ++ l))) c.rest.ensures, ap (λ (l : List Avp). length (spelling l)) all) in
+    c.put_avps.ensures.items
+    ∙ rw (c.put_fields.ensures.items, c.put_header.ensures.items, c.reserve.ensures.items, c.header.ensures, len, c.as_slice.ensures, c.rest-2.ensures) (spell-parts command c.args.out.now.items list (rest_of command) all)
+
+pub returns-clause-message : goal.returns-clause-message
+returns-clause-message c =
+    let list = fields_avps c.fields_of-fields.result in
+    let all : list ++ c.rest.result.now ≡ avps_of c.args.command.now = rw (c.fields_of-fields.ensures, c.rest.ensures) refl in
+    spell-whole c.args.command.now (omega (arith, c.in-Some.ensures.0, ap (λ (l : List Avp). length (spelling l)) all))
+
+pub returns-clause-frame : goal.returns-clause-frame
+returns-clause-frame c =
+    let list = fields_avps c.fields_of-fields.result in
+    let all : list ++ c.rest.result.now ≡ avps_of c.args.command.now = rw (c.fields_of-fields.ensures, c.rest.ensures) refl in
+    spell-first_frame c.args.command.now (omega (arith, c.in-Some.ensures.0, ap (λ (l : List Avp). length (spelling l)) all))

@@ -1,6 +1,0 @@
-use Rattle.std.proofs.Common.{◌≡◌, map, take}
-use Rattle.dia_dict.proofs.BaseLemmas.{of_line}
-use Rattle.dia_dict.proofs.dictionary.Dictionary.base.Given as goal
-
-abbrev pub invariant-loop-code : goal.invariant-loop-code
-invariant-loop-code l = l.dictionary ≡ map of_line (take l.code-index l.code-items)

@@ -1,0 +1,5 @@
+pub mod FaultLaws
+pub mod FaultLemmas
+pub mod NormalLaws
+pub mod NormalLemmas
+pub mod StandardFacts

@@ -1,0 +1,5 @@
+pub mod Code
+pub mod View
+pub mod Kind
+pub mod Faults
+pub mod Normal

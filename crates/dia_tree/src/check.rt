@@ -1,0 +1,132 @@
+//! The first fault of octets that are AVPs.
+
+ghost use Rattle.std.specs.Prelude.{◌≡◌, Some, slice_get};
+ghost use Rattle.std.specs.Option.{option_map};
+ghost use Rattle.dia_avp.specs.View.{seen};
+ghost use Rattle.dia_dict.specs.Dictionary.{known};
+ghost use Rattle.dia_dict.specs.Kind.{least_size, data_fault as fault_of_data};
+ghost use Rattle.dia_tree.specs.View.{seen_fault};
+ghost use Rattle.dia_tree.specs.Faults.{fault, is_bad_value as has_bad_value, unknown_faults, own_faults, data_faults, group_faults};
+
+use crate::code::ResultCode;
+use crate::cut::number_at;
+use crate::fault::FaultView;
+use crate::kind::is_group;
+use crate::zeros::{broken_fault, zeros};
+use dia_avp::{AvpView, FieldFault, MAX_AVPS, first_avp};
+use dia_dict::{AvpKind, Dictionary};
+
+/// An AVP after 128 in its list, or a group within 4.
+const TOO_MUCH: FaultView<'static> = FaultView {
+    result: ResultCode::UnableToComply,
+    failed: None,
+};
+
+/// How many levels of AVPs there are: the message's, and four levels of groups below.
+const LEVELS: u8 = 5;
+
+fn bad_value<'a>(avp: &AvpView<'a>) -> FaultView<'a>
+    ensures { seen_fault result ≡ fault ResultCode.InvalidAvpValue (Some (seen avp.now)) }
+{
+    FaultView {
+        result: ResultCode::InvalidAvpValue,
+        failed: Some(*avp),
+    }
+}
+
+// Whether the value of an AVP without vendor is none that credit control knows.
+fn is_bad_value(event: bool, code: u32, octets: &[u8]) -> bool
+    ensures { result ≡ has_bad_value event code octets.now }
+{
+    match code {
+        263 => octets.is_empty() || octets.len() > 255,
+        416 => number_at(octets, 0) == 0 || number_at(octets, 0) > 4,
+        436 => event && number_at(octets, 0) > 3,
+        _ => false,
+    }
+}
+
+fn own_fault<'a>(event: bool, avp: &AvpView<'a>) -> Option<FaultView<'a>>
+    ensures { option_map seen_fault result ≡ slice_get (own_faults event (seen avp.now)) 0 }
+{
+    if avp.vendor.is_none() && is_bad_value(event, avp.code, avp.octets) {
+        return Some(bad_value(avp));
+    }
+    None
+}
+
+// What is wrong with the data of an AVP by its type, and then by its value.
+fn data_fault<'a>(kind: AvpKind, event: bool, avp: &AvpView<'a>) -> Option<FaultView<'a>>
+    ensures { let a = seen avp.now in
+        option_map seen_fault result ≡ slice_get (data_faults (fault_of_data kind a.octets) (least_size kind) event a) 0 }
+{
+    match kind.typed(avp) {
+        Ok(_) => own_fault(event, avp),
+        Err(FieldFault::BadValue) => Some(bad_value(avp)),
+        Err(FieldFault::BadLength) => Some(FaultView {
+            result: ResultCode::InvalidAvpLength,
+            failed: Some(zeros(kind.least_size(), avp)),
+        }),
+    }
+}
+
+fn unknown_fault<'a>(avp: &AvpView<'a>) -> Option<FaultView<'a>>
+    ensures { option_map seen_fault result ≡ slice_get (unknown_faults (seen avp.now)) 0 }
+{
+    if !avp.mandatory {
+        return None;
+    }
+    Some(FaultView {
+        result: ResultCode::AvpUnsupported,
+        failed: Some(*avp),
+    })
+}
+
+// The first fault of octets with so many levels open to them.
+fn fault_in<'a>(
+    dictionary: &Dictionary,
+    event: bool,
+    room: u8,
+    octets: &'a [u8],
+) -> Option<FaultView<'a>>
+    ensures { option_map seen_fault result ≡ slice_get (group_faults (known dictionary.now) event room octets.now) 0 }
+{
+    if room == 0 {
+        return Some(TOO_MUCH);
+    }
+    let mut count = 0;
+    let mut rest = octets;
+    while !rest.is_empty() {
+        let Ok((avp, after)) = first_avp(rest) else {
+            return Some(broken_fault(dictionary, rest));
+        };
+        if count == MAX_AVPS {
+            return Some(TOO_MUCH);
+        }
+        let first = match dictionary.find(avp.code, avp.vendor) {
+            None => unknown_fault(&avp),
+            Some(definition) if is_group(definition.kind) => {
+                fault_in(dictionary, event, room - 1, avp.octets)
+            }
+            Some(definition) => data_fault(definition.kind, event, &avp),
+        };
+        if first.is_some() {
+            return first;
+        }
+        count += 1;
+        rest = after;
+    }
+    None
+}
+
+/// The first fault of octets that are a message's AVPs, in order of place, those inside a group before the next AVP's
+/// (RFC 6733 section 7.2); `event` says whether the message is an EVENT request (RFC 8506 section 8.3). Takes no memory.
+pub fn first_fault<'a>(
+    dictionary: &Dictionary,
+    event: bool,
+    octets: &'a [u8],
+) -> Option<FaultView<'a>>
+    ensures { option_map seen_fault result ≡ slice_get (group_faults (known dictionary.now) event 5 octets.now) 0 }
+{
+    fault_in(dictionary, event, LEVELS, octets)
+}

@@ -1,0 +1,29 @@
+//! The AVPs of a message with all that their groups hold (RFC 6733 section 4.4): their first fault, and their one
+//! spelling at every level.
+//!
+//! | File | What it does |
+//! |---|---|
+//! | `code` | Result-Codes and their numbers |
+//! | `fault` | a fault with its failed AVP |
+//! | `kind` | which AVPs are groups |
+//! | `cut`, `zeros` | the header of a broken AVP; faults whose failed AVP is a header and zeros |
+//! | `check` | the first fault of octets that are AVPs, without memory |
+//! | `normal` | AVPs with reserved bits and padding zero, groups too |
+#![tactic(auto)]
+
+mod check;
+mod code;
+mod cut;
+mod fault;
+mod kind;
+mod normal;
+mod zeros;
+
+pub use check::first_fault;
+pub use code::ResultCode;
+pub use fault::{FaultView, MsgFault};
+pub use normal::{group_list, message_list, normal_avp};
+pub use zeros::missing_fault;
+
+#[cfg(test)]
+mod tests;
