@@ -1,4 +1,4 @@
--- Result-Codes by number (RFC 6733 section 7.1, RFC 8506 section 9.1).
+-- Result-Codes by number (RFC 6733 section 7.1, RFC 8506 section 9).
 use Rattle.std.specs.Prelude.{ℕ}
 use Rattle.dia_tree.specs.declared.code.ResultCode.{ResultCode}
 use Rattle.dia_tree.specs.declared.code.ResultCode.TheVariants.{Success, CommandUnsupported, TooBusy, ApplicationUnsupported, UnknownPeer, EndUserServiceDenied, CreditControlNotApplicable, CreditLimitReached, AvpUnsupported, UnknownSessionId, InvalidAvpValue, MissingAvp, NoCommonApplication, UnsupportedVersion, UnableToComply, InvalidAvpLength, InvalidMessageLength, UserUnknown, RatingFailed}

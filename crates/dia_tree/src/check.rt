@@ -120,7 +120,7 @@ fn fault_in<'a>(
 }
 
 /// The first fault of octets that are a message's AVPs, in order of place, those inside a group before the next AVP's
-/// (RFC 6733 section 7.2); `event` says whether the message is an EVENT request (RFC 8506 section 8.3). Takes no memory.
+/// (RFC 6733 section 7.1.5); `event` says whether the message is an EVENT request (RFC 8506 section 8.3). Takes no memory.
 pub fn first_fault<'a>(
     dictionary: &Dictionary,
     event: bool,

@@ -3,7 +3,7 @@ ghost use Rattle.dia_tree.specs.Code.{number_of};
 
 use thiserror::Error;
 
-/// The Result-Code that answers a message, under its name in RFC 6733 section 7.1 and RFC 8506 section 9.1.
+/// The Result-Code that answers a message, under its name in RFC 6733 section 7.1 and RFC 8506 section 9.
 #[derive(Clone, Copy, Debug, PartialEq, Eq, Error)]
 pub enum ResultCode {
     #[error("DIAMETER_SUCCESS: the request was done")]
