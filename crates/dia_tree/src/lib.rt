@@ -22,7 +22,7 @@ mod zeros;
 pub use check::first_fault;
 pub use code::ResultCode;
 pub use fault::{FaultView, MsgFault};
-pub use normal::{group_list, message_list, normal_avp};
+pub use normal::{group_list, normal_avp};
 pub use zeros::missing_fault;
 
 #[cfg(test)]

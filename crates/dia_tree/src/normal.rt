@@ -78,23 +78,6 @@ fn normal_of(
     })
 }
 
-fn list_of(
-    alloc: Global,
-    dictionary: &Dictionary,
-    room: u8,
-    octets: &[u8],
-) -> Result<AvpList, AllocError>
-    ensures { IfOk result (λ list. list ≡ map (normal_form (known dictionary.now) room) (avps_in octets.now).0) }
-{
-    let mut list = AvpList::new(alloc);
-    let mut rest = octets;
-    while let Ok((avp, after)) = first_avp(rest) {
-        list.push(normal_of(alloc, dictionary, room, &avp)?)?;
-        rest = after;
-    }
-    Ok(list)
-}
-
 /// An AVP of a message, as it is written: the data of a group, and of the groups in it down to four levels, is the one
 /// spelling of its AVPs (RFC 6733 section 4.1). What stands in a group behind a broken AVP is left out.
 pub fn normal_avp(
@@ -108,17 +91,6 @@ pub fn normal_avp(
     normal_of(alloc, dictionary, MAX_DEPTH, avp)
 }
 
-/// The AVPs of a message, each as `normal_avp` has it, up to the first broken one.
-pub fn message_list(
-    alloc: Global,
-    dictionary: &Dictionary,
-    octets: &[u8],
-) -> Result<AvpList, AllocError>
-    ensures { IfOk result (λ list. list ≡ map (normal_form (known dictionary.now) 4) (avps_in octets.now).0) }
-{
-    list_of(alloc, dictionary, MAX_DEPTH, octets)
-}
-
 /// The AVPs of a message's group, as they are written, up to the first broken one.
 pub fn group_list(
     alloc: Global,
@@ -127,5 +99,11 @@ pub fn group_list(
 ) -> Result<AvpList, AllocError>
     ensures { IfOk result (λ list. list ≡ map (normal_form (known dictionary.now) 3) (avps_in octets.now).0) }
 {
-    list_of(alloc, dictionary, MAX_DEPTH - 1, octets)
+    let mut list = AvpList::new(alloc);
+    let mut rest = octets;
+    while let Ok((avp, after)) = first_avp(rest) {
+        list.push(normal_of(alloc, dictionary, MAX_DEPTH - 1, &avp)?)?;
+        rest = after;
+    }
+    Ok(list)
 }

@@ -296,11 +296,6 @@ fn reserved_flags_and_padding_become_zero_at_every_level(rt: HostRuntime) -> Res
     let mut out = Vec::new(alloc);
     write_avp(&normal.view(), &mut out)?;
     assert_eq!(rt; out.as_slice(), EVEN.as_slice());
-    let list = message_list(alloc, &dictionary, &ODD)?;
-    assert_eq!(rt; list.len(), 1);
-    let mut out = Vec::new(alloc);
-    write_avps(&list, &mut out)?;
-    assert_eq!(rt; out.as_slice(), EVEN.as_slice());
     let inner = group_list(alloc, &dictionary, &ODD[8..])?;
     assert_eq!(rt; inner.len(), 2);
     let mut out = Vec::new(alloc);

@@ -2,11 +2,11 @@ use Rattle.std.proofs.Common.{◌≡◌, ◌++◌, length, map}
 use Rattle.dia_avp.specs.Reading.{avps_in}
 use Rattle.dia_dict.specs.Dictionary.{known}
 use Rattle.dia_tree.specs.Normal.{normal}
-use Rattle.dia_tree.proofs.normal.list_of.Given as goal
+use Rattle.dia_tree.proofs.normal.group_list.Given as goal
 
 -- what is listed, and then the normal AVPs of the rest
 abbrev pub invariant-loop-avp : goal.invariant-loop-avp
-invariant-loop-avp l = map (normal (known l.dictionary) l.room) (avps_in l.octets).0 ≡ l.list ++ map (normal (known l.dictionary) l.room) (avps_in l.rest).0
+invariant-loop-avp l = map (normal (known l.dictionary) 3) (avps_in l.octets).0 ≡ l.list ++ map (normal (known l.dictionary) 3) (avps_in l.rest).0
 
 abbrev pub decreases-loop-avp : goal.decreases-loop-avp
 decreases-loop-avp l = length l.rest
