@@ -128,6 +128,10 @@ pub fn write_avp(avp: &AvpView<'_>, out: &mut Vec<u8>) -> Result<(), WriteError>
     ensures too_long { IsErrOf result WriteError.LengthOver24Bits ↔ (2 ^ 24 ≤ length_of (seen avp.now)) }
     ensures err { OnErr result (out.new.items ≡ out.old.items) }
 
+    // Memory is wanting only where there is no room for it, and the room stays.
+    ensures memory { IsErrOf result WriteError.NoMemory → vec_capacity out.old < vec_len out.old + length (spelled (seen avp.now)) }
+    ensures room { vec_capacity out.old ≤ vec_capacity out.new }
+
     // What was written means this AVP again, whatever comes after it.
     ensures means { OnOk result (MeansAvp (seen avp.now)) }
 {
@@ -147,6 +151,10 @@ pub fn write_avps(list: &AvpList, out: &mut Vec<u8>) -> Result<(), WriteError>
     // An AVP too long for 24 bits is refused, whatever the memory.
     ensures too_long { IsErrOf result WriteError.LengthOver24Bits ↔ HasLong list.now }
     ensures err { OnErr result (out.new.items ≡ out.old.items) }
+
+    // Memory is wanting only where there is no room for them, and the room stays.
+    ensures memory { IsErrOf result WriteError.NoMemory → vec_capacity out.old < vec_len out.old + length (spelling list.now) }
+    ensures room { vec_capacity out.old ≤ vec_capacity out.new }
 
     // What was written means this list, and is read as this list again.
     ensures means { OnOk result (MeansAvps list.now) }

@@ -159,6 +159,10 @@ pub fn write_message(command: &Command, out: &mut Vec<u8>) -> Result<(), WriteEr
     ensures too_long { IsErrOf result WriteError.LengthOver24Bits ↔ IsTooLong command.now }
     ensures err { OnErr result (out.new.items ≡ out.old.items) }
 
+    // Memory is wanting only where there is no room for it, and the room stays.
+    ensures memory { IsErrOf result WriteError.NoMemory → vec_capacity out.old < vec_len out.old + message_len command.now }
+    ensures room { vec_capacity out.old ≤ vec_capacity out.new }
+
     // What was written is one message by its own header.
     ensures message { OnOk result (IsWholeMessage (spell command.now)) }
 
