@@ -1,12 +1,13 @@
--- What the words of a line spell: numbers and facts.
-use Rattle.std.proofs.Common.{◌≡◌, ◌<◌, ◌≤◌, ℕ, zero, suc, ◌+◌, ◌*◌, ◌-◌, ◌^◌, ◌==◌, Bool, true, false, List, [], ◌∷◌, length, take, drop, get_or, Option, Some, None, refl, sym, ap, ◌∙◌, arith}
+-- What the words of a line spell as numbers.
+use Rattle.std.proofs.Common.{◌≡◌, ◌<◌, ◌≤◌, ℕ, zero, suc, ◌+◌, ◌*◌, ◌-◌, ◌^◌, ◌==◌, Bool, true, false, List, [], ◌∷◌, length, take, drop, get_or, Some, None, refl, sym, ap, ◌∙◌, arith}
 use Rattle.std.specs.Prelude.{◌&&◌, nat_lt, fold}
 use Rattle.std.specs.List.{list_all}
 use Rattle.std.proofs.lemmas.Bool.{eqb-true}
 use Rattle.std.proofs.lemmas.Bool.Decides.{nat_tests}
 use Rattle.std.proofs.lemmas.List.{take-append-drop}
 use Rattle.std.proofs.lemmas.List.Sums.{fold-append}
-use Rattle.dbench.specs.Events.{Given, decimal_value, fact_of, facts_behind, facts_of, is_digit, is_word, none_given, number_of, with_fact}
+use Rattle.tab_text.specs.Words.{is_digit, is_word}
+use Rattle.dbench.specs.Events.{decimal_value, number_of}
 
 and_false : (a b : Bool) → b ≡ false → (a && b) ≡ false
 and_false true b is = is
@@ -69,32 +70,3 @@ unfolding number_of
 number_of-digits word value some digits is fits =
     let below : nat_lt (decimal_value word) (2 ^ 64) ≡ true = rw (← is) (grind (arith, nat_tests)) in
     rw (is_word-some word some, digits, below, is) refl
-
--- a word that is no fact, or one that was given before
-pub facts_of-none : (all left rest : List (List ℕ)) (word : List ℕ) (facts : Given) → facts_behind none_given all ≡ facts_behind facts left → left ≡ word ∷ rest
-    → with_fact (fact_of word) facts ≡ None → None ≡ facts_of all
-unfolding facts_of
-facts_of-none all left rest word facts same joined none = rw (same, joined, none) refl
-
--- all words are facts
-pub facts_of-all : (all left : List (List ℕ)) (facts : Given) → facts_behind none_given all ≡ facts_behind facts left → left ≡ []
-    → Some facts.values ≡ facts_of all
-unfolding facts_of
-facts_of-all all left facts same none = rw (same, none) refl
-
--- a word that is no fact adds none
-pub with_fact-none : (fact : Option (ℕ × ℕ)) (facts : Given) → None ≡ fact → with_fact fact facts ≡ None
-with_fact-none fact facts none = rw (← none) refl
-
--- an element within a list doesn't depend on what stands for those that aren't there
-get_or-within : (xs : List Bool) (i : ℕ) (d e : Bool) → i < length xs → get_or xs i d ≡ get_or xs i e
-get_or-within [] i d e below = absurd (omega arith)
-get_or-within (x ∷ xs) zero d e below = refl
-get_or-within (x ∷ xs) (suc i) d e below = get_or-within xs i d e (omega arith)
-
--- a fact that was given before isn't given again
-pub with_fact-twice : (fact : Option (ℕ × ℕ)) (number value : ℕ) (facts : Given) → Some (number, value) ≡ fact → number < length facts.given
-    → get_or facts.given number false ≡ true → with_fact fact facts ≡ None
-with_fact-twice fact number value facts is below twice =
-    let there : get_or facts.given number true ≡ true = get_or-within facts.given number true false below ∙ twice in
-    rw (← is, there) refl

@@ -7,3 +7,5 @@ pub mod WordLemmas
 pub mod ReadLemmas
 pub mod EventLemmas
 pub mod WalkLemmas
+pub mod FactsLemmas
+pub mod EventExamples

@@ -1,10 +1,12 @@
 -- Which events a text lists: a line each, `KIND N=V ..`, a kind by its name and then facts by number.
-use Rattle.std.specs.Prelude.{◌≡◌, ℕ, ◌+◌, ◌*◌, ◌-◌, ◌^◌, ◌==◌, ◌&&◌, not, nat_le, nat_lt, Bool, true, false, List, [], ◌∷◌, filter, fold, Option, Some, None, is_none, option_map, option_and_then, if◌then◌else◌, slice_index_or, slice_set}
-use Rattle.std.specs.List.{filter_map, find, list_all, slice_split}
+use Rattle.std.specs.Prelude.{◌≡◌, ℕ, ◌+◌, ◌*◌, ◌-◌, ◌^◌, ◌==◌, ◌&&◌, not, nat_lt, Bool, true, List, [], ◌∷◌, filter, fold, map, Option, Some, None, is_none, is_some, option_map, unwrap_or, if◌then◌else◌}
+use Rattle.std.specs.List.{filter_map, find, list_all, list_any, range_with_len, slice_split}
 use Rattle.tab_law.specs.Books.{Laws}
 use Rattle.tab_law.specs.Named.{place_of}
+use Rattle.tab_law.specs.declared.limits.TheConstants.{PLACES}
 use Rattle.tab_step.specs.declared.machine.Event.{Event}
 use Rattle.tab_text.specs.Lines.{Line, lines}
+use Rattle.tab_text.specs.Words.{Word, is_digit, is_word, words}
 use Rattle.dbench.specs.declared.events.EventsError.{EventsError}
 use Rattle.dbench.specs.declared.events.EventsError.TheVariants.{NoMemory, BadLine}
 
@@ -12,20 +14,13 @@ use Rattle.dbench.specs.declared.events.EventsError.TheVariants.{NoMemory, BadLi
 abbrev pub decimal_value : List ℕ → ℕ
 decimal_value digits = fold (λ value digit. value * 10 + (digit - 48)) 0 digits
 
-abbrev pub is_digit : ℕ → Bool
-is_digit c = nat_le 48 c && nat_le c 57
-
-abbrev pub is_word : List ℕ → Bool
-is_word [] = false
-is_word (c ∷ cs) = true
-
 -- the number that a word spells: digits alone, at least one, and below 2 ^ 64
 unfoldable pub number_of : List ℕ → Option ℕ
 number_of word = if is_word word && list_all is_digit word && nat_lt (decimal_value word) (2 ^ 64) then Some (decimal_value word) else None
 
--- a number below 16 and a value
+-- a number below PLACES and a value
 abbrev pub fact_with : Option ℕ → Option ℕ → Option (ℕ × ℕ)
-fact_with (Some number) (Some value) = if nat_lt number 16 then Some (number, value) else None
+fact_with (Some number) (Some value) = if nat_lt number PLACES then Some (number, value) else None
 fact_with (Some number) None = None
 fact_with None value = None
 
@@ -40,38 +35,26 @@ fact_between (number ∷ value ∷ other ∷ others) = None
 unfoldable pub fact_of : List ℕ → Option (ℕ × ℕ)
 fact_of word = fact_between (slice_split (λ c. c == 61) word)
 
--- the 16 facts of an event, and which of them were given; those that weren't are 0
-pub record Given : Type 0 where
-  pub values : List ℕ
-  pub given : List Bool
+-- the facts that words are
+abbrev pub facts_in : List Word → List (ℕ × ℕ)
+facts_in all = filter_map (λ word. fact_of word.octets) all
 
--- one fact more, where it wasn't given before
-abbrev pub with_fact : Option (ℕ × ℕ) → Given → Option Given
-with_fact None facts = None
-with_fact (Some fact) facts =
-    if slice_index_or facts.given fact.0 true then None
-    else Some (record { values = slice_set facts.values fact.0 fact.1; given = slice_set facts.given fact.0 true })
+-- no number stands twice
+abbrev pub are_different : List ℕ → Bool
+are_different [] = true
+are_different (number ∷ others) = not (list_any (λ other. other == number) others) && are_different others
 
--- the facts of words behind those that were given before: each word is a fact, and none is given twice
-abbrev pub facts_behind : Given → List (List ℕ) → Option Given
-facts_behind facts [] = Some facts
-facts_behind facts (word ∷ words) = option_and_then (λ more. facts_behind more words) (with_fact (fact_of word) facts)
+-- each word is a fact, and no two have one number
+abbrev pub are_facts : List Word → Bool
+are_facts all = list_all (λ word. is_some (fact_of word.octets)) all && are_different (map (λ fact. fact.0) (facts_in all))
 
--- no fact is given
-abbrev pub none_given : Given
-none_given = record {
-  values = 0 ∷ 0 ∷ 0 ∷ 0 ∷ 0 ∷ 0 ∷ 0 ∷ 0 ∷ 0 ∷ 0 ∷ 0 ∷ 0 ∷ 0 ∷ 0 ∷ 0 ∷ 0 ∷ [];
-  given =
-      false ∷ false ∷ false ∷ false ∷ false ∷ false ∷ false ∷ false ∷ false ∷ false ∷ false ∷ false ∷ false ∷ false ∷ false ∷ false ∷ [];
-}
+-- the value that is written for a number, or 0
+abbrev pub value_of : List (ℕ × ℕ) → ℕ → ℕ
+value_of facts number = unwrap_or (option_map (λ fact. fact.1) (find (λ fact. fact.0 == number) facts)) 0
 
--- the facts of words
-unfoldable pub facts_of : List (List ℕ) → Option (List ℕ)
-facts_of words = option_map (λ facts. facts.values) (facts_behind none_given words)
-
--- the words of a line: what stands between its blanks
-unfoldable pub words : List ℕ → List (List ℕ)
-words line = filter is_word (slice_split (λ c. c == 32) line)
+-- the values of the numbers below PLACES, where the words are facts
+unfoldable pub facts_of : List Word → Option (List ℕ)
+facts_of all = if are_facts all then Some (map (value_of (facts_in all)) (range_with_len 0 PLACES)) else None
 
 -- an event of that kind, if these are facts
 abbrev pub event_with : Option ℕ → Option (List ℕ) → Option Event
@@ -80,9 +63,9 @@ event_with (Some kind) None = None
 event_with None facts = None
 
 -- the event of a line's words: a kind of the book, and facts
-abbrev pub event_from : Laws → List (List ℕ) → Option Event
+abbrev pub event_from : Laws → List Word → Option Event
 event_from laws [] = None
-event_from laws (name ∷ others) = event_with (place_of name laws.kinds) (facts_of others)
+event_from laws (name ∷ others) = event_with (place_of name.octets laws.kinds) (facts_of others)
 
 -- the event of a line
 unfoldable pub event_of : Laws → List ℕ → Option Event

@@ -10,6 +10,5 @@ pub mod Printed
 pub mod Reports
 pub mod Inputs
 pub mod Readings
-pub mod Pieces
 pub mod Events
 pub mod Walks

@@ -1,14 +1,15 @@
 //! Events as text: a line each, `KIND N=V ..`, a kind by its name and then facts by number.
 ghost use Rattle.std.specs.Prelude.{◌≡◌, ◌==◌, ◌<◌, ◌∷◌, [], None, IfOk, IfErr, IfNone, IfSome, OnOk};
 ghost use Rattle.std.specs.List.{slice_split};
-ghost use Rattle.dbench.specs.Events.{IsBadText, event_of, events_of, fact_between, fact_of, facts_of, first_bad, is_digit, is_skipped, number_of};
-ghost use Rattle.dbench.specs.Pieces.{words_left};
+ghost use Rattle.dbench.specs.Events.{IsBadText, event_of, events_of, fact_between, fact_of, facts_of, first_bad, is_skipped, number_of};
+ghost use Rattle.tab_text.specs.Pieces.{words_left};
+ghost use Rattle.tab_text.specs.Words.{is_digit};
 
-use crate::pieces::{Pieces, Words};
 use std::alloc::{AllocError, AllocFailed, Global};
 use tab_law::book::LawBook;
 use tab_law::limits::PLACES;
 use tab_step::machine::Event;
+use tab_text::pieces::{Pieces, Words};
 
 /// Why a text holds no list of events.
 #[derive(Clone, Copy, Debug, PartialEq, Eq)]
@@ -102,7 +103,7 @@ fn facts_of(words: &mut Words<'_>) -> Option<[u64; PLACES]>
     let mut facts = [0; PLACES];
     let mut given = [false; PLACES];
     while let Some(word) = words.next() {
-        let (number, value) = fact_of(word)?;
+        let (number, value) = fact_of(word.octets)?;
         if given[number] {
             return None;
         }
@@ -120,7 +121,7 @@ fn event_of(book: &LawBook, line: &[u8]) -> Option<Event>
     book.known();
     let mut words = Words::new(line);
     let name = words.next()?;
-    let kind = book.kinds().find(name)?;
+    let kind = book.kinds().find(name.octets)?;
     let facts = facts_of(&mut words)?;
     Some(Event {
         kind: kind as u8,

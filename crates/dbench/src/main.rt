@@ -9,7 +9,7 @@
 //! | `digits` | octets from hexadecimal digits, however the text is cut |
 //! | `report`, `show`, `text` | what is printed of messages, their lines, numbers and octets |
 //! | `device`, `output` | what octets come from and go to, and the bounds on writes |
-//! | `walk`, `events`, `deeds`, `pieces` | a table stepped over a list of events, and what that prints |
+//! | `walk`, `events`, `deeds` | a table stepped over a list of events, and what that prints |
 //! | `status` | the exit status |
 #![tactic(auto)]
 
@@ -19,7 +19,6 @@ mod digits;
 mod ends;
 mod events;
 mod output;
-mod pieces;
 mod read;
 mod reading;
 mod report;
@@ -47,8 +46,4 @@ fn main(rt: HostRuntime) -> ExitCode {
 }
 
 #[cfg(test)]
-mod codec_tests;
-#[cfg(test)]
 mod tests;
-#[cfg(test)]
-mod walk_tests;

@@ -8,7 +8,7 @@ pub mod limit;
 mod lines;
 pub mod name;
 pub mod parse;
-mod pieces;
+pub mod pieces;
 mod reader;
 mod room;
 pub mod row;

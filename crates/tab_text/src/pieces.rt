@@ -1,8 +1,9 @@
+//! A text taken apart: its pieces between separators, and its words between blanks.
 ghost use Rattle.std.specs.Prelude.{◌≡◌, ◌==◌, ◌+◌, ◌^◌, ◌<◌, ◌≤◌, ◌∷◌, [], length, position, MatchOption, IfNone};
 
 /// Takes off the pieces of a text between separators, one after another.
 #[derive(Drop)]
-pub(crate) struct Pieces<'a> {
+pub struct Pieces<'a> {
     text: &'a [u8],
     separator: u8,
     /// Where the next piece begins; behind the text's end there is none.
@@ -14,7 +15,7 @@ impl<'a> Pieces<'a> {
     ghost use Rattle.tab_text.specs.Pieces.{pieces_in, pieces_left, IsFirstPiece};
 
     /// All pieces of a text.
-    pub(crate) fn new(text: &'a [u8], separator: u8) -> Pieces<'a>
+    pub fn new(text: &'a [u8], separator: u8) -> Pieces<'a>
         ensures left { pieces_left result ≡ pieces_in separator text.now }
         ensures from { result.from ≡ 0 }
     {
@@ -26,7 +27,7 @@ impl<'a> Pieces<'a> {
     }
 
     /// The next piece.
-    pub(crate) fn next(&mut self) -> Option<&'a [u8]>
+    pub fn next(&mut self) -> Option<&'a [u8]>
         ensures piece { MatchOption result (pieces_left self.old ≡ []) (λ piece. IsFirstPiece self.old piece.now self.new) }
         ensures none { IfNone result (self.new.from ≡ self.old.from) }
         ensures fits { self.new.from < 2 ^ 64 }
@@ -50,14 +51,14 @@ fn separator_in(text: &[u8], separator: u8) -> Option<usize>
 
 /// A word, and the byte at which it begins.
 #[derive(Clone, Copy)]
-pub(crate) struct Found<'a> {
-    pub(crate) at: usize,
-    pub(crate) octets: &'a [u8],
+pub struct Found<'a> {
+    pub at: usize,
+    pub octets: &'a [u8],
 }
 
 /// Takes off the words of a line, one after another.
 #[derive(Drop)]
-pub(crate) struct Words<'a> {
+pub struct Words<'a> {
     pieces: Pieces<'a>,
 }
 
@@ -67,7 +68,7 @@ impl<'a> Words<'a> {
 
     /// All words of a line.
     #[tactic(auto, unfolding(crate::specs::Words::words))]
-    pub(crate) fn new(line: &'a [u8]) -> Words<'a>
+    pub fn new(line: &'a [u8]) -> Words<'a>
         ensures { words_left result ≡ words line.now }
     {
         Words {
@@ -76,7 +77,7 @@ impl<'a> Words<'a> {
     }
 
     /// The next word.
-    pub(crate) fn next(&mut self) -> Option<Found<'a>>
+    pub fn next(&mut self) -> Option<Found<'a>>
         ensures { MatchOption result (words_left self.old ≡ []) (λ found. words_left self.old ≡ word_of found ∷ words_left self.new) }
     {
         loop {

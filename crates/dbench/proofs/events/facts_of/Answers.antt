@@ -1,24 +1,35 @@
-use Rattle.std.proofs.Common.{◌<◌, ◌∙◌, length, arith}
-use Rattle.dbench.proofs.EventLemmas.{facts_of-all, facts_of-none, with_fact-none, with_fact-twice}
-use Rattle.dbench.specs.Events.{Given}
+use Rattle.std.proofs.Common.{◌<◌, ◌∙◌, ℕ, Bool, length, length-set, sym, arith, rules}
+use Rattle.tab_text.specs.Pieces.{words_left}
+use Rattle.dbench.proofs.FactsLemmas.{AreZeroes-more, AreZeroes-start, facts_of-start, goes_on-end, goes_on-more}
 use Rattle.dbench.proofs.events.facts_of.Goals as goal
 
--- a word is no fact
-pub returns-in_err-number : goal.returns-in_err-number
-returns-in_err-number c =
-    let facts : Given = record { values = c.loop-word.facts; given = c.loop-word.given } in
-    c.from_residual.ensures ∙ facts_of-none _ _ _ c.in-Some.word.now facts c.loop-word.invariant.0 c.in-Some.ensures (with_fact-none _ facts c.in_err-number.ensures.fact)
+-- no word was read
+pub loop-word-init : goal.loop-word-init
+loop-word-init c = record {
+  same = facts_of-start (words_left c.args.words.now);
+  all_facts = search rules;
+  all_given = search rules;
+  zeroes = AreZeroes-start;
+}
 
--- a fact stands twice
-pub returns-then-given-number : goal.returns-then-given-number
-returns-then-given-number c =
-    let facts : Given = record { values = c.loop-word.facts; given = c.loop-word.given } in
-    let below : c.in_ok-number.number < length c.loop-word.given = omega (arith, c.in_ok-number.ensures.place, c.loop-word.invariant.2) in
-    facts_of-none _ _ _ c.in-Some.word.now facts c.loop-word.invariant.0 c.in-Some.ensures
-    (with_fact-twice _ c.in_ok-number.number c.in_ok-number.value facts c.in_ok-number.ensures.fact below c.if-given-number.true)
+-- a word is one fact more
+pub loop-word-preserved : goal.loop-word-preserved
+loop-word-preserved c =
+    let before = c.loop-word.invariant in
+    let number = c.in_ok-number.number in
+    let in_facts : number < length c.loop-word.facts = omega (arith, c.in_ok-number.ensures.place, before.all_facts) in
+    let in_given : number < length c.loop-word.given = omega (arith, c.in_ok-number.ensures.place, before.all_given) in
+    record {
+      same =
+          before.same
+          ∙ goes_on-more c.loop-word.facts c.loop-word.given _ _ _ number c.in_ok-number.value c.in-Some.ensures c.in_ok-number.ensures.fact in_facts in_given c.if-given-number.false;
+      all_facts = omega (arith, length-set {A = ℕ}, before.all_facts);
+      all_given = omega (arith, length-set {A = Bool}, before.all_given);
+      zeroes = AreZeroes-more c.loop-word.facts c.loop-word.given number c.in_ok-number.value in_given before.zeroes;
+    }
 
 -- no word is left
 pub returns : goal.returns
 returns c =
-    let facts : Given = record { values = c.loop-word.facts; given = c.loop-word.given } in
-    facts_of-all _ _ facts c.loop-word.invariant.0 c.in_default.ensures
+    let before = c.loop-word.invariant in
+    goes_on-end c.loop-word.facts c.loop-word.given _ c.in_default.ensures before.all_facts before.zeroes ∙ sym before.same

@@ -1,13 +1,18 @@
 use Rattle.std.proofs.Common.{◌≡◌, length}
-use Rattle.dbench.specs.Events.{facts_behind, none_given}
-use Rattle.dbench.specs.Pieces.{words_left}
+use Rattle.tab_law.specs.declared.limits.TheConstants.{PLACES}
+use Rattle.tab_text.specs.Pieces.{words_left}
+use Rattle.dbench.specs.Events.{facts_of}
+use Rattle.dbench.proofs.FactsLemmas.{AreZeroes, goes_on}
 use Rattle.dbench.proofs.events.facts_of.Given as goal
 
--- what the words that are left make of the facts so far is what all words make
+-- the facts so far and the words that are left make the facts of all words
 abbrev pub invariant-loop-word : goal.invariant-loop-word
-invariant-loop-word l =
-    (facts_behind none_given (words_left l.initial.words) ≡ facts_behind (record { values = l.facts; given = l.given }) (words_left l.words))
-    × (length l.facts ≡ 16) × (length l.given ≡ 16)
+invariant-loop-word l = record {
+  same : facts_of (words_left l.initial.words) ≡ goes_on l.facts l.given (words_left l.words);
+  all_facts : length l.facts ≡ PLACES;
+  all_given : length l.given ≡ PLACES;
+  zeroes : AreZeroes l.facts l.given;
+}
 
 -- each turn takes a word
 abbrev pub decreases-loop-word : goal.decreases-loop-word

@@ -1,6 +1,7 @@
 use Rattle.std.proofs.Common.{◌≡◌, ◌<◌, ◌^◌, true, take}
 use Rattle.std.specs.List.{list_all}
-use Rattle.dbench.specs.Events.{decimal_value, is_digit}
+use Rattle.tab_text.specs.Words.{is_digit}
+use Rattle.dbench.specs.Events.{decimal_value}
 use Rattle.dbench.proofs.events.number_of.Given as goal
 
 -- the characters so far are digits, and this is their value

@@ -1,7 +1,7 @@
 use Rattle.std.proofs.Common.{◌≡◌, ◌≤◌, ◌+◌, ◌++◌, length}
 use Rattle.tab_text.specs.Lines.{numbered_from}
+use Rattle.tab_text.specs.Pieces.{pieces_left}
 use Rattle.dbench.specs.Events.{bad_in, events_in, events_of, first_bad}
-use Rattle.dbench.specs.Pieces.{pieces_left}
 use Rattle.dbench.proofs.events.read_events.Given as goal
 
 -- the events so far and those of the lines that are left are all events, and no line before was bad
