@@ -83,7 +83,7 @@ impl Report {
     {
         match read_message(self.alloc, &self.dictionary, octets) {
             Ok(command) => {
-                self.command(command)?;
+                self.command(&command)?;
                 Ok(false)
             }
             Err(MsgError::NoMemory) => Err(AllocError),
@@ -94,15 +94,7 @@ impl Report {
         }
     }
 
-    // Takes the command, so that no other function drops one: a proof of that is long.
-    fn command(&mut self, command: Command) -> Result<(), AllocError>
-        ensures ok { OnOk result (CommandText command self.new.lines.items) }
-        ensures stays { Stays self.old self.new }
-    {
-        self.put_command(&command)
-    }
-
-    fn put_command(&mut self, command: &Command) -> Result<(), AllocError>
+    fn command(&mut self, command: &Command) -> Result<(), AllocError>
         ensures ok { OnOk result (CommandText command.now self.new.lines.items) }
         ensures stays { Stays self.old self.new }
     {

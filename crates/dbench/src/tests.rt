@@ -1,4 +1,9 @@
 //! What is printed, and how a run ends, over readers and writers in memory.
+mod commands;
+mod faults;
+mod messages;
+mod walk;
+
 use crate::device::{Counting, Inputs};
 use crate::report::Report;
 use crate::run::main_on;
