@@ -148,7 +148,7 @@ pub struct ErrorAnswer {
 }
 
 /// A message, by its command.
-#[derive(Debug, Drop)]
+#[derive(Debug)]
 pub enum Command {
     Cer(CapabilitiesExchangeRequest),
     Cea(CapabilitiesExchangeAnswer),
@@ -161,6 +161,25 @@ pub enum Command {
     Ccr(CreditControlRequest),
     Cca(CreditControlAnswer),
     ErrorAnswer(ErrorAnswer),
+}
+
+// A derived `drop` is proved anew, field by field, at each way out of each function that holds a command; this one is a call.
+impl Drop for Command {
+    fn drop(self) {
+        match self {
+            Command::Cer(command) => drop(command),
+            Command::Cea(command) => drop(command),
+            Command::Dwr(command) => drop(command),
+            Command::Dwa(command) => drop(command),
+            Command::Dpr(command) => drop(command),
+            Command::Dpa(command) => drop(command),
+            Command::Rar(command) => drop(command),
+            Command::Raa(command) => drop(command),
+            Command::Ccr(command) => drop(command),
+            Command::Cca(command) => drop(command),
+            Command::ErrorAnswer(command) => drop(command),
+        }
+    }
 }
 
 impl Command {

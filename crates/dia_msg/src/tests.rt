@@ -137,22 +137,18 @@ fn message(
     Ok(octets)
 }
 
-fn spelling_of(alloc: Global, command: &Command) -> Result<(CommandKind, Vec<u8>), Fail> {
+fn spelled(alloc: Global, command: &Command) -> Result<Vec<u8>, Fail> {
     let mut out = Vec::new(alloc);
     write_message(command, &mut out)?;
-    Ok((command.kind(), out))
-}
-
-// Each of these takes the command, so that no other function drops one: a proof of that is long.
-fn spelled(alloc: Global, command: Command) -> Result<(CommandKind, Vec<u8>), Fail> {
-    spelling_of(alloc, &command)
+    Ok(out)
 }
 
 /// The kind as which octets are read, and the spelling of what was read.
 fn read_and_written(alloc: Global, octets: &[u8]) -> Result<(CommandKind, Vec<u8>), Fail> {
     let dictionary = Dictionary::base(alloc)?;
     let command = read_message(alloc, &dictionary, octets)?;
-    spelled(alloc, command)
+    let spelling = spelled(alloc, &command)?;
+    Ok((command.kind(), spelling))
 }
 
 /// The number of the fault and the spelling of its failed AVP; 0 where there is no fault.
@@ -334,10 +330,6 @@ fn has_values(command: &Command) -> bool {
         && command.rest().is_empty()
 }
 
-fn are_values(command: Command) -> bool {
-    has_values(&command)
-}
-
 #[test]
 fn fields_have_the_values_that_were_read(rt: HostRuntime) -> Result<(), Fail> {
     let alloc = rt.alloc();
@@ -356,7 +348,7 @@ fn fields_have_the_values_that_were_read(rt: HostRuntime) -> Result<(), Fail> {
     let octets = message(alloc, 0xd0, CCR, 4, &avps)?;
     let dictionary = Dictionary::base(alloc)?;
     let command = read_message(alloc, &dictionary, &octets)?;
-    assert!(rt; are_values(command));
+    assert!(rt; has_values(&command));
     Ok(())
 }
 
@@ -482,8 +474,7 @@ fn an_avp_that_was_added_is_read(rt: HostRuntime) -> Result<(), Fail> {
     dictionary.add(9999, None, "Test", AvpKind::Unsigned32)?;
     let octets = message(alloc, 0x80, DWR, 0, &[&HOST, &REALM, &MANDATORY])?;
     let command = read_message(alloc, &dictionary, &octets)?;
-    let again = spelled(alloc, command)?;
-    assert_eq!(rt; again.1.as_slice(), octets.as_slice());
+    assert_eq!(rt; spelled(alloc, &command)?.as_slice(), octets.as_slice());
     Ok(())
 }
 
@@ -547,7 +538,7 @@ fn answered(
 ) -> Result<Vec<u8>, Fail> {
     let identity = server(alloc)?;
     let answer = error_answer(alloc, &identity, header, session, fault)?;
-    Ok(spelled(alloc, answer)?.1)
+    spelled(alloc, &answer)
 }
 
 #[test]
