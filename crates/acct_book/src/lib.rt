@@ -17,6 +17,3 @@ pub use law::{answered_is_never_over, reserved_is_sum_of_own};
 pub use limit::{MAX_ACCOUNTS, MAX_GIVEN};
 pub use op::{Booked, Op, Outcome};
 pub use page::Page;
-
-#[cfg(test)]
-mod tests;

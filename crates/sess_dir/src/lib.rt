@@ -3,8 +3,6 @@
 
 mod directory;
 mod fault;
-#[cfg(test)]
-mod tests;
 
 pub use directory::{Directory, MAX_NAMES};
 pub use fault::AddFault;
