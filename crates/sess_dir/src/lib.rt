@@ -2,7 +2,5 @@
 #![tactic(auto)]
 
 mod directory;
-mod fault;
 
 pub use directory::{Directory, MAX_NAMES};
-pub use fault::AddFault;

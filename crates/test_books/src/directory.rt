@@ -1,5 +1,6 @@
 //! The directory: places, and what a full one does.
-use sess_dir::{AddFault, Directory, MAX_NAMES};
+use base_list::{AddError, AddFault};
+use sess_dir::{Directory, MAX_NAMES};
 
 /// Whether each name is found or added at its place.
 fn finds_or_adds(directory: &mut Directory, rows: &[(&str, usize)]) -> bool {
@@ -39,7 +40,7 @@ fn a_full_directory_takes_no_new_name_and_finds_the_others(rt: HostRuntime) {
     assert!(rt; adds_numbers(&mut directory, 4096));
     assert!(rt; directory.len() == MAX_NAMES);
     let one_more = directory.find_or_add(&4096u32.to_be_bytes());
-    assert!(rt; one_more == Err(AddFault::Full));
+    assert!(rt; one_more == Err(AddError::Fault(AddFault::Full)));
     let known = directory.find_or_add(&77u32.to_be_bytes());
     assert!(rt; known == Ok(77));
     assert!(rt; directory.len() == MAX_NAMES);
