@@ -1,5 +1,7 @@
 //! The account book: two sessions on an account, the largest numbers, events, and what is refused.
-use acct_book::{Booked, MAX_GIVEN, Op, OpenFault, Outcome, Page, Quote, Totals, Verdict};
+use acct_book::{Booked, MAX_GIVEN, Op, OpenError, Outcome, Page, Quote, Totals};
+use base_codes::ResultCode;
+use base_list::AddFault;
 use std::alloc::Global;
 
 const ACCOUNT: u64 = 100;
@@ -10,7 +12,7 @@ const SECOND: u64 = 2;
 
 const LARGEST: u64 = u64::MAX;
 
-fn page_with(alloc: Global, given: u64) -> Result<Page, OpenFault> {
+fn page_with(alloc: Global, given: u64) -> Result<Page, OpenError> {
     let mut page = Page::new(alloc);
     page.open_account(ACCOUNT, given)?;
     Ok(page)
@@ -95,7 +97,7 @@ fn sums_to(page: &Page, (given, reserved, debited, unpaid): (u64, u64, u64, u128
 }
 
 /// Whether accounts, one after the other, are opened or refused like this.
-fn opens(page: &mut Page, rows: &[(u64, u64, Result<(), OpenFault>)]) -> bool {
+fn opens(page: &mut Page, rows: &[(u64, u64, Result<(), OpenError>)]) -> bool {
     let mut all = true;
     for (id, given, outcome) in rows {
         all = all && *id >= 1 && page.open_account(*id, *given) == *outcome;
@@ -163,7 +165,7 @@ fn events_without_a_session(rt: HostRuntime) {
     let mut page = page_with(rt.alloc(), 100).expect(&rt, "memory");
     assert!(rt; applies(&mut page, &[(charge(ACCOUNT, 30), done(30))]));
     let last_units = Quote {
-        verdict: Verdict::Success,
+        verdict: ResultCode::Success,
         offer: 70,
         is_final: true,
         pay: 0,
@@ -212,7 +214,7 @@ fn a_release_ends_its_own_reservation_alone(rt: HostRuntime) {
 fn an_unknown_account_is_told_and_refused(rt: HostRuntime) {
     let mut page = page_with(rt.alloc(), 100).expect(&rt, "memory");
     let unknown = Quote {
-        verdict: Verdict::UserUnknown,
+        verdict: ResultCode::UserUnknown,
         offer: 0,
         is_final: false,
         pay: 0,
@@ -228,17 +230,17 @@ fn an_unknown_account_is_told_and_refused(rt: HostRuntime) {
 fn an_account_is_opened_once(rt: HostRuntime) {
     let mut page = page_with(rt.alloc(), 100).expect(&rt, "memory");
     let rows = [
-        (ACCOUNT, MAX_GIVEN + 1, Err(OpenFault::Taken)),
-        (ACCOUNT + 1, MAX_GIVEN + 1, Err(OpenFault::TooLarge)),
+        (ACCOUNT, MAX_GIVEN + 1, Err(OpenError::Add(AddFault::Taken))),
+        (ACCOUNT + 1, MAX_GIVEN + 1, Err(OpenError::TooLarge)),
         (ACCOUNT + 1, MAX_GIVEN, Ok(())),
     ];
     assert!(rt; opens(&mut page, &rows));
     assert!(rt; fills(&mut page));
     let full = [
-        (ACCOUNT, 1, Err(OpenFault::Taken)),
-        (1124, MAX_GIVEN + 1, Err(OpenFault::TooLarge)),
-        (1124, 1, Err(OpenFault::Full)),
+        (ACCOUNT, 1, Err(OpenError::Add(AddFault::Taken))),
+        (1124, MAX_GIVEN + 1, Err(OpenError::TooLarge)),
+        (1124, 1, Err(OpenError::Add(AddFault::Full))),
     ];
     assert!(rt; opens(&mut page, &full));
-    assert!(rt; format!(in rt.alloc(); "{}", OpenFault::Full).is_ok());
+    assert!(rt; format!(in rt.alloc(); "{}", OpenError::Add(AddFault::Full)).is_ok());
 }
