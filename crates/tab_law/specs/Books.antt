@@ -4,7 +4,7 @@ use Rattle.std.specs.Option.{option_map_or}
 use Rattle.tab_law.specs.Guards.{says_yes}
 use Rattle.tab_law.specs.Named.{entry_of}
 use Rattle.tab_law.specs.Acts.{Permits, IsHigh}
-use Rattle.tab_law.specs.declared.limits.TheConstants.{KIND_LIMIT, GUARD_LIMIT, ACT_LIMIT}
+use Rattle.tab_law.specs.declared.limits.TheConstants.{MAX_KINDS, MAX_GUARDS, MAX_ACTIONS}
 use Rattle.tab_law.specs.declared.scene.Scene.{Scene}
 use Rattle.tab_law.specs.declared.scene.Deed.{Deed}
 use Rattle.tab_law.specs.declared.law.Test.{Test}
@@ -26,9 +26,9 @@ pub record IsBook (laws : Laws) : Type 0 where
   pub kinds_named : HasOwnNames laws.kinds
   pub guards_named : HasOwnNames laws.guards
   pub acts_named : HasOwnNames laws.acts
-  pub few_kinds : length laws.kinds ≤ KIND_LIMIT
-  pub few_guards : length laws.guards ≤ GUARD_LIMIT
-  pub few_acts : length laws.acts ≤ ACT_LIMIT
+  pub few_kinds : length laws.kinds ≤ MAX_KINDS
+  pub few_guards : length laws.guards ≤ MAX_GUARDS
+  pub few_acts : length laws.acts ≤ MAX_ACTIONS
 
 -- what the guard at a place answers by its law
 abbrev pub guard_answer : Laws → Scene → ℕ → Bool

@@ -4,7 +4,7 @@ use crate::chain::Chain;
 use crate::deeds::Deeds;
 use crate::guard::holds;
 use crate::law::{ActLaw, Atom, Change, Field, GuardLaw, Numbers, Term, Test};
-use crate::limits::{ACT_LIMIT, GUARD_LIMIT, KIND_LIMIT, PLACES};
+use crate::limits::{MAX_ACTIONS, MAX_GUARDS, MAX_KINDS, PLACES};
 use crate::named::{AddFault, Name};
 use crate::scene::{Deed, Scene};
 use std::alloc::{AllocError, Global};
@@ -184,15 +184,15 @@ fn numbered(number: u8) -> [u8; 2] {
 fn a_name_is_taken_before_the_book_is_full(rt: HostRuntime) -> Result<(), Fail> {
     let alloc = rt.alloc();
     let mut book = LawBook::new(alloc);
-    for number in 0..KIND_LIMIT as u8 {
+    for number in 0..MAX_KINDS as u8 {
         assert_eq!(rt; book.add_kind(&numbered(number)), Ok(()));
     }
-    assert_eq!(rt; book.kinds().len(), KIND_LIMIT);
+    assert_eq!(rt; book.kinds().len(), MAX_KINDS);
     assert_eq!(rt; book.kinds().find(&numbered(127)), Some(127));
     assert_eq!(rt; book.kinds().find(b"CCA-I"), None);
     assert_eq!(rt; book.add_kind(&numbered(0)), Err(AddFault::Taken));
     assert_eq!(rt; book.add_kind(b"CCA-I"), Err(AddFault::Full));
-    assert_eq!(rt; book.kinds().len(), KIND_LIMIT);
+    assert_eq!(rt; book.kinds().len(), MAX_KINDS);
     assert_eq!(rt; AddFault::Taken.code(), 1);
     assert_eq!(rt; AddFault::Full.code(), 2);
     Ok(())
@@ -203,10 +203,10 @@ fn a_law_that_is_refused_comes_back(rt: HostRuntime) -> Result<(), Fail> {
     let alloc = rt.alloc();
     let mut book = LawBook::new(alloc);
     let kept = guard(alloc, Test::Below(Field::Register(2), Atom::Fact(3)))?;
-    for number in 0..GUARD_LIMIT as u8 {
+    for number in 0..MAX_GUARDS as u8 {
         book.add_guard(&numbered(number), kept.copy(alloc)?)?;
     }
-    assert!(rt; book.guards().len() == GUARD_LIMIT);
+    assert!(rt; book.guards().len() == MAX_GUARDS);
     assert_eq!(rt;
         book.guards().at(63).name.as_slice(),
         numbered(63).as_slice()
@@ -224,10 +224,10 @@ fn a_law_that_is_refused_comes_back(rt: HostRuntime) -> Result<(), Fail> {
             }
         }
     }
-    for number in 0..ACT_LIMIT as u8 {
+    for number in 0..MAX_ACTIONS as u8 {
         book.add_act(&numbered(number), reserve(alloc)?)?;
     }
-    assert!(rt; book.acts().len() == ACT_LIMIT);
+    assert!(rt; book.acts().len() == MAX_ACTIONS);
     assert!(rt; book.acts().at(5).value.is_same(&reserve(alloc)?));
     let Err(refused) = book.add_act(b"Charge", reserve(alloc)?) else {
         return Err(Fail::from("it was added"));

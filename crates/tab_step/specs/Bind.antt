@@ -7,8 +7,8 @@ use Rattle.tab_text.specs.Contents.{Contents}
 use Rattle.tab_text.specs.declared.row.Row.{Row}
 use Rattle.tab_step.specs.Moves.{name_at}
 use Rattle.tab_step.specs.declared.bound.RowPlaces.{RowPlaces}
-use Rattle.tab_step.specs.declared.bind.Unbound.{Unbound}
-use Rattle.tab_step.specs.declared.bind.Unbound.TheVariants.{Missing, NoMemory}
+use Rattle.tab_step.specs.declared.binding.Unbound.{Unbound}
+use Rattle.tab_step.specs.declared.binding.Unbound.TheVariants.{Missing, NoMemory}
 
 -- the names that aren't registered
 abbrev pub lacking : {T : Type 0} → List (Named T) → List (List ℕ) → List (List ℕ)

@@ -1,6 +1,4 @@
-use tab_law::chain::Chain;
-use tab_law::deeds::Deeds;
-use tab_law::limits::PLACES;
+use tab_law::{Chain, Deeds, PLACES};
 
 /// The code of the deed Unlisted, which an event leaves that no row takes.
 pub const UNLISTED: u16 = 1;

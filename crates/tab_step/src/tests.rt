@@ -1,17 +1,15 @@
 ghost use Rattle.std.specs.Prelude.{IfOk};
 ghost use Rattle.tab_step.specs.Bind.{IsBoundTo};
 
-use crate::bind::{Unbound, bind};
+use crate::binding::{Unbound, bind};
 use crate::bound::Bound;
 use crate::machine::{Event, MachineState, Stepped, UNLISTED};
-use crate::run::run;
-use crate::step::step;
+use crate::running::run;
+use crate::stepping::step;
 use std::alloc::{AllocError, Global};
 use std::test::Fail;
-use tab_law::book::LawBook;
-use tab_law::law::{ActLaw, Atom, Change, Field, GuardLaw, Term, Test};
-use tab_law::limits::PLACES;
-use tab_text::parse::parse;
+use tab_law::{ActLaw, Atom, Change, Field, GuardLaw, LawBook, PLACES, Term, Test};
+use tab_text::parse;
 
 /// A client that waits for its answer.
 const CLIENT: &str =

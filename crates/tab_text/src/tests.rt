@@ -1,9 +1,9 @@
 ghost use Rattle.std.specs.Prelude.{◌<◌};
 
 use crate::fault::{ParseError, TextCode, TextFault};
-use crate::limit::{ACTION_LIMIT, GUARD_LIMIT, KIND_LIMIT, ROW_LIMIT, STATE_LIMIT, TEXT_LIMIT};
+use crate::limits::{MAX_ACTIONS, MAX_GUARDS, MAX_KINDS, MAX_ROWS, MAX_STATES, MAX_TEXT};
 use crate::name::NameList;
-use crate::parse::parse;
+use crate::parsing::parse;
 use std::alloc::{AllocError, Global};
 use std::test::Fail;
 
@@ -272,7 +272,7 @@ fn a_row_has_at_most_four_guards_and_eight_actions(rt: HostRuntime) {
 
 #[test]
 fn a_text_has_at_most_65_536_bytes(rt: HostRuntime) {
-    let long = [b' '; TEXT_LIMIT + 1];
+    let long = [b' '; MAX_TEXT + 1];
     let over = ParseError::Fault(TextFault {
         line: 0,
         code: TextCode::TooLong,
@@ -282,7 +282,7 @@ fn a_text_has_at_most_65_536_bytes(rt: HostRuntime) {
         code: TextCode::NoHeader,
     });
     assert_eq!(rt; parse(rt.alloc(), &long).err(), Some(over));
-    assert_eq!(rt; parse(rt.alloc(), &long[..TEXT_LIMIT]).err(), Some(none));
+    assert_eq!(rt; parse(rt.alloc(), &long[..MAX_TEXT]).err(), Some(none));
 }
 
 /// The name of a number: two small letters.
@@ -335,10 +335,10 @@ fn text_of(alloc: Global, cell: Cell, rows: usize) -> Result<Vec<u8>, AllocError
 #[test]
 fn a_table_has_room_for_so_many_names(rt: HostRuntime) -> Result<(), Fail> {
     for (cell, limit) in [
-        (Cell::State, STATE_LIMIT),
-        (Cell::Kind, KIND_LIMIT),
-        (Cell::Guard, GUARD_LIMIT),
-        (Cell::Action, ACTION_LIMIT),
+        (Cell::State, MAX_STATES),
+        (Cell::Kind, MAX_KINDS),
+        (Cell::Guard, MAX_GUARDS),
+        (Cell::Action, MAX_ACTIONS),
     ] {
         let full = text_of(rt.alloc(), cell, limit)?;
         assert_eq!(rt; parse(rt.alloc(), full.as_slice()).err(), None);
@@ -355,7 +355,7 @@ fn a_table_has_room_for_so_many_names(rt: HostRuntime) -> Result<(), Fail> {
 #[test]
 fn a_table_has_at_most_512_rows(rt: HostRuntime) -> Result<(), Fail> {
     let mut text = Vec::from_slice(rt.alloc(), HEADER)?;
-    for _row in 0..ROW_LIMIT {
+    for _row in 0..MAX_ROWS {
         text.extend_from_slice(b"  A     k            -      B\n")?;
     }
     assert_eq!(rt; parse(rt.alloc(), text.as_slice())?.rows().len(), 512);
