@@ -1,25 +1,21 @@
-use Rattle.std.specs.Prelude.{◌≤◌, ℕ, Bool, false, List, length, IsSomeAnd, AllPairs, ◌≢◌}
+use Rattle.std.specs.Prelude.{◌≤◌, ℕ, Bool, false, List, length, IsSomeAnd}
 use Rattle.std.specs.List.{slice_get}
 use Rattle.std.specs.Option.{option_map_or}
 use Rattle.tab_law.specs.Guards.{says_yes}
-use Rattle.tab_law.specs.Named.{entry_of}
+use Rattle.base_list.specs.Named.{entry_of, HasOwnNames}
 use Rattle.tab_law.specs.Acts.{Permits, IsHigh}
 use Rattle.tab_law.specs.declared.limits.TheConstants.{MAX_KINDS, MAX_GUARDS, MAX_ACTIONS}
 use Rattle.tab_law.specs.declared.scene.Scene.{Scene}
 use Rattle.tab_law.specs.declared.scene.Deed.{Deed}
 use Rattle.tab_law.specs.declared.law.Test.{Test}
 use Rattle.tab_law.specs.declared.law.Change.{Change}
-use Rattle.tab_law.specs.declared.named.Named.{Named}
+use Rattle.base_list.specs.declared.named.Named.{Named}
 
 -- the laws of a book: kinds of events, guards and actions, each under its name, in order of adding
 pub record Laws : Type 0 where
   pub kinds : List (Named (Unit {0}))
   pub guards : List (Named (List Test))
   pub acts : List (Named (List Change))
-
--- no two of a list have one name
-abbrev pub HasOwnNames : {T : Type 0} → List (Named T) → Type 0
-HasOwnNames entries = AllPairs (λ one other. one.name ≢ other.name) entries
 
 -- a book's names differ, and it is within the limits
 pub record IsBook (laws : Laws) : Type 0 where

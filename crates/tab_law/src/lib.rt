@@ -12,7 +12,6 @@ mod deeds;
 mod guard;
 mod law;
 mod limits;
-mod named;
 mod scene;
 mod value;
 
@@ -26,8 +25,4 @@ pub use limits::{
     MAX_ACTIONS, MAX_DEEDS, MAX_EMITS, MAX_GUARDS, MAX_KINDS, MAX_NUMBERS, MAX_ROW_ACTIONS,
     MAX_TESTS, PLACES,
 };
-pub use named::{AddFault, Name, Named, NamedList, Refused};
 pub use scene::{Deed, Scene};
-
-#[cfg(test)]
-mod tests;

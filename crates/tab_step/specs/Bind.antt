@@ -1,8 +1,8 @@
 use Rattle.std.specs.Prelude.{◌≡◌, ℕ, List, [], ◌∷◌, ◌++◌, Option, Some, map, filter, is_none}
 use Rattle.std.specs.List.{AllZip, flat_map}
-use Rattle.tab_law.specs.Named.{place_of}
+use Rattle.base_list.specs.Named.{place_of}
 use Rattle.tab_law.specs.Books.{Laws}
-use Rattle.tab_law.specs.declared.named.Named.{Named}
+use Rattle.base_list.specs.declared.named.Named.{Named}
 use Rattle.tab_text.specs.Contents.{Contents}
 use Rattle.tab_text.specs.declared.row.Row.{Row}
 use Rattle.tab_step.specs.Moves.{name_at}

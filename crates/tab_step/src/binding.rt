@@ -1,13 +1,14 @@
 ghost use Rattle.std.specs.Prelude.{◌≡◌, ℕ, ◌≤◌, ◌<◌, [], length, map, All, Some, None, IfOk, IfErr, IfSome, IfNone, OnOk, OnErr};
 ghost use Rattle.std.specs.List.{slice_get, AllZip};
-ghost use Rattle.tab_law.specs.Named.{place_of};
+ghost use Rattle.base_list.specs.Named.{place_of};
 ghost use Rattle.tab_text.specs.Contents.{IsRowOf};
 ghost use Rattle.tab_step.specs.Moves.{name_at};
 ghost use Rattle.tab_step.specs.Bind.{lacking, lacking_in, missing, IsPlacesOf, IsBoundTo, IsUnbound};
 
 use crate::bound::{Bound, Places, RowPlaces};
+use base_list::{NamedList, Octets};
 use std::alloc::{AllocError, Global};
-use tab_law::{LawBook, MAX_ROW_ACTIONS, Name, NamedList};
+use tab_law::{LawBook, MAX_ROW_ACTIONS};
 use tab_text::{NameList, Row, Table};
 use thiserror::Error;
 
@@ -17,7 +18,7 @@ pub enum Unbound {
     /// A name of the table isn't registered: the first in text order, row by row its kind, its
     /// guards, its actions.
     #[error("a name of the table is not registered")]
-    Missing(Name),
+    Missing(Octets),
     #[error("no memory")]
     NoMemory,
 }
@@ -106,8 +107,8 @@ fn first_missing<'a>(table: &'a Table, book: &LawBook) -> Option<&'a [u8]>
 fn refuse(alloc: Global, name: &[u8]) -> Unbound
     ensures { IsUnbound (Some name.now) result }
 {
-    match Vec::from_slice(alloc, name) {
-        Ok(octets) => Unbound::Missing(Name::new(octets)),
+    match Octets::from_slice(alloc, name) {
+        Ok(octets) => Unbound::Missing(octets),
         Err(_) => Unbound::NoMemory,
     }
 }

@@ -12,9 +12,6 @@ mod stepping;
 
 pub use binding::{Unbound, bind};
 pub use bound::{Bound, Places, RowPlaces};
-pub use machine::{Event, MachineState, Stepped, UNLISTED};
+pub use machine::{Event, MachineState, Stepped};
 pub use running::run;
 pub use stepping::step;
-
-#[cfg(test)]
-mod tests;

@@ -1,8 +1,5 @@
 use tab_law::{Chain, Deeds, PLACES};
 
-/// The code of the deed Unlisted, which an event leaves that no row takes.
-pub const UNLISTED: u16 = 1;
-
 /// Where a machine stands: the number of its state in its table, and its registers.
 #[derive(Clone, Copy, PartialEq, Eq, Debug)]
 pub struct MachineState {

@@ -6,7 +6,8 @@ ghost use Rattle.tab_step.specs.Moves.{matches, pick, is_kind_of, end_of, Runs, 
 ghost use Rattle.tab_step.specs.Bind.{IsBoundTo};
 
 use crate::bound::Bound;
-use crate::machine::{Event, MachineState, Stepped, UNLISTED};
+use crate::machine::{Event, MachineState, Stepped};
+use base_codes::DeedCode;
 use tab_law::{Chain, Deed, Deeds, LawBook, MAX_ROW_ACTIONS, PLACES, Scene, high, holds};
 
 /// Whether the guards at these places all say yes.
@@ -86,8 +87,9 @@ fn unlisted(machine: &MachineState, event: Event) -> Stepped
     ensures stays { Stays machine.now event result.after result.chain result.deeds }
 {
     let mut deeds = Deeds::new();
+    let code = DeedCode::Unlisted.number();
     let a = event.facts;
-    deeds.push(Deed { code: UNLISTED, a });
+    deeds.push(Deed { code, a });
     let after = *machine;
     Stepped {
         after,

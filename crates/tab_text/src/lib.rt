@@ -20,11 +20,8 @@ pub use limits::{
     MAX_ACTIONS, MAX_GUARDS, MAX_KINDS, MAX_NAME, MAX_ROW_ACTIONS, MAX_ROW_GUARDS, MAX_ROWS,
     MAX_STATES, MAX_TEXT,
 };
-pub use name::{Name, NameList};
+pub use name::NameList;
 pub use parsing::parse;
 pub use pieces::{Found, Pieces, Words};
 pub use row::{Places, Row};
 pub use table::Table;
-
-#[cfg(test)]
-mod tests;

@@ -6,8 +6,9 @@ ghost use Rattle.tab_text.specs.declared.limits.TheConstants.{MAX_ROW_ACTIONS, M
 
 use crate::cells::RowNames;
 use crate::limits::{MAX_ACTIONS, MAX_GUARDS, MAX_KINDS, MAX_ROW_ACTIONS, MAX_STATES};
-use crate::name::{Name, NameList};
+use crate::name::NameList;
 use crate::row::{Places, Row};
+use base_list::Octets;
 use std::alloc::{AllocError, Global};
 
 /// The first names of a list, each a part of the text.
@@ -145,7 +146,7 @@ impl<'a> Room<'a> {
     {
         let mut names = Vec::new(alloc);
         for name in &self.names[..self.len] {
-            names.push(Name::new(alloc, name)?)?;
+            names.push(Octets::from_slice(alloc, name)?)?;
         }
         Ok(NameList::new(names))
     }

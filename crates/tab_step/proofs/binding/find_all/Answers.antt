@@ -1,6 +1,6 @@
 use Rattle.std.proofs.Common.{refl, is_none}
 use Rattle.std.proofs.lemmas.Result.{err_from_is_err_and}
-use Rattle.tab_law.specs.Named.{place_of}
+use Rattle.base_list.specs.Named.{place_of}
 use Rattle.tab_step.specs.Moves.{name_at}
 use Rattle.tab_step.proofs.BindLemmas.{first-filter}
 use Rattle.tab_step.proofs.binding.find_all.Goals as goal

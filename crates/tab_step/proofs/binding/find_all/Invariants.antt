@@ -1,5 +1,5 @@
 use Rattle.std.proofs.Common.{◌≡◌, [], Some, length, map, take}
-use Rattle.tab_law.specs.Named.{place_of}
+use Rattle.base_list.specs.Named.{place_of}
 use Rattle.tab_step.specs.Moves.{name_at}
 use Rattle.tab_step.specs.Bind.{lacking}
 use Rattle.tab_step.proofs.binding.find_all.Given as goal

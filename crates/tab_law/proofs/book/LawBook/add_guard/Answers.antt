@@ -1,5 +1,5 @@
 use Rattle.tab_law.specs.declared.limits.TheConstants.{MAX_GUARDS}
-use Rattle.tab_law.proofs.BookLemmas.{IsKept, IsKept-add}
+use Rattle.base_list.proofs.NamedLemmas.{IsKept, IsKept-add}
 use Rattle.tab_law.proofs.book.LawBook.add_guard.Goals as goal
 
 pub invariant_of-self : goal.invariant_of-self
