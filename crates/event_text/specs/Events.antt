@@ -3,7 +3,7 @@ use Rattle.std.specs.Prelude.{◌≡◌, ℕ, ◌==◌, ◌&&◌, not, nat_lt, B
 use Rattle.std.specs.List.{filter_map, find, list_all, list_any, range_with_len, slice_split}
 use Rattle.bench_text.specs.Numbers.{number_of}
 use Rattle.tab_law.specs.Books.{Laws}
-use Rattle.tab_law.specs.Named.{place_of}
+use Rattle.base_list.specs.Named.{place_of}
 use Rattle.tab_law.specs.declared.limits.TheConstants.{PLACES}
 use Rattle.tab_step.specs.declared.machine.Event.{Event}
 use Rattle.tab_text.specs.Lines.{Line, lines}

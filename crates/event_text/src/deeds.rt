@@ -4,40 +4,19 @@ ghost use Rattle.std.specs.List.{flat_map};
 ghost use Rattle.std.specs.Option.{option_map};
 ghost use Rattle.event_text.specs.Deeds.{deed_line, deed_name, name_or, without_last_zeros};
 
+use base_codes::DeedCode;
 use bench_text::put_number;
 use std::alloc::AllocError;
-use tab_law::scene::Deed;
+use tab_law::Deed;
 
 /// The name of the deed with this code.
-#[tactic(auto, unfolding(crate::specs::Deeds::deed_name))]
-pub fn deed_name(code: u16) -> Option<&'static [u8]>
+fn deed_name(code: u16) -> Option<&'static [u8]>
     ensures { option_map (λ name. name.now) result ≡ deed_name code }
 {
-    let name: &[u8] = match code {
-        1 => b"Unlisted",
-        2 => b"To-Peer",
-        3 => b"To-Session",
-        5 => b"Close",
-        6 => b"Dial",
-        7 => b"Undial",
-        8 => b"Arm",
-        9 => b"Disarm",
-        10 => b"Snd-CER",
-        11 => b"Snd-CEA",
-        12 => b"Snd-DWA",
-        13 => b"Snd-DPR",
-        14 => b"Snd-DPA",
-        15 => b"Snd-Msg",
-        16 => b"Elect",
-        20 => b"Reserve",
-        21 => b"Debit",
-        22 => b"Release",
-        23 => b"Charge",
-        24 => b"Refund",
-        30 => b"Service",
-        _ => return None,
-    };
-    Some(name)
+    match DeedCode::coded(code) {
+        Some(deed) => Some(deed.name().as_bytes()),
+        None => None,
+    }
 }
 
 /// A name behind a label, or the number where there is none.

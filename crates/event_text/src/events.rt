@@ -6,10 +6,9 @@ ghost use Rattle.tab_text.specs.Pieces.{words_left};
 
 use bench_text::number_of;
 use std::alloc::{AllocError, AllocFailed, Global};
-use tab_law::book::LawBook;
-use tab_law::limits::PLACES;
-use tab_step::machine::Event;
-use tab_text::pieces::{Pieces, Words};
+use tab_law::{LawBook, PLACES};
+use tab_step::Event;
+use tab_text::{Pieces, Words};
 
 /// Why a text holds no list of events.
 #[derive(Clone, Copy, Debug, PartialEq, Eq)]

@@ -3,13 +3,11 @@ ghost use Rattle.std.specs.Prelude.{◌≡◌, ◌++◌, ◌<◌, ◌^◌, List,
 ghost use Rattle.dia_avp.specs.View.{seen};
 ghost use Rattle.msg_text.specs.Lines.{letter, header_letters, header_line, vendor_text, avp_letters, printed_length, avp_name, avp_line, AvpLines, MessageText, fault_line};
 
+use base_codes::{AVP_HEADER_LEN, AVP_VENDOR_HEADER_LEN, HEADER_LEN};
 use bench_text::{put_content, put_hex, put_number};
 use dia_avp::{AvpView, first_avp};
 use dia_msg::{Flags, Header};
 use std::alloc::AllocError;
-
-/// How many octets a header has (RFC 6733 section 3).
-const HEADER_LEN: usize = 20;
 
 fn letter(set: bool, sign: u8) -> u8
     ensures { result ≡ letter set sign }
@@ -63,8 +61,12 @@ fn avp_letters(avp: &AvpView<'_>) -> [u8; 3]
 fn printed_length(avp: &AvpView<'_>) -> u64
     ensures { result ≡ printed_length (seen avp.now) }
 {
-    let header = if avp.vendor.is_some() { 12 } else { 8 };
-    header + avp.octets.len() as u64
+    let header = if avp.vendor.is_some() {
+        AVP_VENDOR_HEADER_LEN
+    } else {
+        AVP_HEADER_LEN
+    };
+    header as u64 + avp.octets.len() as u64
 }
 
 fn put_avp_name(out: &mut Vec<u8>, avp: &AvpView<'_>) -> Result<(), AllocError>

@@ -16,8 +16,8 @@ use Rattle.tab_text.specs.declared.fault.ParseError.TheVariants as parsing
 use Rattle.tab_text.specs.declared.fault.TextFault.{TextFault}
 use Rattle.tab_step.specs.Bind.{IsUnbound, missing}
 use Rattle.tab_step.specs.Runs.{AreSteps}
-use Rattle.tab_step.specs.declared.bind.Unbound.{Unbound}
-use Rattle.tab_step.specs.declared.bind.Unbound.TheVariants as binding
+use Rattle.tab_step.specs.declared.binding.Unbound.{Unbound}
+use Rattle.tab_step.specs.declared.binding.Unbound.TheVariants as binding
 use Rattle.tab_step.specs.declared.machine.Event.{Event}
 use Rattle.tab_step.specs.declared.machine.MachineState.{MachineState}
 use Rattle.tab_step.specs.declared.machine.Stepped.{Stepped}

@@ -10,8 +10,8 @@ use Rattle.tab_text.specs.Rows.{table_of}
 use Rattle.tab_text.specs.declared.fault.ParseError.{ParseError}
 use Rattle.tab_text.specs.declared.fault.ParseError.TheVariants as parsing
 use Rattle.tab_text.specs.declared.fault.TextFault.{TextFault}
-use Rattle.tab_step.specs.declared.bind.Unbound.{Unbound}
-use Rattle.tab_step.specs.declared.bind.Unbound.TheVariants as binding
+use Rattle.tab_step.specs.declared.binding.Unbound.{Unbound}
+use Rattle.tab_step.specs.declared.binding.Unbound.TheVariants as binding
 use Rattle.tab_step.specs.Bind.{missing}
 use Rattle.tab_step.specs.Runs.{AreSteps, IsRun}
 use Rattle.tab_step.specs.declared.machine.Event.{Event}

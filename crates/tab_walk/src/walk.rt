@@ -10,15 +10,9 @@ use bench_device::{ByteSink, MAX_IDLE_WRITES, Status, tell};
 use bench_text::put_number;
 use event_text::{EventsError, put_deeds, put_name, read_events};
 use std::alloc::{AllocError, Global};
-use tab_law::book::LawBook;
-use tab_law::limits::PLACES;
-use tab_step::bind::{Unbound, bind};
-use tab_step::bound::Bound;
-use tab_step::machine::{Event, MachineState, Stepped};
-use tab_step::run::run;
-use tab_text::fault::{ParseError, TextFault};
-use tab_text::parse::parse;
-use tab_text::table::Table;
+use tab_law::{LawBook, PLACES};
+use tab_step::{Bound, Event, MachineState, Stepped, Unbound, bind, run};
+use tab_text::{ParseError, Table, TextFault, parse};
 
 /// What is printed, and whether it is a refusal.
 #[derive(Drop)]

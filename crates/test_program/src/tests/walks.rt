@@ -2,9 +2,7 @@
 use bench_device::{Counting, Status};
 use std::alloc::Global;
 use std::test::Fail;
-use tab_law::book::LawBook;
-use tab_law::law::{ActLaw, Atom, Change, Field, GuardLaw, Term, Test};
-use tab_law::limits::PLACES;
+use tab_law::{ActLaw, Atom, Change, Field, GuardLaw, LawBook, PLACES, Term, Test};
 use tab_walk::walk_on;
 
 const TABLE: &str = "  State  Event                        Action         Next
