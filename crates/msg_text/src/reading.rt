@@ -65,7 +65,7 @@ impl Reading {
         ensures printed { OnOk result (PrintsWaiting self.old.framer self.new.framer self.old.report self.new.report) }
     {
         while let Some(frame) = self.framer.next_frame() {
-            self.report.message(frame.octets())?;
+            self.report.message(frame.as_slice())?;
         }
         Ok(())
     }
