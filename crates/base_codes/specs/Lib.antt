@@ -1,0 +1,3 @@
+pub mod ResultCodes
+pub mod CommandCodes
+pub mod DeedCodes
