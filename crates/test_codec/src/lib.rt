@@ -1,0 +1,7 @@
+//! Tests of the codec: AVPs, frames, the dictionary, groups and messages, over their public calls alone.
+#![tactic(auto)]
+
+#[cfg(test)]
+mod message;
+#[cfg(test)]
+mod tree;
