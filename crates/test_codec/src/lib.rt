@@ -1,4 +1,4 @@
-//! The tests of the codec, over the public calls of its crates: AVPs, frames and the dictionary.
+//! Tests of the codec: AVPs, frames, the dictionary, groups and messages, over their public calls alone.
 #![tactic(auto)]
 
 #[cfg(test)]
@@ -7,3 +7,7 @@ mod avp;
 mod dict;
 #[cfg(test)]
 mod frame;
+#[cfg(test)]
+mod message;
+#[cfg(test)]
+mod tree;
