@@ -1,8 +1,8 @@
 use dia_avp::{Avp, Octets, write_avp};
 use dia_dict::{AvpKind, Dictionary};
 use dia_msg::{
-    Command, CommandKind, Flags, Header, Identity, MsgError, MsgFault, ResultCode, error_answer,
-    read_message, write_message,
+    Command, CommandKind, CreditControlRequest, Flags, Header, Identity, MsgError, MsgFault,
+    ResultCode, error_answer, read_message, write_message,
 };
 use std::alloc::{AllocError, Global};
 use std::test::Fail;
@@ -161,6 +161,10 @@ fn is_spelled(alloc: Global, command: &Command, octets: &[u8]) -> bool {
     write_message(command, &mut out).is_ok() && out.as_slice() == octets
 }
 
+fn is_written(alloc: Global, command: &Command, kind: CommandKind, spelling: &[u8]) -> bool {
+    command.kind() == kind && is_spelled(alloc, command, spelling)
+}
+
 /// Whether octets are read as a command of this kind that is spelled so.
 fn reads_as(
     alloc: Global,
@@ -169,8 +173,8 @@ fn reads_as(
     kind: CommandKind,
     spelling: &[u8],
 ) -> bool {
-    match read_message(alloc, dictionary, octets) {
-        Ok(command) => command.kind() == kind && is_spelled(alloc, &command, spelling),
+    match &read_message(alloc, dictionary, octets) {
+        Ok(command) => is_written(alloc, command, kind, spelling),
         Err(_) => false,
     }
 }
@@ -337,25 +341,39 @@ fn each_command_is_read_and_written_in_the_order_of_its_format(
     Ok(())
 }
 
-/// Whether a request has the values that its octets say.
-fn has_values(command: &Command) -> bool {
-    let Command::Ccr(ccr) = command else {
-        return false;
-    };
-    ccr.header.length == 172
-        && ccr.header.flags.retransmitted
-        && !ccr.header.flags.error
-        && ccr.header.end_to_end == 7
-        && ccr.session_id.value.as_slice() == b"c1;1".as_slice()
+fn has_header(header: &Header) -> bool {
+    header.length == 172
+        && header.flags.retransmitted
+        && !header.flags.error
+        && header.end_to_end == 7
+}
+
+fn has_fields(ccr: &CreditControlRequest) -> bool {
+    ccr.session_id.value.as_slice() == b"c1;1".as_slice()
         && ccr.origin_host.mandatory
         && !ccr.origin_host.protected
         && ccr.cc_request_type.value == 1
         && ccr.cc_request_number.value == 7
-        && ccr.requested_action.is_some()
+}
+
+fn has_groups(ccr: &CreditControlRequest) -> bool {
+    ccr.requested_action.is_some()
         && ccr.requested_service_unit.is_none()
         && ccr.used_service_unit.is_empty()
         && ccr.subscription_id.len() == 1
-        && command.rest().is_empty()
+}
+
+/// Whether a request has the values that its octets say.
+fn has_values(command: &Command) -> bool {
+    match command {
+        Command::Ccr(ccr) => {
+            has_header(&ccr.header)
+                && has_fields(ccr)
+                && has_groups(ccr)
+                && command.rest().is_empty()
+        }
+        _ => false,
+    }
 }
 
 /// Whether octets are read as a request with the values that they say.

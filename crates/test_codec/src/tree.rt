@@ -1,6 +1,6 @@
 use dia_avp::{AvpView, WriteError, write_avp, write_avps};
 use dia_dict::{AvpKind, Dictionary};
-use dia_tree::{FaultView, first_fault, group_list, missing_fault, normal_avp};
+use dia_tree::{FaultView, MsgFault, first_fault, group_list, missing_fault, normal_avp};
 use std::alloc::{AllocError, Global};
 use std::test::Fail;
 
@@ -80,20 +80,25 @@ fn nested(alloc: Global, inner: &[u8], levels: usize) -> Result<Vec<u8>, WriteEr
     Ok(octets)
 }
 
-/// Whether a fault has this number and, spelled, this failed AVP; 0 where there is no fault.
-fn is_fault(alloc: Global, fault: Option<FaultView<'_>>, number: u32, failed: &[u8]) -> bool {
-    let Some(view) = fault else {
-        return number == 0 && failed.is_empty();
-    };
+/// Whether a fault has this number and, spelled, this failed AVP.
+fn is_told(alloc: Global, fault: &MsgFault, number: u32, failed: &[u8]) -> bool {
     let mut out = Vec::new(alloc);
-    let Ok(fault) = view.to_fault(alloc) else {
-        return false;
-    };
     let is_written = match &fault.failed {
         None => true,
         Some(avp) => write_avp(&avp.view(), &mut out).is_ok(),
     };
     is_written && fault.result.number() == number && out.as_slice() == failed
+}
+
+/// Whether a fault is this one; 0 where there is none.
+fn is_fault(alloc: Global, fault: Option<FaultView<'_>>, number: u32, failed: &[u8]) -> bool {
+    match fault {
+        None => number == 0 && failed.is_empty(),
+        Some(view) => match &view.to_fault(alloc) {
+            Ok(fault) => is_told(alloc, fault, number, failed),
+            Err(_) => false,
+        },
+    }
 }
 
 /// Two parts of octets, the least and the greatest number of groups that they stand in, what stands behind, the number of
@@ -124,13 +129,21 @@ fn full_list(alloc: Global) -> Result<Vec<u8>, AllocError> {
     Ok(octets)
 }
 
-#[test]
-fn the_first_fault_comes_by_place_with_its_failed_avp(rt: HostRuntime) -> Result<(), Fail> {
-    let alloc = rt.alloc();
-    let dictionary = Dictionary::base(alloc)?;
-    let full = full_list(alloc)?;
-    let rows: [Row<'_>; 26] = [
-        // A list of two AVPs.
+/// Whether each row holds.
+fn all_hold(alloc: Global, dictionary: &Dictionary, rows: &[Row<'_>]) -> Result<bool, WriteError> {
+    for row in rows {
+        if !holds(alloc, dictionary, row)? {
+            return Ok(false);
+        }
+    }
+    Ok(true)
+}
+
+/// Whether the faults of lists come by place.
+fn lists_hold(alloc: Global, dictionary: &Dictionary) -> Result<bool, WriteError> {
+    let cut_state = [0, 0, 1, 0x16, 0x40];
+    let cut_unknown = [0, 0, 0x27, 0x0f, 0x40];
+    let rows: [Row<'_>; 10] = [
         (&HOST, &UNKNOWN, 0, 0, b"", 0, b""),
         (&HOST, &UNKNOWN_M, 0, 0, b"", 5001, &UNKNOWN_M),
         (&UNKNOWN_M, &BAD_REALM, 0, 0, b"", 5001, &UNKNOWN_M),
@@ -139,17 +152,25 @@ fn the_first_fault_comes_by_place_with_its_failed_avp(rt: HostRuntime) -> Result
         (&HOST, &LONG_OCTETS, 0, 0, b"", 5014, &ZERO_OCTETS),
         (&BAD_REALM, &LONG_OCTETS, 0, 0, b"", 5004, &BAD_REALM),
         // A header that is cut off: its missing octets count as zero.
-        (&HOST, &SHORT_STATE[..5], 0, 0, b"", 5014, &ZERO_STATE),
-        (&HOST, &UNKNOWN_M[..5], 0, 0, b"", 5014, &NO_UNKNOWN),
+        (&HOST, &cut_state, 0, 0, b"", 5014, &ZERO_STATE),
+        (&HOST, &cut_unknown, 0, 0, b"", 5014, &NO_UNKNOWN),
         (&HOST, &CUT_VENDOR, 0, 0, b"", 5014, &ZERO_VENDOR),
-        // Two AVPs inside groups and one behind: a fault inside a group comes at its place.
+    ];
+    all_hold(alloc, dictionary, &rows)
+}
+
+/// Whether the faults inside groups come at the group's place, and groups have at most 4 levels.
+fn groups_hold(alloc: Global, dictionary: &Dictionary) -> Result<bool, WriteError> {
+    let cut_host = [0, 0, 1, 8, 0x40, 0, 0];
+    let rows: [Row<'_>; 12] = [
+        // Two AVPs inside groups and one behind.
         (&ZERO_OCTETS, &UNKNOWN, 1, 4, &HOST, 0, b""),
         (&UNKNOWN_M, &LONG_OCTETS, 1, 4, &BAD_REALM, 5001, &UNKNOWN_M),
         (&UNKNOWN, &LONG_OCTETS, 1, 4, &BAD_REALM, 5014, &ZERO_OCTETS),
         (&HOST, &BAD_REALM, 1, 4, &UNKNOWN_M, 5004, &BAD_REALM),
         (&HOST, &HOST, 1, 4, &UNKNOWN_M, 5001, &UNKNOWN_M),
-        (&HOST, &SHORT_STATE, 1, 4, &HOST[..7], 5014, &ZERO_STATE),
-        // Groups have at most 4 levels.
+        (&HOST, &SHORT_STATE, 1, 4, &cut_host, 5014, &ZERO_STATE),
+        // The fifth level is one too many.
         (&HOST, b"", 4, 4, b"", 0, b""),
         (&HOST, b"", 5, 6, b"", 5012, b""),
         (b"", b"", 4, 4, b"", 0, b""),
@@ -157,15 +178,33 @@ fn the_first_fault_comes_by_place_with_its_failed_avp(rt: HostRuntime) -> Result
         // What is wrong before a group too many comes first.
         (&UNKNOWN_M, &GROUP, 4, 4, b"", 5001, &UNKNOWN_M),
         (&GROUP, &UNKNOWN_M, 4, 4, b"", 5012, b""),
-        // A list has at most 128 AVPs at each level.
-        (&full, b"", 0, 4, b"", 0, b""),
-        (&full, &UNKNOWN, 0, 4, b"", 5012, b""),
-        (&full, &UNKNOWN_M, 0, 4, b"", 5012, b""),
-        (&full, &UNKNOWN_M[..9], 0, 4, b"", 5014, &NO_UNKNOWN),
     ];
-    for place in 0..rows.len() {
-        assert!(rt; holds(alloc, &dictionary, &rows[place])?, "row {place}");
-    }
+    all_hold(alloc, dictionary, &rows)
+}
+
+/// Whether a list has at most 128 AVPs at each level; `full` has as many.
+fn full_lists_hold(
+    alloc: Global,
+    dictionary: &Dictionary,
+    full: &[u8],
+) -> Result<bool, WriteError> {
+    let cut = [0, 0, 0x27, 0x0f, 0x40, 0, 0, 11, 0x61];
+    let rows: [Row<'_>; 4] = [
+        (full, b"", 0, 4, b"", 0, b""),
+        (full, &UNKNOWN, 0, 4, b"", 5012, b""),
+        (full, &UNKNOWN_M, 0, 4, b"", 5012, b""),
+        (full, &cut, 0, 4, b"", 5014, &NO_UNKNOWN),
+    ];
+    all_hold(alloc, dictionary, &rows)
+}
+
+#[test]
+fn the_first_fault_comes_by_place_with_its_failed_avp(rt: HostRuntime) -> Result<(), Fail> {
+    let alloc = rt.alloc();
+    let full = full_list(alloc)?;
+    let dictionary = Dictionary::base(alloc)?;
+    assert!(rt; lists_hold(alloc, &dictionary)? && groups_hold(alloc, &dictionary)?);
+    assert!(rt; full_lists_hold(alloc, &dictionary, &full)?);
     Ok(())
 }
 
@@ -222,15 +261,14 @@ fn value_holds(
     )
 }
 
-#[test]
-fn values_that_credit_control_does_not_know_are_5004(rt: HostRuntime) -> Result<(), Fail> {
-    let alloc = rt.alloc();
-    let dictionary = Dictionary::base(alloc)?;
+/// Whether the values that credit control does not know are refused.
+fn values_hold(alloc: Global, dictionary: &Dictionary) -> Result<bool, WriteError> {
+    let longest = [0x61; 255];
     let long = [0x61; 256];
     let rows: [ValueRow<'_>; 14] = [
         (263, b"", 5004, 5004),
         (263, b"s", 0, 0),
-        (263, &long[..255], 0, 0),
+        (263, &longest, 0, 0),
         (263, &long, 5004, 5004),
         (416, &[0, 0, 0, 0], 5004, 5004),
         (416, &[0, 0, 0, 1], 0, 0),
@@ -243,12 +281,19 @@ fn values_that_credit_control_does_not_know_are_5004(rt: HostRuntime) -> Result<
         (436, &[0, 0, 0, 4], 5004, 0),
         (436, &[1, 0, 0, 3], 5004, 0),
     ];
-    for place in 0..rows.len() {
-        assert!(rt;
-            value_holds(alloc, &dictionary, &rows[place])?,
-            "row {place}"
-        );
+    for row in &rows {
+        if !value_holds(alloc, dictionary, row)? {
+            return Ok(false);
+        }
     }
+    Ok(true)
+}
+
+#[test]
+fn values_that_credit_control_does_not_know_are_5004(rt: HostRuntime) -> Result<(), Fail> {
+    let alloc = rt.alloc();
+    let dictionary = Dictionary::base(alloc)?;
+    assert!(rt; values_hold(alloc, &dictionary)?);
     Ok(())
 }
 
