@@ -1,5 +1,6 @@
 //! Which fault `read` prints of a message that has one.
 use super::messages::{kept, refused};
+use super::streams::filled;
 use msg_text::Report;
 use std::alloc::Global;
 use std::test::Fail;
@@ -202,16 +203,109 @@ dwr 0000010840000008 0000012840000008
 raa 000001074000000973000000 success host realm
 ";
 
-/// A User-Name of these octets.
-fn user_name(alloc: Global, octets: &str) -> Result<String, Fail> {
-    let len = 8 + octets.len() / 2;
-    let padding = match len % 4 {
-        0 => "",
-        1 => "000000",
-        2 => "0000",
-        _ => "00",
-    };
-    Ok(format!(in alloc; "0000000140{len:06x}{octets}{padding}")?)
+/// Text is UTF-8.
+const TEXTS: &str = "\
+dwr host realm 000000014000000980000000 | 5004 000000014000000980000000
+dwr host realm 000000014000000ac0800000 | 5004 000000014000000ac0800000
+dwr host realm 000000014000000ac1bf0000 | 5004 000000014000000ac1bf0000
+dwr host realm 000000014000000be0808000 | 5004 000000014000000be0808000
+dwr host realm 000000014000000be09fbf00 | 5004 000000014000000be09fbf00
+dwr host realm 000000014000000cf0808080 | 5004 000000014000000cf0808080
+dwr host realm 000000014000000cf08fbfbf | 5004 000000014000000cf08fbfbf
+dwr host realm 000000014000000beda08000 | 5004 000000014000000beda08000
+dwr host realm 000000014000000bedbfbf00 | 5004 000000014000000bedbfbf00
+dwr host realm 000000014000000cf4908080 | 5004 000000014000000cf4908080
+dwr host realm 000000014000000cf5808080 | 5004 000000014000000cf5808080
+dwr host realm 0000000140000009fe000000 | 5004 0000000140000009fe000000
+dwr host realm 0000000140000009ff000000 | 5004 0000000140000009ff000000
+dwr host realm 0000000140000009c3000000 | 5004 0000000140000009c3000000
+dwr host realm 000000014000000ae2820000 | 5004 000000014000000ae2820000
+dwr host realm 000000014000000bf09f9800 | 5004 000000014000000bf09f9800
+dwr host realm 000000014000000ac3280000 | 5004 000000014000000ac3280000
+dwr host realm 000000014000000be228a100 | 5004 000000014000000be228a100
+dwr host realm 000000014000000be2822800 | 5004 000000014000000be2822800
+dwr host realm 000000014000000cf0288cbc | 5004 000000014000000cf0288cbc
+dwr host realm 000000014000000cf09028bc | 5004 000000014000000cf09028bc
+dwr host realm 000000014000000cf0908c28 | 5004 000000014000000cf0908c28
+dwr host realm 000000014000000bc3a9a900 | 5004 000000014000000bc3a9a900
+dwr host realm 000000014000000b4142ff00 | 5004 000000014000000b4142ff00
+";
+
+/// User-Names that are UTF-8.
+const TEXTS_KEPT: &str = "\
+dwr host realm 0000000140000008
+dwr host realm 000000014000000900000000
+dwr host realm 00000001400000097f000000
+dwr host realm 000000014000000ac2800000
+dwr host realm 000000014000000adfbf0000
+dwr host realm 000000014000000be0a08000
+dwr host realm 000000014000000bed9fbf00
+dwr host realm 000000014000000bee808000
+dwr host realm 000000014000000befbfbf00
+dwr host realm 000000014000000cf0908080
+dwr host realm 000000014000000cf48fbfbf
+";
+
+/// Rows with a `*` for so many of these octets: an AVP has up to 255 or 4,032 of them, a list up to 128 AVPs.
+const MANY: [(&str, &str, usize); 6] = [
+    (
+        "raa 0000010740000108* success host realm | 5004 0000010740000108*",
+        "73",
+        256,
+    ),
+    ("dwr host realm *0000270f00000008 | 5012", UNKNOWN, 126),
+    ("dwr host realm *0000270f40000008 | 5012", UNKNOWN, 126),
+    (
+        "dwr host realm 000001bb40000410*0000270f000000080000270f000000080000270f00000008 | 5012",
+        UNKNOWN,
+        126,
+    ),
+    // Whatever the 129th is, unless it is broken.
+    (
+        "dwr host realm *0000270f00000007 | 5014 0000270f00000008",
+        UNKNOWN,
+        126,
+    ),
+    ("80000118000000000000000100000001* | 5012", UNKNOWN, 129),
+];
+
+/// The same, of messages that are kept.
+const MANY_KEPT: [(&str, &str, usize); 4] = [
+    ("raa 0000010740000107*00 success host realm", "73", 255),
+    ("dwr host realm *", UNKNOWN, 126),
+    (
+        "dwr host realm 000001bb40000408*0000270f000000080000270f00000008",
+        UNKNOWN,
+        126,
+    ),
+    // User-Equipment-Info-Value of 4,032 octets behind 20, 20 and 16: 4,096 are the most.
+    ("dwr host realm 000001cc40000fc8*", "0000000000000000", 504),
+];
+
+/// An AVP that the dictionary lacks, without flag M.
+const UNKNOWN: &str = "0000270f00000008";
+
+/// Headers of other versions.
+const OTHER_VERSIONS: [[u8; 20]; 4] = [
+    [
+        2, 0, 0, 20, 0x80, 0, 1, 24, 0, 0, 0, 0, 0, 0, 0, 1, 0, 0, 0, 1,
+    ],
+    [
+        0, 0, 0, 20, 0xc0, 0, 1, 16, 0, 0, 0, 4, 0, 0, 0, 1, 0, 0, 0, 1,
+    ],
+    [
+        2, 0, 0, 20, 0xc0, 0, 1, 16, 0, 0, 0, 4, 0, 0, 0, 1, 0, 0, 0, 1,
+    ],
+    [
+        255, 0, 0, 20, 0xc0, 0, 1, 16, 0, 0, 0, 4, 0, 0, 0, 1, 0, 0, 0, 1,
+    ],
+];
+
+/// Whether another version is printed of a header. Of a stream that is a frame fault, so it is read by itself.
+fn is_other_version(alloc: Global, octets: &[u8]) -> Result<bool, Fail> {
+    let mut report = Report::new(alloc)?;
+    report.message(octets)?;
+    Ok(report.text() == b"fault 5011\n".as_slice())
 }
 
 #[test]
@@ -228,6 +322,7 @@ fn faults_are_named_with_the_failed_avp(rt: HostRuntime) -> Result<(), Fail> {
         LEVELS,
         HEADERS,
         SESSION_IDS,
+        TEXTS,
     ] {
         refused(&rt, rt.alloc(), rows)?;
     }
@@ -237,117 +332,27 @@ fn faults_are_named_with_the_failed_avp(rt: HostRuntime) -> Result<(), Fail> {
         ADDRESSES_KEPT,
         LEVELS_KEPT,
         EMPTY_KEPT,
+        TEXTS_KEPT,
     ] {
         kept(&rt, rt.alloc(), rows)?;
     }
-    Ok(())
-}
-
-#[test]
-fn a_session_id_has_at_most_255_octets(rt: HostRuntime) -> Result<(), Fail> {
-    let alloc = rt.alloc();
-    let mut long = String::new(alloc);
-    for _ in 0..255 {
-        long.push_str("73")?;
+    for (row, part, count) in MANY {
+        refused(
+            &rt,
+            rt.alloc(),
+            filled(rt.alloc(), row, part, count)?.as_str(),
+        )?;
     }
-    let longest = format!(in alloc; "raa 0000010740000107{long}00 success host realm")?;
-    let longer = format!(in alloc;
-        "raa 0000010740000108{long}73 success host realm | 5004 0000010740000108{long}73"
-    )?;
-    kept(&rt, alloc, longest.as_str())?;
-    refused(&rt, alloc, longer.as_str())
-}
-
-#[test]
-fn text_is_utf8(rt: HostRuntime) -> Result<(), Fail> {
-    for text in [
-        "", "00", "7f", "c280", "dfbf", "e0a080", "ed9fbf", "ee8080", "efbfbf", "f0908080",
-        "f48fbfbf",
-    ]
-    .as_slice()
-    {
-        let words = format!(in rt.alloc(); "dwr host realm {}", user_name(rt.alloc(), text)?)?;
-        kept(&rt, rt.alloc(), words.as_str())?;
+    for (row, part, count) in MANY_KEPT {
+        kept(
+            &rt,
+            rt.alloc(),
+            filled(rt.alloc(), row, part, count)?.as_str(),
+        )?;
     }
-    for broken in [
-        "80", "c080", "c1bf", "e08080", "e09fbf", "f0808080", "f08fbfbf", "eda080", "edbfbf",
-        "f4908080", "f5808080", "fe", "ff", "c3", "e282", "f09f98", "c328", "e228a1", "e28228",
-        "f0288cbc", "f09028bc", "f0908c28", "c3a9a9", "4142ff",
-    ]
-    .as_slice()
-    {
-        let name = user_name(rt.alloc(), broken)?;
-        let row = format!(in rt.alloc(); "dwr host realm {name} | 5004 {name}")?;
-        refused(&rt, rt.alloc(), row.as_str())?;
-    }
-    Ok(())
-}
-
-#[test]
-fn a_list_has_at_most_128_avps(rt: HostRuntime) -> Result<(), Fail> {
-    let alloc = rt.alloc();
-    let mut many = String::new(alloc);
-    for _ in 0..126 {
-        many.push_str("0000270f00000008")?;
-    }
-    let kept_rows = format!(in alloc;
-        "\
-dwr host realm {many}
-dwr host realm 000001bb40000408{many}0000270f000000080000270f00000008
-"
-    )?;
-    kept(&rt, alloc, kept_rows.as_str())?;
-    let refused_rows = format!(in alloc;
-        "\
-dwr host realm {many}0000270f00000008 | 5012
-dwr host realm {many}0000270f40000008 | 5012
-dwr host realm 000001bb40000410{many}0000270f000000080000270f000000080000270f00000008 | 5012
-# Whatever the 129th is, unless it is broken.
-dwr host realm {many}0000270f00000007 | 5014 0000270f00000008
-"
-    )?;
-    refused(&rt, alloc, refused_rows.as_str())
-}
-
-/// Whether another version is printed of a header. Of a stream that is a frame fault, so it is read by itself.
-fn is_other_version(alloc: Global, octets: &[u8]) -> Result<bool, Fail> {
-    let mut report = Report::new(alloc)?;
-    report.message(octets)?;
-    Ok(report.text() == b"fault 5011\n".as_slice())
-}
-
-#[test]
-fn another_version_is_a_fault(rt: HostRuntime) -> Result<(), Fail> {
-    for (version, flags, command, application) in [
-        (2, 0x80, 24, 0),
-        (0, 0xc0, 16, 4),
-        (2, 0xc0, 16, 4),
-        (255, 0xc0, 16, 4),
-    ] {
-        let octets = [
-            version,
-            0,
-            0,
-            20,
-            flags,
-            0,
-            1,
-            command,
-            0,
-            0,
-            0,
-            application,
-            0,
-            0,
-            0,
-            1,
-            0,
-            0,
-            0,
-            1,
-        ];
+    for octets in OTHER_VERSIONS {
         let is_other = is_other_version(rt.alloc(), &octets)?;
-        assert!(rt; is_other, "of version {version}");
+        assert!(rt; is_other, "of another version");
     }
     Ok(())
 }

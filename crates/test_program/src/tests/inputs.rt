@@ -1,5 +1,5 @@
 //! What is printed of an input, and how reading it ends.
-use super::streams::{Narrow, Pieces, prints, prints_from};
+use super::streams::{Narrow, Pieces, filled, prints, prints_filled, prints_from};
 use bench_device::{Counting, Status};
 use msg_text::read_on;
 use std::alloc::Global;
@@ -46,130 +46,110 @@ octets 010000448000011800000000ffffffff00000000\
 62000000000001162000000cffffffff0000270f8000000c000028af
 ";
 
+/// Texts, what is printed of them, and the status. A `*` stands for the DWR and for its lines.
+const TEXTS: [(&str, &str, u8); 28] = [
+    ("*", "*", 0),
+    (DWR_OTHER_BITS, "*", 0),
+    (DWR_UPPER, "*", 0),
+    (VENDOR, VENDOR_TEXT, 0),
+    ("", "", 0),
+    (" \r\n\t", "", 0),
+    (
+        "010000448000011800000000000000010000000100000108400000116\
+12e6578616d706c65000000000001284000000f6578616d706c65000000270f4000000c00000001",
+        "fault 5001 0000270f4000000c00000001\n",
+        1,
+    ),
+    (
+        "01000038800001180000000000000001000000010000010840000011ff2e6578616d706c65000000\
+000001284000000f6578616d706c6500",
+        "fault 5004 0000010840000011ff2e6578616d706c65000000\n",
+        1,
+    ),
+    (
+        "01000028800001180000000000000001000000010000010840000011612e6578616d706c65000000",
+        "fault 5005 0000012840000008\n",
+        1,
+    ),
+    (
+        "0100001c800001180000000000000001000000010000010840000007",
+        "fault 5014 0000010840000008\n",
+        1,
+    ),
+    (
+        "01000020800001180000000000000001000000010000011640000009ff000000",
+        "fault 5014 000001164000000c00000000\n",
+        1,
+    ),
+    (
+        "0100001480000119000000000000000100000001",
+        "fault 3001\n",
+        1,
+    ),
+    (
+        "0100001400000118000000000000000100000001",
+        "fault 5005 0000010c4000000c00000000\n",
+        1,
+    ),
+    (
+        "0100001480000118000000040000000100000001",
+        "fault 3007\n",
+        1,
+    ),
+    // What is no octet ends the input, with a message before it or without.
+    ("zz", "bad hex\n", 1),
+    ("0", "bad hex\n", 1),
+    ("01 0g", "bad hex\n", 1),
+    ("01000010 g", "frame fault 2\n", 1),
+    ("*zz", "*bad hex\n", 1),
+    ("*0", "*bad hex\n", 1),
+    ("*01 0g", "*bad hex\n", 1),
+    ("*01000010 g", "*frame fault 2\n", 1),
+    // A frame fault, with a message behind it.
+    ("02*", "frame fault 1\n", 1),
+    ("*02*", "*frame fault 1\n", 1),
+    ("*01000010*", "*frame fault 2\n", 1),
+    ("*01000016*", "*frame fault 2\n", 1),
+    ("*01001004*", "*frame fault 2\n", 1),
+    ("*\n*", "**", 0),
+];
+
+/// Whether a front of the DWR is a fault.
+fn is_front_refused(alloc: Global, count: usize) -> Result<bool, Fail> {
+    let front = DWR.get(..count).ok_or("a front")?;
+    prints(alloc, front, "fault 5015\n", 1)
+}
+
+/// Whether two DWRs and these digits, in pieces of a size, print their lines and this end.
+fn is_cut(alloc: Global, size: usize, error: Option<ErrorKind>) -> Result<bool, Fail> {
+    let (text, lines, status) = if error.is_some() {
+        ("**01", "**read fault\n", 3)
+    } else {
+        ("*\n*", "**", 0)
+    };
+    let input = filled(alloc, text, DWR, 1)?;
+    let wanted = filled(alloc, lines, DWR_TEXT, 1)?;
+    let reader = Pieces {
+        octets: input.as_bytes(),
+        size,
+        error,
+    };
+    prints_from(alloc, reader, wanted.as_str(), status)
+}
+
 #[test]
 fn messages_and_faults_are_printed(rt: HostRuntime) -> Result<(), Fail> {
-    for (input, wanted, status) in [
-        (DWR, DWR_TEXT, 0),
-        (DWR_OTHER_BITS, DWR_TEXT, 0),
-        (DWR_UPPER, DWR_TEXT, 0),
-        (VENDOR, VENDOR_TEXT, 0),
-        ("", "", 0),
-        (" \r\n\t", "", 0),
-        (
-            "010000448000011800000000000000010000000100000108400000116\
-12e6578616d706c65000000000001284000000f6578616d706c65000000270f4000000c00000001",
-            "fault 5001 0000270f4000000c00000001\n",
-            1,
-        ),
-        (
-            "01000038800001180000000000000001000000010000010840000011ff2e6578616d706c65000000\
-000001284000000f6578616d706c6500",
-            "fault 5004 0000010840000011ff2e6578616d706c65000000\n",
-            1,
-        ),
-        (
-            "01000028800001180000000000000001000000010000010840000011612e6578616d706c65000000",
-            "fault 5005 0000012840000008\n",
-            1,
-        ),
-        (
-            "0100001c800001180000000000000001000000010000010840000007",
-            "fault 5014 0000010840000008\n",
-            1,
-        ),
-        (
-            "01000020800001180000000000000001000000010000011640000009ff000000",
-            "fault 5014 000001164000000c00000000\n",
-            1,
-        ),
-        (
-            "0100001480000119000000000000000100000001",
-            "fault 3001\n",
-            1,
-        ),
-        (
-            "0100001400000118000000000000000100000001",
-            "fault 5005 0000010c4000000c00000000\n",
-            1,
-        ),
-        (
-            "0100001480000118000000040000000100000001",
-            "fault 3007\n",
-            1,
-        ),
-    ] {
-        let is_printed = prints(rt.alloc(), input, wanted, status)?;
+    for (input, wanted, status) in TEXTS {
+        let is_printed = prints_filled(rt.alloc(), input, DWR, wanted, DWR_TEXT, status)?;
         assert!(rt; is_printed, "of {input}");
     }
-    Ok(())
-}
-
-#[test]
-fn an_input_ends_at_the_first_octets_that_are_none(rt: HostRuntime) -> Result<(), Fail> {
-    let alloc = rt.alloc();
-    for (rest, behind, end) in [
-        ("zz", "", "bad hex"),
-        ("0", "", "bad hex"),
-        ("01 0g", "", "bad hex"),
-        ("01000010 g", "", "frame fault 2"),
-        ("02", DWR, "frame fault 1"),
-        ("01000010", DWR, "frame fault 2"),
-        ("01000016", DWR, "frame fault 2"),
-        ("01001004", DWR, "frame fault 2"),
-    ] {
-        for (before, lines) in [("", ""), (DWR, DWR_TEXT)] {
-            let input = format!(in alloc; "{before}{rest}{behind}")?;
-            let wanted = format!(in alloc; "{lines}{end}\n")?;
-            let is_printed = prints(alloc, input.as_str(), wanted.as_str(), 1)?;
-            assert!(rt; is_printed, "of {input}");
-        }
-    }
-    Ok(())
-}
-
-#[test]
-fn a_front_of_a_message_is_a_fault(rt: HostRuntime) -> Result<(), Fail> {
     for count in 1..56 {
-        let front = DWR.get(..2 * count).ok_or("a front")?;
-        let is_printed = prints(rt.alloc(), front, "fault 5015\n", 1)?;
-        assert!(rt; is_printed, "of {count} octets");
+        let is_refused = is_front_refused(rt.alloc(), 2 * count)?;
+        assert!(rt; is_refused, "of {count} octets");
     }
-    Ok(())
-}
-
-#[test]
-fn too_many_avps_are_a_fault(rt: HostRuntime) -> Result<(), Fail> {
-    let mut many = String::from_str(rt.alloc(), "0100041c80000118000000000000000100000001")?;
-    for _ in 0..129 {
-        many.push_str("0000270f00000008")?;
-    }
-    let is_printed = prints(rt.alloc(), many.as_str(), "fault 5012\n", 1)?;
-    assert!(rt; is_printed);
-    Ok(())
-}
-
-#[test]
-fn a_stream_may_be_cut_anywhere_and_may_fail(rt: HostRuntime) -> Result<(), Fail> {
-    let alloc = rt.alloc();
-    for (rest, end, error, status, sizes) in [
-        ("", "", None, 0, [1, 7, 41, 112, 4095]),
-        (
-            "01",
-            "read fault\n",
-            Some(ErrorKind::BrokenPipe),
-            3,
-            [1, 7, 41, 112, 4095],
-        ),
-    ] {
-        let input = format!(in alloc; "{DWR}\n{DWR}{rest}")?;
-        let wanted = format!(in alloc; "{DWR_TEXT}{DWR_TEXT}{end}")?;
-        for size in sizes {
-            let reader = Pieces {
-                octets: input.as_bytes(),
-                size,
-                error,
-            };
-            let is_printed = prints_from(alloc, reader, wanted.as_str(), status)?;
+    for size in [1, 7, 41, 112, 4095] {
+        for error in [None, Some(ErrorKind::BrokenPipe)] {
+            let is_printed = is_cut(rt.alloc(), size, error)?;
             assert!(rt; is_printed, "in pieces of {size}");
         }
     }

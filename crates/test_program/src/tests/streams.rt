@@ -95,3 +95,31 @@ pub(crate) fn prints(alloc: Global, input: &str, wanted: &str, code: u8) -> Resu
     let (status, text) = read(alloc, input)?;
     Ok(text.as_str() == wanted && status == code)
 }
+
+/// A text with a `*` for so many of a part.
+pub(crate) fn filled(alloc: Global, text: &str, part: &str, count: usize) -> Result<String, Fail> {
+    let mut all = String::new(alloc);
+    for (place, piece) in text.split('*').enumerate() {
+        if place > 0 {
+            for _ in 0..count {
+                all.push_str(part)?;
+            }
+        }
+        all.push_str(piece)?;
+    }
+    Ok(all)
+}
+
+/// The same of texts with a `*` for a part of each.
+pub(crate) fn prints_filled(
+    alloc: Global,
+    input: &str,
+    part: &str,
+    wanted: &str,
+    lines: &str,
+    code: u8,
+) -> Result<bool, Fail> {
+    let input = filled(alloc, input, part, 1)?;
+    let wanted = filled(alloc, wanted, lines, 1)?;
+    prints(alloc, input.as_str(), wanted.as_str(), code)
+}

@@ -72,36 +72,39 @@ const NO_HEADER: &str = "  Wait CCA-I - Wait\n";
 
 const UNKNOWN: &str = "  State  Event  Action  Next\n  Wait   Start  -       Wait\n";
 
+/// Tables, events, what is printed of the walk, and how it ends.
+const WALKS: [(&str, &str, &str, Status); 9] = [
+    (TABLE, EVENTS, PRINTED, Status::Done),
+    // A deed's arguments go up to the last that isn't 0.
+    (
+        TABLE,
+        "Tx 0=7 2=9 3=0\n",
+        "Tx Wait Wait row -\n  Unlisted 7 0 9\n",
+        Status::Done,
+    ),
+    (NO_HEADER, "", "line 1 fault 1\n", Status::Refused),
+    (UNKNOWN, "", "unbound Start\n", Status::Refused),
+    (
+        TABLE,
+        "CCA-I 12=2001\nCCA-U\n",
+        "bad line 2\n",
+        Status::Refused,
+    ),
+    (TABLE, "CCA-I 16=1\n", "bad line 1\n", Status::Refused),
+    (TABLE, "CCA-I 12=1 12=1\n", "bad line 1\n", Status::Refused),
+    (TABLE, "CCA-I 12\n", "bad line 1\n", Status::Refused),
+    (
+        TABLE,
+        "\n  a log's line is skipped\nTx 3=x\n",
+        "bad line 3\n",
+        Status::Refused,
+    ),
+];
+
 #[test]
 fn each_step_and_its_deeds_are_printed_or_the_first_refusal(rt: HostRuntime) -> Result<(), Fail> {
     let book = client_book(rt.alloc())?;
-    for (table, events, printed, status) in [
-        (TABLE, EVENTS, PRINTED, Status::Done),
-        // A deed's arguments go up to the last that isn't 0.
-        (
-            TABLE,
-            "Tx 0=7 2=9 3=0\n",
-            "Tx Wait Wait row -\n  Unlisted 7 0 9\n",
-            Status::Done,
-        ),
-        (NO_HEADER, "", "line 1 fault 1\n", Status::Refused),
-        (UNKNOWN, "", "unbound Start\n", Status::Refused),
-        (
-            TABLE,
-            "CCA-I 12=2001\nCCA-U\n",
-            "bad line 2\n",
-            Status::Refused,
-        ),
-        (TABLE, "CCA-I 16=1\n", "bad line 1\n", Status::Refused),
-        (TABLE, "CCA-I 12=1 12=1\n", "bad line 1\n", Status::Refused),
-        (TABLE, "CCA-I 12\n", "bad line 1\n", Status::Refused),
-        (
-            TABLE,
-            "\n  a log's line is skipped\nTx 3=x\n",
-            "bad line 3\n",
-            Status::Refused,
-        ),
-    ] {
+    for (table, events, printed, status) in WALKS {
         let is_printed = walks(rt.alloc(), &book, table, events, printed, status);
         assert!(rt; is_printed, "of {events}");
     }
