@@ -146,19 +146,25 @@ dwr host realm 0000270f00000010000001bb5f000007
 dwr host realm 000001bb80000014000028af0000000001000000
 ";
 
+const WRITTEN: &[&str] = &[ORDERS, ERROR_ANSWERS, UNKNOWN, GROUPS, FIRST_COUNTS];
+
+const KEPT: &[&str] = &[ORDERS_KEPT, NO_ERROR_ANSWERS, UNKNOWN_KEPT];
+
+const PRINTED: &[(&str, &str)] = &[
+    (CCR, CCR_LINES),
+    (CCA, CCA_LINES),
+    (ERROR_ANSWER, ERROR_ANSWER_LINES),
+];
+
 #[test]
 fn messages_are_written_in_their_order(rt: HostRuntime) -> Result<(), Fail> {
-    for rows in [ORDERS, ERROR_ANSWERS, UNKNOWN, GROUPS, FIRST_COUNTS] {
+    for rows in WRITTEN {
         written(&rt, rt.alloc(), rows)?;
     }
-    for rows in [ORDERS_KEPT, NO_ERROR_ANSWERS, UNKNOWN_KEPT] {
+    for rows in KEPT {
         kept(&rt, rt.alloc(), rows)?;
     }
-    for (octets, lines) in [
-        (CCR, CCR_LINES),
-        (CCA, CCA_LINES),
-        (ERROR_ANSWER, ERROR_ANSWER_LINES),
-    ] {
+    for (octets, lines) in PRINTED {
         let is_printed = prints_filled(rt.alloc(), "*", octets, lines, octets, 0)?;
         assert!(rt; is_printed, "of {octets}");
     }

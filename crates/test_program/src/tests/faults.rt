@@ -247,7 +247,7 @@ dwr host realm 000000014000000cf48fbfbf
 ";
 
 /// Rows with a `*` for so many of these octets: an AVP has up to 255 or 4,032 of them, a list up to 128 AVPs.
-const MANY: [(&str, &str, usize); 6] = [
+const MANY: &[(&str, &str, usize)] = &[
     (
         "raa 0000010740000108* success host realm | 5004 0000010740000108*",
         "73",
@@ -270,7 +270,7 @@ const MANY: [(&str, &str, usize); 6] = [
 ];
 
 /// The same, of messages that are kept.
-const MANY_KEPT: [(&str, &str, usize); 4] = [
+const MANY_KEPT: &[(&str, &str, usize)] = &[
     ("raa 0000010740000107*00 success host realm", "73", 255),
     ("dwr host realm *", UNKNOWN, 126),
     (
@@ -286,7 +286,7 @@ const MANY_KEPT: [(&str, &str, usize); 4] = [
 const UNKNOWN: &str = "0000270f00000008";
 
 /// Headers of other versions.
-const OTHER_VERSIONS: [[u8; 20]; 4] = [
+const OTHER_VERSIONS: &[[u8; 20]] = &[
     [
         2, 0, 0, 20, 0x80, 0, 1, 24, 0, 0, 0, 0, 0, 0, 0, 1, 0, 0, 0, 1,
     ],
@@ -308,50 +308,54 @@ fn is_other_version(alloc: Global, octets: &[u8]) -> Result<bool, Fail> {
     Ok(report.text() == b"fault 5011\n".as_slice())
 }
 
+const REFUSED: &[&str] = &[
+    MISSING,
+    ACTIONS,
+    REQUEST_TYPES,
+    IDENTITIES,
+    ADDRESSES,
+    SIZES,
+    BROKEN,
+    UNSUPPORTED,
+    LEVELS,
+    HEADERS,
+    SESSION_IDS,
+    TEXTS,
+];
+
+const KEPT: &[&str] = &[
+    ACTIONS_KEPT,
+    REQUEST_TYPES_KEPT,
+    ADDRESSES_KEPT,
+    LEVELS_KEPT,
+    EMPTY_KEPT,
+    TEXTS_KEPT,
+];
+
 #[test]
 fn faults_are_named_with_the_failed_avp(rt: HostRuntime) -> Result<(), Fail> {
-    for rows in [
-        MISSING,
-        ACTIONS,
-        REQUEST_TYPES,
-        IDENTITIES,
-        ADDRESSES,
-        SIZES,
-        BROKEN,
-        UNSUPPORTED,
-        LEVELS,
-        HEADERS,
-        SESSION_IDS,
-        TEXTS,
-    ] {
+    for rows in REFUSED {
         refused(&rt, rt.alloc(), rows)?;
     }
-    for rows in [
-        ACTIONS_KEPT,
-        REQUEST_TYPES_KEPT,
-        ADDRESSES_KEPT,
-        LEVELS_KEPT,
-        EMPTY_KEPT,
-        TEXTS_KEPT,
-    ] {
+    for rows in KEPT {
         kept(&rt, rt.alloc(), rows)?;
     }
     for (row, part, count) in MANY {
         refused(
             &rt,
             rt.alloc(),
-            filled(rt.alloc(), row, part, count)?.as_str(),
+            filled(rt.alloc(), row, part, *count)?.as_str(),
         )?;
     }
     for (row, part, count) in MANY_KEPT {
         kept(
             &rt,
             rt.alloc(),
-            filled(rt.alloc(), row, part, count)?.as_str(),
+            filled(rt.alloc(), row, part, *count)?.as_str(),
         )?;
     }
     for octets in OTHER_VERSIONS {
-        let is_other = is_other_version(rt.alloc(), &octets)?;
+        let is_other = is_other_version(rt.alloc(), octets)?;
         assert!(rt; is_other, "of another version");
     }
     Ok(())

@@ -47,7 +47,7 @@ octets 010000448000011800000000ffffffff00000000\
 ";
 
 /// Texts, what is printed of them, and the status. A `*` stands for the DWR and for its lines.
-const TEXTS: [(&str, &str, u8); 28] = [
+const TEXTS: &[(&str, &str, u8)] = &[
     ("*", "*", 0),
     (DWR_OTHER_BITS, "*", 0),
     (DWR_UPPER, "*", 0),
@@ -140,7 +140,7 @@ fn is_cut(alloc: Global, size: usize, error: Option<ErrorKind>) -> Result<bool, 
 #[test]
 fn messages_and_faults_are_printed(rt: HostRuntime) -> Result<(), Fail> {
     for (input, wanted, status) in TEXTS {
-        let is_printed = prints_filled(rt.alloc(), input, DWR, wanted, DWR_TEXT, status)?;
+        let is_printed = prints_filled(rt.alloc(), input, DWR, wanted, DWR_TEXT, *status)?;
         assert!(rt; is_printed, "of {input}");
     }
     for count in 1..56 {

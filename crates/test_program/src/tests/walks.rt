@@ -73,7 +73,7 @@ const NO_HEADER: &str = "  Wait CCA-I - Wait\n";
 const UNKNOWN: &str = "  State  Event  Action  Next\n  Wait   Start  -       Wait\n";
 
 /// Tables, events, what is printed of the walk, and how it ends.
-const WALKS: [(&str, &str, &str, Status); 9] = [
+const WALKS: &[(&str, &str, &str, Status)] = &[
     (TABLE, EVENTS, PRINTED, Status::Done),
     // A deed's arguments go up to the last that isn't 0.
     (
@@ -105,7 +105,7 @@ const WALKS: [(&str, &str, &str, Status); 9] = [
 fn each_step_and_its_deeds_are_printed_or_the_first_refusal(rt: HostRuntime) -> Result<(), Fail> {
     let book = client_book(rt.alloc())?;
     for (table, events, printed, status) in WALKS {
-        let is_printed = walks(rt.alloc(), &book, table, events, printed, status);
+        let is_printed = walks(rt.alloc(), &book, table, events, printed, *status);
         assert!(rt; is_printed, "of {events}");
     }
     Ok(())
