@@ -1,3 +1,2 @@
 pub mod Emits
-pub mod BookLemmas
 pub mod HighLemmas

@@ -7,7 +7,7 @@ use Rattle.tab_law.specs.declared.scene.Scene.{Scene}
 use Rattle.tab_law.specs.declared.scene.Deed.{Deed}
 use Rattle.tab_law.specs.declared.law.Change.{Change}
 use Rattle.tab_law.specs.declared.law.Change.TheVariants.{Set, Pick, Emit}
-use Rattle.tab_law.specs.declared.limits.TheConstants.{PLACES, EMIT_LIMIT}
+use Rattle.tab_law.specs.declared.limits.TheConstants.{PLACES, MAX_EMITS}
 
 -- whether a change sets or picks that register
 abbrev pub is_change_of : ℕ → Change → Bool
@@ -44,7 +44,7 @@ deed_of scene new (Emit code terms) = Some (record { code = code; a = map (term_
 
 -- the deeds that a law emits: its first four, in order
 abbrev pub emitted : List Change → Scene → List ℕ → List Deed
-emitted law scene new = take EMIT_LIMIT (filter_map (deed_of scene new) law)
+emitted law scene new = take MAX_EMITS (filter_map (deed_of scene new) law)
 
 -- a law permits an action to leave these registers and these deeds
 pub record Permits (law : List Change) (scene : Scene) (new : List ℕ) (deeds : List Deed) : Type 0 where

@@ -1,15 +1,15 @@
-use Rattle.std.specs.Prelude.{◌≤◌, ℕ, Bool, false, List, length, IsSomeAnd, AllPairs, ◌≢◌}
+use Rattle.std.specs.Prelude.{◌≤◌, ℕ, Bool, false, List, length, IsSomeAnd}
 use Rattle.std.specs.List.{slice_get}
 use Rattle.std.specs.Option.{option_map_or}
 use Rattle.tab_law.specs.Guards.{says_yes}
-use Rattle.tab_law.specs.Named.{entry_of}
+use Rattle.base_list.specs.Named.{entry_of, HasOwnNames}
 use Rattle.tab_law.specs.Acts.{Permits, IsHigh}
-use Rattle.tab_law.specs.declared.limits.TheConstants.{KIND_LIMIT, GUARD_LIMIT, ACT_LIMIT}
+use Rattle.tab_law.specs.declared.limits.TheConstants.{MAX_KINDS, MAX_GUARDS, MAX_ACTIONS}
 use Rattle.tab_law.specs.declared.scene.Scene.{Scene}
 use Rattle.tab_law.specs.declared.scene.Deed.{Deed}
 use Rattle.tab_law.specs.declared.law.Test.{Test}
 use Rattle.tab_law.specs.declared.law.Change.{Change}
-use Rattle.tab_law.specs.declared.named.Named.{Named}
+use Rattle.base_list.specs.declared.named.Named.{Named}
 
 -- the laws of a book: kinds of events, guards and actions, each under its name, in order of adding
 pub record Laws : Type 0 where
@@ -17,18 +17,14 @@ pub record Laws : Type 0 where
   pub guards : List (Named (List Test))
   pub acts : List (Named (List Change))
 
--- no two of a list have one name
-abbrev pub HasOwnNames : {T : Type 0} → List (Named T) → Type 0
-HasOwnNames entries = AllPairs (λ one other. one.name ≢ other.name) entries
-
 -- a book's names differ, and it is within the limits
 pub record IsBook (laws : Laws) : Type 0 where
   pub kinds_named : HasOwnNames laws.kinds
   pub guards_named : HasOwnNames laws.guards
   pub acts_named : HasOwnNames laws.acts
-  pub few_kinds : length laws.kinds ≤ KIND_LIMIT
-  pub few_guards : length laws.guards ≤ GUARD_LIMIT
-  pub few_acts : length laws.acts ≤ ACT_LIMIT
+  pub few_kinds : length laws.kinds ≤ MAX_KINDS
+  pub few_guards : length laws.guards ≤ MAX_GUARDS
+  pub few_acts : length laws.acts ≤ MAX_ACTIONS
 
 -- what the guard at a place answers by its law
 abbrev pub guard_answer : Laws → Scene → ℕ → Bool

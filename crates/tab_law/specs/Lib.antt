@@ -2,5 +2,4 @@ pub mod Scenes
 pub mod Values
 pub mod Guards
 pub mod Acts
-pub mod Named
 pub mod Books

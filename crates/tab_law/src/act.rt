@@ -5,7 +5,7 @@ ghost use Rattle.tab_law.specs.Acts.{is_change_of, last_of, Allows, IsAtHighest,
 
 use crate::deeds::Deeds;
 use crate::law::{ActLaw, Change, Term};
-use crate::limits::{EMIT_LIMIT, PLACES};
+use crate::limits::{MAX_EMITS, PLACES};
 use crate::scene::{Deed, Scene};
 use crate::value::term;
 
@@ -103,7 +103,7 @@ fn deeds_of(law: &ActLaw, scene: &Scene, new: &[u64; PLACES]) -> Deeds
     let mut deeds = Deeds::new();
     for change in law.changes() {
         if let Some(next) = deed(scene, new, change) {
-            if deeds.len() < EMIT_LIMIT {
+            if deeds.len() < MAX_EMITS {
                 deeds.push(next);
             }
         }
@@ -128,7 +128,7 @@ pub fn permits(law: &ActLaw, scene: &Scene, regs: &[u64; PLACES], deeds: &Deeds)
 pub fn high(law: &ActLaw, scene: &Scene) -> Acted
     ensures permitted { Permits law.now scene.now result.regs result.deeds }
     ensures high { IsHigh law.now scene.now result.regs result.deeds }
-    ensures few { length result.deeds ≤ EMIT_LIMIT }
+    ensures few { length result.deeds ≤ MAX_EMITS }
 {
     let regs = highest_regs(law, scene);
     let deeds = deeds_of(law, scene, &regs);

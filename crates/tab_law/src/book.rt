@@ -1,9 +1,10 @@
-ghost use Rattle.std.specs.Prelude.{◌≡◌, ◌++◌, ◌∷◌, [], None, OnOk, OnErr, IfErr, unwrap_or};
-ghost use Rattle.tab_law.specs.Named.{refusal};
+ghost use Rattle.std.specs.Prelude.{◌≡◌, ◌++◌, ◌∷◌, [], None, OnOk, OnErr, IfErr};
+ghost use Rattle.base_list.specs.Adding.{error_of};
+ghost use Rattle.base_list.specs.Named.{refusal};
 
 use crate::law::{ActLaw, GuardLaw};
-use crate::limits::{ACT_LIMIT, GUARD_LIMIT, KIND_LIMIT};
-use crate::named::{AddFault, NamedList, Refused};
+use crate::limits::{MAX_ACTIONS, MAX_GUARDS, MAX_KINDS};
+use base_list::{AddError, NamedList, Refused};
 use std::alloc::Global;
 use std::marker::Model;
 
@@ -71,37 +72,37 @@ impl LawBook {
     }
 
     /// Adds a kind of events.
-    pub fn add_kind(&mut self, name: &[u8]) -> Result<(), AddFault>
+    pub fn add_kind(&mut self, name: &[u8]) -> Result<(), AddError>
         ensures ok { OnOk result (self.new ≡ record self.old { kinds = self.old.kinds ++ record { name = name.now; value = tt } ∷ [] }) }
-        ensures free { OnOk result (refusal KIND_LIMIT name.now self.old.kinds ≡ None) }
-        ensures fault { IfErr result (λ f. f ≡ unwrap_or (refusal KIND_LIMIT name.now self.old.kinds) AddFault.NoMemory) }
+        ensures free { OnOk result (refusal MAX_KINDS name.now self.old.kinds ≡ None) }
+        ensures fault { IfErr result (λ e. e ≡ error_of (refusal MAX_KINDS name.now self.old.kinds)) }
         ensures err { OnErr result (self.new ≡ self.old) }
     {
-        match self.kinds.add(KIND_LIMIT, name, ()) {
+        match self.kinds.add(MAX_KINDS, name, ()) {
             Ok(()) => Ok(()),
-            Err(refused) => Err(refused.fault),
+            Err(refused) => Err(refused.error),
         }
     }
 
     /// Adds a guard's law, or hands it back.
     pub fn add_guard(&mut self, name: &[u8], law: GuardLaw) -> Result<(), Refused<GuardLaw>>
         ensures ok { OnOk result (self.new ≡ record self.old { guards = self.old.guards ++ record { name = name.now; value = law } ∷ [] }) }
-        ensures free { OnOk result (refusal GUARD_LIMIT name.now self.old.guards ≡ None) }
-        ensures fault { IfErr result (λ r. r.fault ≡ unwrap_or (refusal GUARD_LIMIT name.now self.old.guards) AddFault.NoMemory) }
+        ensures free { OnOk result (refusal MAX_GUARDS name.now self.old.guards ≡ None) }
+        ensures fault { IfErr result (λ r. r.error ≡ error_of (refusal MAX_GUARDS name.now self.old.guards)) }
         ensures back { IfErr result (λ r. r.back ≡ law) }
         ensures err { OnErr result (self.new ≡ self.old) }
     {
-        self.guards.add(GUARD_LIMIT, name, law)
+        self.guards.add(MAX_GUARDS, name, law)
     }
 
     /// Adds an action's law, or hands it back.
     pub fn add_act(&mut self, name: &[u8], law: ActLaw) -> Result<(), Refused<ActLaw>>
         ensures ok { OnOk result (self.new ≡ record self.old { acts = self.old.acts ++ record { name = name.now; value = law } ∷ [] }) }
-        ensures free { OnOk result (refusal ACT_LIMIT name.now self.old.acts ≡ None) }
-        ensures fault { IfErr result (λ r. r.fault ≡ unwrap_or (refusal ACT_LIMIT name.now self.old.acts) AddFault.NoMemory) }
+        ensures free { OnOk result (refusal MAX_ACTIONS name.now self.old.acts ≡ None) }
+        ensures fault { IfErr result (λ r. r.error ≡ error_of (refusal MAX_ACTIONS name.now self.old.acts)) }
         ensures back { IfErr result (λ r. r.back ≡ law) }
         ensures err { OnErr result (self.new ≡ self.old) }
     {
-        self.acts.add(ACT_LIMIT, name, law)
+        self.acts.add(MAX_ACTIONS, name, law)
     }
 }

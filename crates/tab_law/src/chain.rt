@@ -1,24 +1,24 @@
 ghost use Rattle.std.specs.Prelude.{◌≡◌, ◌<◌, ◌≤◌, ◌++◌, ◌∷◌, [], length, ◌==◌};
 
-use crate::limits::{CHAIN_ROOM, PLACES};
+use crate::limits::{MAX_ROW_ACTIONS, PLACES};
 use std::marker::Model;
 
 /// The registers after each action of a row, in order, in room of their own.
 #[derive(Drop)]
 pub struct Chain {
-    room: [[u64; PLACES]; CHAIN_ROOM],
+    room: [[u64; PLACES]; MAX_ROW_ACTIONS],
     count: usize,
 }
 
 impl Model for Chain {
     ghost use Rattle.std.specs.Prelude.{List, ℕ, take, ◌≤◌, ◌≡◌, length};
-    ghost use Rattle.tab_law.specs.declared.limits.TheConstants.{CHAIN_ROOM};
+    ghost use Rattle.tab_law.specs.declared.limits.TheConstants.{MAX_ROW_ACTIONS};
 
     ghost Value = { List (List ℕ) };
 
     ghost view = { λ c. take c.count c.room };
 
-    ghost invariant = { λ c. (c.count ≤ CHAIN_ROOM) × (length c.room ≡ CHAIN_ROOM) };
+    ghost invariant = { λ c. (c.count ≤ MAX_ROW_ACTIONS) × (length c.room ≡ MAX_ROW_ACTIONS) };
 }
 
 impl Chain {
@@ -26,14 +26,14 @@ impl Chain {
         ensures { result ≡ [] }
     {
         Chain {
-            room: [[0; PLACES]; CHAIN_ROOM],
+            room: [[0; PLACES]; MAX_ROW_ACTIONS],
             count: 0,
         }
     }
 
     pub fn len(&self) -> usize
         ensures value { result ≡ length self.now }
-        ensures within { length self.now ≤ CHAIN_ROOM }
+        ensures within { length self.now ≤ MAX_ROW_ACTIONS }
     {
         self.count
     }
@@ -46,7 +46,7 @@ impl Chain {
 
     /// Adds a member at the end.
     pub fn push(&mut self, regs: [u64; PLACES])
-        requires { length self.old < CHAIN_ROOM }
+        requires { length self.old < MAX_ROW_ACTIONS }
         ensures { self.new ≡ self.old ++ regs ∷ [] }
     {
         self.room[self.count] = regs;

@@ -1,6 +1,6 @@
 ghost use Rattle.std.specs.Prelude.{◌≡◌, ◌+◌, ◌<◌, ◌≤◌, ◌++◌, ◌∷◌, [], length, ◌==◌};
 
-use crate::limits::{DEED_ROOM, PLACES};
+use crate::limits::{MAX_DEEDS, PLACES};
 use crate::scene::Deed;
 use std::marker::Model;
 
@@ -8,20 +8,20 @@ use std::marker::Model;
 /// kilobytes of it, so keep it out of deep chains of calls.
 #[derive(Drop)]
 pub struct Deeds {
-    room: [Deed; DEED_ROOM],
+    room: [Deed; MAX_DEEDS],
     count: usize,
 }
 
 impl Model for Deeds {
     ghost use Rattle.std.specs.Prelude.{List, take, ◌≤◌, ◌≡◌, length};
-    ghost use Rattle.tab_law.specs.declared.limits.TheConstants.{DEED_ROOM};
+    ghost use Rattle.tab_law.specs.declared.limits.TheConstants.{MAX_DEEDS};
     ghost use Rattle.tab_law.specs.declared.scene.Deed.{Deed};
 
     ghost Value = { List Deed };
 
     ghost view = { λ d. take d.count d.room };
 
-    ghost invariant = { λ d. (d.count ≤ DEED_ROOM) × (length d.room ≡ DEED_ROOM) };
+    ghost invariant = { λ d. (d.count ≤ MAX_DEEDS) × (length d.room ≡ MAX_DEEDS) };
 }
 
 impl Deeds {
@@ -33,14 +33,14 @@ impl Deeds {
             a: [0; PLACES],
         };
         Deeds {
-            room: [none; DEED_ROOM],
+            room: [none; MAX_DEEDS],
             count: 0,
         }
     }
 
     pub fn len(&self) -> usize
         ensures value { result ≡ length self.now }
-        ensures within { length self.now ≤ DEED_ROOM }
+        ensures within { length self.now ≤ MAX_DEEDS }
     {
         self.count
     }
@@ -53,7 +53,7 @@ impl Deeds {
 
     /// Adds a deed at the end.
     pub fn push(&mut self, deed: Deed)
-        requires { length self.old < DEED_ROOM }
+        requires { length self.old < MAX_DEEDS }
         ensures { self.new ≡ self.old ++ deed ∷ [] }
     {
         self.room[self.count] = deed;
@@ -62,7 +62,7 @@ impl Deeds {
 
     /// Adds deeds at the end.
     pub fn append(&mut self, more: &Deeds)
-        requires { length self.old + length more.now ≤ DEED_ROOM }
+        requires { length self.old + length more.now ≤ MAX_DEEDS }
         ensures { self.new ≡ self.old ++ more.now }
     {
         for deed in more.as_slice() {

@@ -1,7 +1,7 @@
 ghost use Rattle.std.specs.Prelude.{◌≡◌, ℕ, ◌≤◌, List, length, ◌==◌, ◌↔◌, IfOk, IsTrue};
 ghost use Rattle.std.specs.List.{list_any};
 
-use crate::limits::{NUMBER_LIMIT, PLACES, TEST_LIMIT};
+use crate::limits::{MAX_NUMBERS, MAX_TESTS, PLACES};
 use std::alloc::{AllocError, Global};
 use std::marker::Model;
 
@@ -51,7 +51,7 @@ pub enum Field {
     Fact(u8),
 }
 
-/// At most [`NUMBER_LIMIT`] numbers.
+/// At most [`MAX_NUMBERS`] numbers.
 #[derive(Debug, Drop)]
 pub struct Numbers {
     items: Vec<u64>,
@@ -59,18 +59,18 @@ pub struct Numbers {
 
 impl Model for Numbers {
     ghost use Rattle.std.specs.Prelude.{List, ℕ, ◌≤◌, length};
-    ghost use Rattle.tab_law.specs.declared.limits.TheConstants.{NUMBER_LIMIT};
+    ghost use Rattle.tab_law.specs.declared.limits.TheConstants.{MAX_NUMBERS};
 
     ghost Value = { List ℕ };
 
     ghost view = { λ n. n.items.items };
 
-    ghost invariant = { λ n. length n.items.items ≤ NUMBER_LIMIT };
+    ghost invariant = { λ n. length n.items.items ≤ MAX_NUMBERS };
 }
 
 impl Numbers {
     pub fn new(items: Vec<u64>) -> Numbers
-        requires { length items.items ≤ NUMBER_LIMIT }
+        requires { length items.items ≤ MAX_NUMBERS }
         ensures { result ≡ items.items }
     {
         Numbers { items }
@@ -91,7 +91,7 @@ impl Numbers {
 
     pub fn as_slice(&self) -> &[u64]
         ensures value { result.now ≡ self.now }
-        ensures few { length self.now ≤ NUMBER_LIMIT }
+        ensures few { length self.now ≤ MAX_NUMBERS }
     {
         self.items.as_slice()
     }
@@ -138,7 +138,7 @@ impl Test {
     }
 }
 
-/// When a guard says yes: where all its tests are met, of which it has at most [`TEST_LIMIT`].
+/// When a guard says yes: where all its tests are met, of which it has at most [`MAX_TESTS`].
 #[derive(Debug, Drop)]
 pub struct GuardLaw {
     tests: Vec<Test>,
@@ -146,19 +146,19 @@ pub struct GuardLaw {
 
 impl Model for GuardLaw {
     ghost use Rattle.std.specs.Prelude.{List, ◌≤◌, length};
-    ghost use Rattle.tab_law.specs.declared.limits.TheConstants.{TEST_LIMIT};
+    ghost use Rattle.tab_law.specs.declared.limits.TheConstants.{MAX_TESTS};
     ghost use Rattle.tab_law.specs.declared.law.Test.{Test};
 
     ghost Value = { List Test };
 
     ghost view = { λ law. law.tests.items };
 
-    ghost invariant = { λ law. length law.tests.items ≤ TEST_LIMIT };
+    ghost invariant = { λ law. length law.tests.items ≤ MAX_TESTS };
 }
 
 impl GuardLaw {
     pub fn new(tests: Vec<Test>) -> GuardLaw
-        requires { length tests.items ≤ TEST_LIMIT }
+        requires { length tests.items ≤ MAX_TESTS }
         ensures { result ≡ tests.items }
     {
         GuardLaw { tests }
@@ -176,7 +176,7 @@ impl GuardLaw {
 
     pub fn tests(&self) -> &[Test]
         ensures value { result.now ≡ self.now }
-        ensures few { length self.now ≤ TEST_LIMIT }
+        ensures few { length self.now ≤ MAX_TESTS }
     {
         self.tests.as_slice()
     }

@@ -1,19 +1,28 @@
 //! What guards and actions may answer: their laws, and the values that the laws speak of.
 //!
-//! A guard says yes or no on a [`scene::Scene`]; an action leaves registers and deeds there. A law
-//! fixes a guard's answer and says which answers of an action are permitted ([`guard`], [`act`]). A
-//! [`book::LawBook`] keeps laws under the names that a state table uses.
+//! A guard says yes or no on a [`Scene`]; an action leaves registers and deeds there. A law fixes a
+//! guard's answer ([`holds`]) and says which answers of an action are permitted ([`permits`],
+//! [`high`]). A [`LawBook`] keeps laws under the names that a state table uses.
 #![tactic(auto)]
 
-pub mod act;
-pub mod book;
-pub mod chain;
-pub mod deeds;
-pub mod guard;
-pub mod law;
-pub mod limits;
-pub mod named;
-pub mod scene;
-#[cfg(test)]
-mod tests;
+mod act;
+mod book;
+mod chain;
+mod deeds;
+mod guard;
+mod law;
+mod limits;
+mod scene;
 mod value;
+
+pub use act::{Acted, high, permits};
+pub use book::LawBook;
+pub use chain::Chain;
+pub use deeds::Deeds;
+pub use guard::holds;
+pub use law::{ActLaw, Atom, Change, Field, GuardLaw, Numbers, Term, Test};
+pub use limits::{
+    MAX_ACTIONS, MAX_DEEDS, MAX_EMITS, MAX_GUARDS, MAX_KINDS, MAX_NUMBERS, MAX_ROW_ACTIONS,
+    MAX_TESTS, PLACES,
+};
+pub use scene::{Deed, Scene};

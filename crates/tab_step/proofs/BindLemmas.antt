@@ -6,8 +6,8 @@ use Rattle.std.specs.Prelude.{nat_lt}
 use Rattle.std.specs.Str.{bytes_eq}
 use Rattle.std.proofs.lemmas.List.{take_more, get_or_default}
 use Rattle.std.proofs.lemmas.List.Elements.{All-from_recursion}
-use Rattle.tab_law.specs.Named.{place_of}
-use Rattle.tab_law.specs.declared.named.Named.{Named}
+use Rattle.base_list.specs.Named.{place_of}
+use Rattle.base_list.specs.declared.named.Named.{Named}
 use Rattle.tab_law.specs.Books.{Laws}
 use Rattle.tab_text.specs.Contents.{Contents}
 use Rattle.tab_text.specs.declared.row.Row.{Row}

@@ -9,12 +9,12 @@ use Rattle.std.proofs.lemmas.Option.{slice_get-get_or}
 use Rattle.std.proofs.lemmas.Slice.Eq.{bytes_eq-Decides}
 use Rattle.std.proofs.lemmas.List.Quantifiers.{position-Some}
 use Rattle.tab_law.specs.Acts.{Permits, IsHigh}
-use Rattle.tab_law.specs.Books.{Laws, HasOwnNames, guard_answer, named_answer, ActIsHigh, NamedIsHigh, NamedPermits}
-use Rattle.tab_law.specs.Named.{place_of, entry_of}
+use Rattle.tab_law.specs.Books.{Laws, guard_answer, named_answer, ActIsHigh, NamedIsHigh, NamedPermits}
+use Rattle.base_list.specs.Named.{place_of, entry_of, HasOwnNames}
 use Rattle.tab_law.specs.declared.scene.Scene.{Scene}
 use Rattle.tab_law.specs.declared.scene.Deed.{Deed}
-use Rattle.tab_law.specs.declared.named.Named.{Named}
-use Rattle.tab_law.proofs.BookLemmas.{entry_of-place}
+use Rattle.base_list.specs.declared.named.Named.{Named}
+use Rattle.base_list.proofs.NamedLemmas.{entry_of-place}
 use Rattle.tab_law.proofs.HighLemmas.{IsHigh-permits}
 use Rattle.tab_text.specs.Contents.{Contents}
 use Rattle.tab_text.specs.declared.row.Row.{Row}

@@ -1,14 +1,14 @@
 use Rattle.std.specs.Prelude.{◌≡◌, ℕ, List, [], ◌∷◌, ◌++◌, Option, Some, map, filter, is_none}
 use Rattle.std.specs.List.{AllZip, flat_map}
-use Rattle.tab_law.specs.Named.{place_of}
+use Rattle.base_list.specs.Named.{place_of}
 use Rattle.tab_law.specs.Books.{Laws}
-use Rattle.tab_law.specs.declared.named.Named.{Named}
+use Rattle.base_list.specs.declared.named.Named.{Named}
 use Rattle.tab_text.specs.Contents.{Contents}
 use Rattle.tab_text.specs.declared.row.Row.{Row}
 use Rattle.tab_step.specs.Moves.{name_at}
 use Rattle.tab_step.specs.declared.bound.RowPlaces.{RowPlaces}
-use Rattle.tab_step.specs.declared.bind.Unbound.{Unbound}
-use Rattle.tab_step.specs.declared.bind.Unbound.TheVariants.{Missing, NoMemory}
+use Rattle.tab_step.specs.declared.binding.Unbound.{Unbound}
+use Rattle.tab_step.specs.declared.binding.Unbound.TheVariants.{Missing, NoMemory}
 
 -- the names that aren't registered
 abbrev pub lacking : {T : Type 0} → List (Named T) → List (List ℕ) → List (List ℕ)

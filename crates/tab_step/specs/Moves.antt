@@ -2,6 +2,8 @@ use Rattle.std.specs.Prelude.{◌≡◌, ℕ, ◌==◌, ◌&&◌, Bool, false, L
 use Rattle.std.specs.List.{list_all, slice_get, enumerate_from}
 use Rattle.std.specs.Option.{option_map, option_map_or}
 use Rattle.std.specs.Str.{bytes_eq}
+use Rattle.base_codes.specs.DeedCodes.{number_of}
+use Rattle.base_codes.specs.declared.deed_code.DeedCode.TheVariants.{Unlisted}
 use Rattle.tab_law.specs.Books.{Laws, named_answer, NamedPermits}
 use Rattle.tab_law.specs.declared.scene.Scene.{Scene}
 use Rattle.tab_law.specs.declared.scene.Deed.{Deed}
@@ -54,9 +56,9 @@ Runs Answers facts (action ∷ actions) before (after ∷ chain) deeds =
 Runs Answers facts [] before (after ∷ chain) deeds = ⊥
 Runs Answers facts (action ∷ actions) before [] deeds = ⊥
 
--- the deed of an event that no row takes: code 1 with the event's facts
+-- the deed of an event that no row takes: Unlisted with the event's facts
 abbrev pub unlisted : List ℕ → Deed
-unlisted facts = record { code = 1; a = facts }
+unlisted facts = record { code = number_of Unlisted; a = facts }
 
 -- what an event leaves by the row that takes it: the row's Next, and what its actions answer
 pub record MovesAlong (Answers : List ℕ → Scene → List ℕ → List Deed → Type 0) (table : Contents) (s : MachineState) (e : Event) (row : Row) (after : MachineState) (chain : List (List ℕ)) (deeds : List Deed) : Type 0 where

@@ -1,25 +1,25 @@
 ghost use Rattle.std.specs.Prelude.{◌≡◌, ℕ, ◌≤◌, ◌<◌, ◌++◌, ◌∷◌, [], List, length};
 
 use std::marker::Model;
-use tab_law::limits::CHAIN_ROOM;
-use tab_text::table::Table;
+use tab_law::MAX_ROW_ACTIONS;
+use tab_text::Table;
 
 /// Places in a book, in order: those of a row's guards or actions.
 #[derive(Drop)]
 pub struct Places {
-    items: [u8; CHAIN_ROOM],
+    items: [u8; MAX_ROW_ACTIONS],
     count: usize,
 }
 
 impl Model for Places {
     ghost use Rattle.std.specs.Prelude.{List, ℕ, take, ◌≤◌, ◌≡◌, length};
-    ghost use Rattle.tab_law.specs.declared.limits.TheConstants.{CHAIN_ROOM};
+    ghost use Rattle.tab_law.specs.declared.limits.TheConstants.{MAX_ROW_ACTIONS};
 
     ghost Value = { List ℕ };
 
     ghost view = { λ p. take p.count p.items };
 
-    ghost invariant = { λ p. (p.count ≤ CHAIN_ROOM) × (length p.items ≡ CHAIN_ROOM) };
+    ghost invariant = { λ p. (p.count ≤ MAX_ROW_ACTIONS) × (length p.items ≡ MAX_ROW_ACTIONS) };
 }
 
 impl Places {
@@ -27,13 +27,13 @@ impl Places {
         ensures { result ≡ [] }
     {
         Places {
-            items: [0; CHAIN_ROOM],
+            items: [0; MAX_ROW_ACTIONS],
             count: 0,
         }
     }
 
     pub(crate) fn push(&mut self, place: u8)
-        requires { length self.old < CHAIN_ROOM }
+        requires { length self.old < MAX_ROW_ACTIONS }
         ensures { self.new ≡ self.old ++ place ∷ [] }
     {
         self.items[self.count] = place;
@@ -42,7 +42,7 @@ impl Places {
 
     pub fn as_slice(&self) -> &[u8]
         ensures value { result.now ≡ self.now }
-        ensures few { length self.now ≤ CHAIN_ROOM }
+        ensures few { length self.now ≤ MAX_ROW_ACTIONS }
     {
         &self.items[..self.count]
     }

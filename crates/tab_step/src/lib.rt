@@ -4,10 +4,14 @@
 //! event, has its actions done in order, and says what is left. [`run`] steps over a list of events.
 #![tactic(auto)]
 
-pub mod bind;
-pub mod bound;
-pub mod machine;
-pub mod run;
-pub mod step;
-#[cfg(test)]
-mod tests;
+mod binding;
+mod bound;
+mod machine;
+mod running;
+mod stepping;
+
+pub use binding::{Unbound, bind};
+pub use bound::{Bound, Places, RowPlaces};
+pub use machine::{Event, MachineState, Stepped};
+pub use running::run;
+pub use stepping::step;

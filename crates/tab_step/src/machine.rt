@@ -1,9 +1,4 @@
-use tab_law::chain::Chain;
-use tab_law::deeds::Deeds;
-use tab_law::limits::PLACES;
-
-/// The code of the deed Unlisted, which an event leaves that no row takes.
-pub const UNLISTED: u16 = 1;
+use tab_law::{Chain, Deeds, PLACES};
 
 /// Where a machine stands: the number of its state in its table, and its registers.
 #[derive(Clone, Copy, PartialEq, Eq, Debug)]

@@ -9,7 +9,7 @@ use Rattle.tab_text.specs.Faults.{has_room, fault_behind, first_fault}
 use Rattle.tab_text.specs.Reading.{lines_left, named}
 use Rattle.tab_text.specs.Rooms.{with_row}
 use Rattle.tab_text.specs.Reader.{IsAt, IsOpened, TakesRow}
-use Rattle.tab_text.specs.declared.limit.TheConstants.{ROW_LIMIT, GUARDS_IN_ROW, ACTIONS_IN_ROW}
+use Rattle.tab_text.specs.declared.limits.TheConstants.{MAX_ROWS, MAX_ROW_GUARDS, MAX_ROW_ACTIONS}
 use Rattle.tab_text.specs.declared.fault.TextCode.TheVariants.{TooManyNames}
 use Rattle.tab_text.specs.declared.fault.TextFault.{TextFault}
 use Rattle.tab_text.specs.declared.reader.Reader.{Reader}
@@ -76,9 +76,9 @@ pub record IsFilled (text : List ℕ) (reader : Reader) (names : Names) (rows : 
   pub fault : fault_behind (header ∷ body) (lines_left reader.lines) ≡ None
   pub rows_are : rows ≡ map (numbered names) (rows_in (header ∷ body))
   pub count : length (rows_in (header ∷ body)) ≡ length body
-  pub few_rows : length body ≤ ROW_LIMIT
-  pub few_guards : All (λ (row : NamedRow). length row.guards ≤ GUARDS_IN_ROW) (rows_in (header ∷ body))
-  pub few_actions : All (λ (row : NamedRow). length row.actions ≤ ACTIONS_IN_ROW) (rows_in (header ∷ body))
+  pub few_rows : length body ≤ MAX_ROWS
+  pub few_guards : All (λ (row : NamedRow). length row.guards ≤ MAX_ROW_GUARDS) (rows_in (header ∷ body))
+  pub few_actions : All (λ (row : NamedRow). length row.actions ≤ MAX_ROW_ACTIONS) (rows_in (header ∷ body))
 
 no-rows : (header : Line) → rows_in (header ∷ []) ≡ []
 unfolding rows_in
@@ -109,6 +109,6 @@ filled-more text old new names header body row line rows after filled takes push
   rows_are = rw (pushed, takes.taken.rows, map_push (numbered names) (rows_in (header ∷ body)) (named row), filled.rows_are) refl;
   count = rw (takes.taken.rows, length_push (rows_in (header ∷ body)) (named row), length_push body line, filled.count) refl;
   few_rows = rw (length_push body line) (omega (arith, takes.taken.room));
-  few_guards = rw takes.taken.rows (All-push (λ (r : NamedRow). length r.guards ≤ GUARDS_IN_ROW) (rows_in (header ∷ body)) (named row) filled.few_guards takes.taken.few_guards);
-  few_actions = rw takes.taken.rows (All-push (λ (r : NamedRow). length r.actions ≤ ACTIONS_IN_ROW) (rows_in (header ∷ body)) (named row) filled.few_actions takes.taken.few_actions);
+  few_guards = rw takes.taken.rows (All-push (λ (r : NamedRow). length r.guards ≤ MAX_ROW_GUARDS) (rows_in (header ∷ body)) (named row) filled.few_guards takes.taken.few_guards);
+  few_actions = rw takes.taken.rows (All-push (λ (r : NamedRow). length r.actions ≤ MAX_ROW_ACTIONS) (rows_in (header ∷ body)) (named row) filled.few_actions takes.taken.few_actions);
 }

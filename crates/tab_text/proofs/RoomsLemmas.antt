@@ -6,14 +6,14 @@ use Rattle.tab_text.specs.declared.row.Row.{Row}
 use Rattle.tab_text.specs.Faults.{has_room}
 use Rattle.tab_text.specs.Cells.{NamedRow}
 use Rattle.tab_text.specs.Rooms.{with_row, with_name, with_names}
-use Rattle.tab_text.specs.declared.limit.TheConstants.{STATE_LIMIT, KIND_LIMIT, GUARD_LIMIT, ACTION_LIMIT}
+use Rattle.tab_text.specs.declared.limits.TheConstants.{MAX_STATES, MAX_KINDS, MAX_GUARDS, MAX_ACTIONS}
 
 -- names that a table has room for
 pub record FitsTable (names : Names) : Type 0 where
-  pub states : length names.states ≤ STATE_LIMIT
-  pub kinds : length names.kinds ≤ KIND_LIMIT
-  pub guards : length names.guards ≤ GUARD_LIMIT
-  pub actions : length names.actions ≤ ACTION_LIMIT
+  pub states : length names.states ≤ MAX_STATES
+  pub kinds : length names.kinds ≤ MAX_KINDS
+  pub guards : length names.guards ≤ MAX_GUARDS
+  pub actions : length names.actions ≤ MAX_ACTIONS
 
 all-four : (a b c d : Bool) → (a && b && c && d) ≡ true → (a ≡ true) × (b ≡ true) × (c ≡ true) × (d ≡ true)
 all-four true true true true is = (refl, refl, refl, refl)
@@ -28,12 +28,12 @@ le-from m n is = grind (arith, nat_tests)
 pub fits-from : (names : Names) → has_room names ≡ true → FitsTable names
 unfolding has_room
 fits-from names is =
-    let all = all-four (leb (length names.states) STATE_LIMIT) (leb (length names.kinds) KIND_LIMIT) (leb (length names.guards) GUARD_LIMIT) (leb (length names.actions) ACTION_LIMIT) is in
+    let all = all-four (leb (length names.states) MAX_STATES) (leb (length names.kinds) MAX_KINDS) (leb (length names.guards) MAX_GUARDS) (leb (length names.actions) MAX_ACTIONS) is in
     record {
-      states = le-from (length names.states) STATE_LIMIT all.0;
-      kinds = le-from (length names.kinds) KIND_LIMIT all.1;
-      guards = le-from (length names.guards) GUARD_LIMIT all.2;
-      actions = le-from (length names.actions) ACTION_LIMIT all.3;
+      states = le-from (length names.states) MAX_STATES all.0;
+      kinds = le-from (length names.kinds) MAX_KINDS all.1;
+      guards = le-from (length names.guards) MAX_GUARDS all.2;
+      actions = le-from (length names.actions) MAX_ACTIONS all.3;
     }
 
 no-second : (a c d : Bool) → (a && false && c && d) ≡ false
@@ -46,20 +46,20 @@ no-third true false d = refl
 no-third false b d = refl
 
 -- one list without room is enough
-pub no-room-states : (names : Names) → leb (length names.states) STATE_LIMIT ≡ false → has_room names ≡ false
+pub no-room-states : (names : Names) → leb (length names.states) MAX_STATES ≡ false → has_room names ≡ false
 unfolding has_room
 no-room-states names full = rw full refl
 
-pub no-room-kinds : (names : Names) → leb (length names.kinds) KIND_LIMIT ≡ false → has_room names ≡ false
+pub no-room-kinds : (names : Names) → leb (length names.kinds) MAX_KINDS ≡ false → has_room names ≡ false
 unfolding has_room
-no-room-kinds names full = rw full (no-second (leb (length names.states) STATE_LIMIT) (leb (length names.guards) GUARD_LIMIT) (leb (length names.actions) ACTION_LIMIT))
+no-room-kinds names full = rw full (no-second (leb (length names.states) MAX_STATES) (leb (length names.guards) MAX_GUARDS) (leb (length names.actions) MAX_ACTIONS))
 
-pub no-room-guards : (names : Names) → leb (length names.guards) GUARD_LIMIT ≡ false → has_room names ≡ false
+pub no-room-guards : (names : Names) → leb (length names.guards) MAX_GUARDS ≡ false → has_room names ≡ false
 unfolding has_room
-no-room-guards names full = rw full (no-third (leb (length names.states) STATE_LIMIT) (leb (length names.kinds) KIND_LIMIT) (leb (length names.actions) ACTION_LIMIT))
+no-room-guards names full = rw full (no-third (leb (length names.states) MAX_STATES) (leb (length names.kinds) MAX_KINDS) (leb (length names.actions) MAX_ACTIONS))
 
 -- where the others have room, the actions decide
-pub room-actions : (names : Names) → leb (length names.states) STATE_LIMIT ≡ true → leb (length names.kinds) KIND_LIMIT ≡ true → leb (length names.guards) GUARD_LIMIT ≡ true → has_room names ≡ leb (length names.actions) ACTION_LIMIT
+pub room-actions : (names : Names) → leb (length names.states) MAX_STATES ≡ true → leb (length names.kinds) MAX_KINDS ≡ true → leb (length names.guards) MAX_GUARDS ≡ true → has_room names ≡ leb (length names.actions) MAX_ACTIONS
 unfolding has_room
 room-actions names states kinds guards = rw (states, kinds, guards) refl
 

@@ -1,5 +1,5 @@
 use Rattle.std.specs.Prelude.{ℕ, ◌<◌, ◌≤◌, List, length, All}
-use Rattle.tab_text.specs.declared.limit.TheConstants.{ROW_LIMIT, STATE_LIMIT, KIND_LIMIT, GUARD_LIMIT, ACTION_LIMIT, GUARDS_IN_ROW, ACTIONS_IN_ROW}
+use Rattle.tab_text.specs.declared.limits.TheConstants.{MAX_ROWS, MAX_STATES, MAX_KINDS, MAX_GUARDS, MAX_ACTIONS, MAX_ROW_GUARDS, MAX_ROW_ACTIONS}
 use Rattle.tab_text.specs.declared.row.Row.{Row}
 
 -- what a table holds: its names, each list in order of number, and its rows, which speak of names by number
@@ -17,16 +17,16 @@ pub record IsRowOf (table : Contents) (row : Row) : Type 0 where
   pub guards : All (λ guard. guard < length table.guards) row.guards
   pub actions : All (λ action. action < length table.actions) row.actions
   pub next : row.next < length table.states
-  pub few_guards : length row.guards ≤ GUARDS_IN_ROW
-  pub few_actions : length row.actions ≤ ACTIONS_IN_ROW
+  pub few_guards : length row.guards ≤ MAX_ROW_GUARDS
+  pub few_actions : length row.actions ≤ MAX_ROW_ACTIONS
 
 -- a table within its limits: 1 to 512 rows, 64 states, 128 kinds, 64 guards, 64 actions
 pub record IsTable (table : Contents) : Type 0 where
   pub some_row : 0 < length table.rows
   pub some_state : 0 < length table.states
-  pub few_rows : length table.rows ≤ ROW_LIMIT
-  pub few_states : length table.states ≤ STATE_LIMIT
-  pub few_kinds : length table.kinds ≤ KIND_LIMIT
-  pub few_guards : length table.guards ≤ GUARD_LIMIT
-  pub few_actions : length table.actions ≤ ACTION_LIMIT
+  pub few_rows : length table.rows ≤ MAX_ROWS
+  pub few_states : length table.states ≤ MAX_STATES
+  pub few_kinds : length table.kinds ≤ MAX_KINDS
+  pub few_guards : length table.guards ≤ MAX_GUARDS
+  pub few_actions : length table.actions ≤ MAX_ACTIONS
   pub each_row : All (IsRowOf table) table.rows

@@ -4,7 +4,7 @@ use Rattle.std.specs.List.{filter_map}
 use Rattle.tab_text.specs.Lines.{Line, lines, kept, is_plain, is_skipped, is_row_line}
 use Rattle.tab_text.specs.Cells.{Cells, NamedRow, is_header, columns_of, cells_of, groups, row_of}
 use Rattle.tab_text.specs.Rows.{Names, filled, names_of}
-use Rattle.tab_text.specs.declared.limit.TheConstants.{TEXT_LIMIT, ROW_LIMIT, STATE_LIMIT, KIND_LIMIT, GUARD_LIMIT, ACTION_LIMIT, GUARDS_IN_ROW, ACTIONS_IN_ROW}
+use Rattle.tab_text.specs.declared.limits.TheConstants.{MAX_TEXT, MAX_ROWS, MAX_STATES, MAX_KINDS, MAX_GUARDS, MAX_ACTIONS, MAX_ROW_GUARDS, MAX_ROW_ACTIONS}
 use Rattle.tab_text.specs.declared.fault.TextCode.{TextCode}
 use Rattle.tab_text.specs.declared.fault.TextCode.TheVariants.{NoHeader, BadByte, EmptyCell, BadName, TooManyRows, TooManyNames, TooManyInRow, TooLong}
 use Rattle.tab_text.specs.declared.fault.TextFault.{TextFault}
@@ -21,13 +21,13 @@ lacks_cell is_first cells =
 -- a row has over 4 guards or over 8 actions
 abbrev pub has_many : Option NamedRow → Bool
 has_many None = false
-has_many (Some row) = nat_lt GUARDS_IN_ROW (length row.guards) || nat_lt ACTIONS_IN_ROW (length row.actions)
+has_many (Some row) = nat_lt MAX_ROW_GUARDS (length row.guards) || nat_lt MAX_ROW_ACTIONS (length row.actions)
 
 -- names within the limits of a table
 unfoldable pub has_room : Names → Bool
 has_room names =
-    nat_le (length names.states) STATE_LIMIT && nat_le (length names.kinds) KIND_LIMIT && nat_le (length names.guards) GUARD_LIMIT
-    && nat_le (length names.actions) ACTION_LIMIT
+    nat_le (length names.states) MAX_STATES && nat_le (length names.kinds) MAX_KINDS && nat_le (length names.guards) MAX_GUARDS
+    && nat_le (length names.actions) MAX_ACTIONS
 
 -- the first code whose test holds
 abbrev pub first_code : List (Bool × TextCode) → Option TextCode
@@ -46,7 +46,7 @@ own_fault is_first cells = first_code (
 -- the first limit of a table that a row passes behind the rows before it
 unfoldable pub room_fault : List Cells → Cells → Option TextCode
 room_fault before cells = first_code (
-    (nat_le ROW_LIMIT (length before), TooManyRows)
+    (nat_le MAX_ROWS (length before), TooManyRows)
     ∷ (not (has_room (names_of (filled [] (filter_map row_of (before ++ cells ∷ []))))), TooManyNames)
     ∷ []
     )
@@ -81,4 +81,4 @@ fault_behind before (line ∷ rest) =
 -- the first fault of a text: its length, and then by line and by code
 unfoldable pub first_fault : List ℕ → Option TextFault
 first_fault text =
-    if nat_lt TEXT_LIMIT (length text) then Some (record { line = 0; code = TooLong }) else fault_behind [] (lines text)
+    if nat_lt MAX_TEXT (length text) then Some (record { line = 0; code = TooLong }) else fault_behind [] (lines text)

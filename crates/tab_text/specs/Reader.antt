@@ -4,7 +4,7 @@ use Rattle.tab_text.specs.Cells.{NamedRow, columns_of, cells_of, row_of}
 use Rattle.tab_text.specs.Rows.{rows_in, names_of}
 use Rattle.tab_text.specs.Faults.{fault_behind, first_fault, kept_fault, has_room}
 use Rattle.tab_text.specs.Reading.{lines_left, named}
-use Rattle.tab_text.specs.declared.limit.TheConstants.{ROW_LIMIT, GUARDS_IN_ROW, ACTIONS_IN_ROW}
+use Rattle.tab_text.specs.declared.limits.TheConstants.{MAX_ROWS, MAX_ROW_GUARDS, MAX_ROW_ACTIONS}
 use Rattle.tab_text.specs.declared.fault.TextCode.TheVariants.{TooManyNames}
 use Rattle.tab_text.specs.declared.fault.TextFault.{TextFault}
 use Rattle.tab_text.specs.declared.fault.ParseError.{ParseError}
@@ -34,9 +34,9 @@ pub record IsOpened (text : List ℕ) (header : Line) (reader : Reader) : Type 0
 pub record IsRead (header : Line) (body : List Line) (line : Line) (row : RowNames) : Type 0 where
   pub found : row_of (cells_of (columns_of header.octets) line) ≡ Some (named row)
   pub number : row.line ≡ line.number
-  pub room : length body < ROW_LIMIT
-  pub few_guards : length (named row).guards ≤ GUARDS_IN_ROW
-  pub few_actions : length (named row).actions ≤ ACTIONS_IN_ROW
+  pub room : length body < MAX_ROWS
+  pub few_guards : length (named row).guards ≤ MAX_ROW_GUARDS
+  pub few_actions : length (named row).actions ≤ MAX_ROW_ACTIONS
   -- whether there is room for its names is left open
   pub fault : kept_fault (header ∷ body) line ≡ (if has_room (names_of (rows_in (header ∷ body ++ line ∷ []))) then None else Some TooManyNames)
 
@@ -45,9 +45,9 @@ pub record TakesLine (header : Line) (body : List Line) (line : Line) (row : Row
   pub at : IsAt header (body ++ line ∷ []) reader
   pub rows : rows_in (header ∷ body ++ line ∷ []) ≡ rows_in (header ∷ body) ++ named row ∷ []
   pub number : row.line ≡ line.number
-  pub room : length body < ROW_LIMIT
-  pub few_guards : length (named row).guards ≤ GUARDS_IN_ROW
-  pub few_actions : length (named row).actions ≤ ACTIONS_IN_ROW
+  pub room : length body < MAX_ROWS
+  pub few_guards : length (named row).guards ≤ MAX_ROW_GUARDS
+  pub few_actions : length (named row).actions ≤ MAX_ROW_ACTIONS
   pub fault : kept_fault (header ∷ body) line ≡ (if has_room (names_of (rows_in (header ∷ body ++ line ∷ []))) then None else Some TooManyNames)
 
 -- a reader took off the next row, which is that of this line
@@ -72,9 +72,9 @@ IsNextRow header body left (Ok (Some row)) reader = (line : Line) × TakesRow he
 -- rows within the limits of a table
 pub record IsShort (rows : List NamedRow) : Type 0 where
   pub some_row : 0 < length rows
-  pub few_rows : length rows ≤ ROW_LIMIT
-  pub few_guards : All (λ row. length row.guards ≤ GUARDS_IN_ROW) rows
-  pub few_actions : All (λ row. length row.actions ≤ ACTIONS_IN_ROW) rows
+  pub few_rows : length rows ≤ MAX_ROWS
+  pub few_guards : All (λ row. length row.guards ≤ MAX_ROW_GUARDS) rows
+  pub few_actions : All (λ row. length row.actions ≤ MAX_ROW_ACTIONS) rows
 
 -- a text is refused for its first fault, and for want of memory only where it has none
 abbrev pub IsRefusal : Option TextFault → ParseError → Type 0

@@ -3,7 +3,7 @@ use Rattle.tab_text.specs.Lines.{Line, numbered_from, is_plain, is_skipped}
 use Rattle.tab_text.specs.Cells.{Cells, NamedRow, row_of}
 use Rattle.tab_text.specs.Faults.{own_fault}
 use Rattle.tab_text.specs.Pieces.{pieces_left}
-use Rattle.tab_text.specs.declared.limit.TheConstants.{GUARDS_IN_ROW, ACTIONS_IN_ROW}
+use Rattle.tab_text.specs.declared.limits.TheConstants.{MAX_ROW_GUARDS, MAX_ROW_ACTIONS}
 use Rattle.tab_text.specs.declared.fault.TextCode.TheVariants.{BadByte}
 use Rattle.tab_text.specs.declared.fault.TextFault.{TextFault}
 use Rattle.tab_text.specs.declared.lines.Lines.{Lines}
@@ -49,8 +49,8 @@ few_names few = take few.len (map (λ name. name.now) few.names)
 
 -- of a list of names the first 8 are kept, and whether it has more
 pub record IsFront (names : List (List ℕ)) (few : Few) : Type 0 where
-  pub front : few_names few ≡ take ACTIONS_IN_ROW names
-  pub more : few.more ≡ nat_lt ACTIONS_IN_ROW (length names)
+  pub front : few_names few ≡ take MAX_ROW_ACTIONS names
+  pub more : few.more ≡ nat_lt MAX_ROW_ACTIONS (length names)
 
 -- a list was found, and its front is kept
 abbrev pub IsFrontOf : Option (List (List ℕ)) → Few → Type 0
@@ -86,5 +86,5 @@ pub record IsOwnRow (is_first : Bool) (cells : Cells) (row : RowNames) : Type 0 
   pub sound : own_fault is_first cells ≡ None
   pub found : row_of cells ≡ Some (named row)
   pub line : row.line ≡ cells.line
-  pub few_guards : length (named row).guards ≤ GUARDS_IN_ROW
-  pub few_actions : length (named row).actions ≤ ACTIONS_IN_ROW
+  pub few_guards : length (named row).guards ≤ MAX_ROW_GUARDS
+  pub few_actions : length (named row).actions ≤ MAX_ROW_ACTIONS

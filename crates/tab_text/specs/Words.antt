@@ -1,7 +1,7 @@
 use Rattle.std.specs.Prelude.{ℕ, ◌+◌, ◌==◌, ◌&&◌, ◌||◌, not, nat_le, Bool, true, false, List, [], ◌∷◌, length, filter, reverse, codes, if◌then◌else◌}
 use Rattle.std.specs.List.{list_all, slice_split}
 use Rattle.std.specs.Str.{bytes_eq}
-use Rattle.tab_text.specs.declared.limit.TheConstants.{NAME_LIMIT}
+use Rattle.tab_text.specs.declared.limits.TheConstants.{MAX_NAME}
 
 abbrev pub is_letter : ℕ → Bool
 is_letter b = (nat_le 65 b && nat_le b 90) || (nat_le 97 b && nat_le b 122)
@@ -21,7 +21,7 @@ is_spelled (b ∷ bs) = is_letter b && list_all is_name_byte bs
 -- a name is spelled so, has at most 40 bytes, and is neither `when` nor `and`
 unfoldable pub is_name : List ℕ → Bool
 is_name octets =
-    is_spelled octets && nat_le (length octets) NAME_LIMIT && not (bytes_eq octets (codes "when")) && not (bytes_eq octets (codes "and"))
+    is_spelled octets && nat_le (length octets) MAX_NAME && not (bytes_eq octets (codes "when")) && not (bytes_eq octets (codes "and"))
 
 -- a word, and the byte at which it begins
 pub record Word : Type 0 where

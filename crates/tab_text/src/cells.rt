@@ -7,7 +7,7 @@ ghost use Rattle.tab_text.specs.Reading.{line_of, cells_in, IsFrontOf, IsRowFron
 
 use crate::fault::TextCode;
 use crate::header::Columns;
-use crate::limit::{ACTIONS_IN_ROW, GUARDS_IN_ROW};
+use crate::limits::{MAX_ROW_ACTIONS, MAX_ROW_GUARDS};
 use crate::lines::TextLine;
 use crate::pieces::{Pieces, Words};
 use crate::room::Few;
@@ -175,7 +175,7 @@ pub(crate) fn read_row<'a>(cells: RowCells<'a>, is_first: bool) -> Result<RowNam
     let Some(row) = row_of(cells) else {
         return Err(TextCode::BadName);
     };
-    if row.guards.is_over(GUARDS_IN_ROW) || row.actions.is_over(ACTIONS_IN_ROW) {
+    if row.guards.is_over(MAX_ROW_GUARDS) || row.actions.is_over(MAX_ROW_ACTIONS) {
         return Err(TextCode::TooManyInRow);
     }
     Ok(row)

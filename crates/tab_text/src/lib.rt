@@ -2,17 +2,26 @@
 #![tactic(auto)]
 
 mod cells;
-pub mod fault;
+mod fault;
 mod header;
-pub mod limit;
+mod limits;
 mod lines;
-pub mod name;
-pub mod parse;
-pub mod pieces;
+mod name;
+mod parsing;
+mod pieces;
 mod reader;
 mod room;
-pub mod row;
+mod row;
 mod spelling;
-pub mod table;
-#[cfg(test)]
-mod tests;
+mod table;
+
+pub use fault::{ParseError, TextCode, TextFault};
+pub use limits::{
+    MAX_ACTIONS, MAX_GUARDS, MAX_KINDS, MAX_NAME, MAX_ROW_ACTIONS, MAX_ROW_GUARDS, MAX_ROWS,
+    MAX_STATES, MAX_TEXT,
+};
+pub use name::NameList;
+pub use parsing::parse;
+pub use pieces::{Found, Pieces, Words};
+pub use row::{Places, Row};
+pub use table::Table;

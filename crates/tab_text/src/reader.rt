@@ -4,7 +4,7 @@ ghost use Rattle.tab_text.specs.Rows.{state_behind};
 use crate::cells::{RowNames, cells_of, read_row};
 use crate::fault::{TextCode, TextFault};
 use crate::header::{Columns, header_of};
-use crate::limit::{ROW_LIMIT, TEXT_LIMIT};
+use crate::limits::{MAX_ROWS, MAX_TEXT};
 use crate::lines::{Lines, TextLine};
 use crate::spelling::is_row_line;
 
@@ -38,7 +38,7 @@ impl<'a> Reader<'a> {
     pub(crate) fn open(text: &'a [u8]) -> Result<Reader<'a>, TextFault>
         ensures { MatchResult result (λ reader. (header : Line) × IsOpened text.now header reader) (λ fault. first_fault text.now ≡ Some fault) }
     {
-        if text.len() > TEXT_LIMIT {
+        if text.len() > MAX_TEXT {
             return Err(TextFault {
                 line: 0,
                 code: TextCode::TooLong,
@@ -93,7 +93,7 @@ impl<'a> Reader<'a> {
     /// The row of a line as it is written, or its first fault; whether there is room for its names
     /// is left open.
     fn row_at(&self, line: TextLine<'a>) -> Result<RowNames<'a>, TextCode>
-        ensures room { OnOk result (self.now.count < ROW_LIMIT) }
+        ensures room { OnOk result (self.now.count < MAX_ROWS) }
         ensures row { (header : Line) (body : List Line) → IsAt header body self.now
             → MatchResult result (IsRead header body (line_of line.entry)) (λ code. kept_fault (header ∷ body) (line_of line.entry) ≡ Some code) }
     {
@@ -101,7 +101,7 @@ impl<'a> Reader<'a> {
             return Err(TextCode::BadByte);
         }
         let row = read_row(cells_of(self.columns, line), self.count == 0)?;
-        if self.count >= ROW_LIMIT {
+        if self.count >= MAX_ROWS {
             return Err(TextCode::TooManyRows);
         }
         Ok(row)

@@ -2,22 +2,23 @@ ghost use Rattle.std.specs.Prelude.{◌≡◌, ◌≤◌, ◌∷◌, [], ◌++�
 ghost use Rattle.std.specs.Bool.{OnTrue};
 ghost use Rattle.tab_text.specs.Rows.{place_of, numbered};
 ghost use Rattle.tab_text.specs.Faults.{has_room};
-ghost use Rattle.tab_text.specs.declared.limit.TheConstants.{ACTIONS_IN_ROW, KIND_LIMIT};
+ghost use Rattle.tab_text.specs.declared.limits.TheConstants.{MAX_ROW_ACTIONS, MAX_KINDS};
 
 use crate::cells::RowNames;
-use crate::limit::{ACTION_LIMIT, ACTIONS_IN_ROW, GUARD_LIMIT, KIND_LIMIT, STATE_LIMIT};
-use crate::name::{Name, NameList};
+use crate::limits::{MAX_ACTIONS, MAX_GUARDS, MAX_KINDS, MAX_ROW_ACTIONS, MAX_STATES};
+use crate::name::NameList;
 use crate::row::{Places, Row};
+use base_list::Octets;
 use std::alloc::{AllocError, Global};
 
 /// The first names of a list, each a part of the text.
 #[derive(Drop)]
 pub(crate) struct Few<'a> {
-    names: [&'a [u8]; ACTIONS_IN_ROW],
+    names: [&'a [u8]; MAX_ROW_ACTIONS],
     len: usize,
     /// Whether the list goes on.
     more: bool,
-    ghost few: { len ≤ ACTIONS_IN_ROW },
+    ghost few: { len ≤ MAX_ROW_ACTIONS },
 }
 
 impl<'a> Few<'a> {
@@ -27,7 +28,7 @@ impl<'a> Few<'a> {
         ensures { IsFront [] result }
     {
         Few {
-            names: [&[]; ACTIONS_IN_ROW],
+            names: [&[]; MAX_ROW_ACTIONS],
             len: 0,
             more: false,
         }
@@ -37,7 +38,7 @@ impl<'a> Few<'a> {
     pub(crate) fn push(&mut self, name: &'a [u8])
         ensures { (names : List (List ℕ)) → IsFront names self.old → IsFront (names ++ name.now ∷ []) self.new }
     {
-        if self.len < ACTIONS_IN_ROW {
+        if self.len < MAX_ROW_ACTIONS {
             self.names[self.len] = name;
             self.len += 1;
         } else {
@@ -47,7 +48,7 @@ impl<'a> Few<'a> {
 
     /// Whether the list has more names than this.
     pub(crate) fn is_over(&self, limit: usize) -> bool
-        requires { limit ≤ ACTIONS_IN_ROW }
+        requires { limit ≤ MAX_ROW_ACTIONS }
         ensures { (names : List (List ℕ)) → IsFront names self.now → result ≡ nat_lt limit (length names) }
     {
         self.more || self.len > limit
@@ -55,7 +56,7 @@ impl<'a> Few<'a> {
 
     pub(crate) fn as_slice(&self) -> &[&'a [u8]]
         ensures value { map (λ name. name.now) result.now ≡ few_names self.now }
-        ensures few { length result.now ≤ ACTIONS_IN_ROW }
+        ensures few { length result.now ≤ MAX_ROW_ACTIONS }
     {
         &self.names[..self.len]
     }
@@ -64,9 +65,9 @@ impl<'a> Few<'a> {
 /// Names in order of first appearance, each a part of the text.
 #[derive(Drop)]
 pub(crate) struct Room<'a> {
-    names: [&'a [u8]; KIND_LIMIT],
+    names: [&'a [u8]; MAX_KINDS],
     len: usize,
-    ghost few: { len ≤ KIND_LIMIT },
+    ghost few: { len ≤ MAX_KINDS },
 }
 
 impl<'a> Room<'a> {
@@ -76,7 +77,7 @@ impl<'a> Room<'a> {
         ensures { names_in result ≡ [] }
     {
         Room {
-            names: [&[]; KIND_LIMIT],
+            names: [&[]; MAX_KINDS],
             len: 0,
         }
     }
@@ -84,7 +85,7 @@ impl<'a> Room<'a> {
     /// The number of a name, or how many names there are.
     fn place(&self, name: &[u8]) -> usize
         ensures value { result ≡ place_of (names_in self.now) name.now }
-        ensures within { result ≤ KIND_LIMIT }
+        ensures within { result ≤ MAX_KINDS }
     {
         for (place, other) in self.names[..self.len].iter().enumerate() {
             if *other == name {
@@ -96,7 +97,7 @@ impl<'a> Room<'a> {
 
     /// Adds a name that isn't there yet, and says whether there is room for it.
     fn add(&mut self, limit: usize, name: &'a [u8]) -> bool
-        requires limit { limit ≤ KIND_LIMIT }
+        requires limit { limit ≤ MAX_KINDS }
         requires room { length (names_in self.old) ≤ limit }
         ensures room { result ≡ nat_le (length (with_name (names_in self.old) name.now)) limit }
         ensures added { OnTrue result (names_in self.new ≡ with_name (names_in self.old) name.now) }
@@ -114,7 +115,7 @@ impl<'a> Room<'a> {
 
     /// Adds names likewise.
     fn add_all(&mut self, limit: usize, names: &[&'a [u8]]) -> bool
-        requires limit { limit ≤ KIND_LIMIT }
+        requires limit { limit ≤ MAX_KINDS }
         requires room { length (names_in self.old) ≤ limit }
         ensures room { result ≡ nat_le (length (with_names (names_in self.old) (map (λ name. name.now) names.now))) limit }
         ensures added { OnTrue result (names_in self.new ≡ with_names (names_in self.old) (map (λ name. name.now) names.now)) }
@@ -129,7 +130,7 @@ impl<'a> Room<'a> {
 
     /// The numbers of names.
     fn places(&self, names: &[&'a [u8]]) -> Places
-        requires { length names.now ≤ ACTIONS_IN_ROW }
+        requires { length names.now ≤ MAX_ROW_ACTIONS }
         ensures { result ≡ map (place_of (names_in self.now)) (map (λ name. name.now) names.now) }
     {
         let mut places = Places::new();
@@ -145,7 +146,7 @@ impl<'a> Room<'a> {
     {
         let mut names = Vec::new(alloc);
         for name in &self.names[..self.len] {
-            names.push(Name::new(alloc, name)?)?;
+            names.push(Octets::from_slice(alloc, name)?)?;
         }
         Ok(NameList::new(names))
     }
@@ -181,16 +182,16 @@ impl<'a> Rooms<'a> {
         ensures room { result ≡ has_room (with_row (rooms_names self.old) (named row.now)) }
         ensures added { OnTrue result (rooms_names self.new ≡ with_row (rooms_names self.old) (named row.now)) }
     {
-        if !self.states.add_all(STATE_LIMIT, &[row.state, row.next]) {
+        if !self.states.add_all(MAX_STATES, &[row.state, row.next]) {
             return false;
         }
-        if !self.kinds.add(KIND_LIMIT, row.kind) {
+        if !self.kinds.add(MAX_KINDS, row.kind) {
             return false;
         }
-        if !self.guards.add_all(GUARD_LIMIT, row.guards.as_slice()) {
+        if !self.guards.add_all(MAX_GUARDS, row.guards.as_slice()) {
             return false;
         }
-        self.actions.add_all(ACTION_LIMIT, row.actions.as_slice())
+        self.actions.add_all(MAX_ACTIONS, row.actions.as_slice())
     }
 
     /// A row with its names given by their numbers.

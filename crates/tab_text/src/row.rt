@@ -1,24 +1,24 @@
 ghost use Rattle.std.specs.Prelude.{◌≡◌, ◌<◌, ◌≤◌, [], ◌∷◌, ◌++◌, length};
 
-use crate::limit::ACTIONS_IN_ROW;
+use crate::limits::MAX_ROW_ACTIONS;
 use std::marker::Model;
 
 /// The numbers of a row's guards or actions, in order: at most 8.
 #[derive(Debug, Drop)]
 pub struct Places {
-    items: [u8; ACTIONS_IN_ROW],
+    items: [u8; MAX_ROW_ACTIONS],
     len: usize,
 }
 
 impl Model for Places {
     ghost use Rattle.std.specs.Prelude.{List, ℕ, ◌≤◌, take};
-    ghost use Rattle.tab_text.specs.declared.limit.TheConstants.{ACTIONS_IN_ROW};
+    ghost use Rattle.tab_text.specs.declared.limits.TheConstants.{MAX_ROW_ACTIONS};
 
     ghost Value = { List ℕ };
 
     ghost view = { λ places. take places.len places.items };
 
-    ghost invariant = { λ places. places.len ≤ ACTIONS_IN_ROW };
+    ghost invariant = { λ places. places.len ≤ MAX_ROW_ACTIONS };
 }
 
 impl Places {
@@ -26,13 +26,13 @@ impl Places {
         ensures { result ≡ [] }
     {
         Places {
-            items: [0; ACTIONS_IN_ROW],
+            items: [0; MAX_ROW_ACTIONS],
             len: 0,
         }
     }
 
     pub(crate) fn push(&mut self, place: u8)
-        requires { length self.old < ACTIONS_IN_ROW }
+        requires { length self.old < MAX_ROW_ACTIONS }
         ensures { self.new ≡ self.old ++ place ∷ [] }
     {
         self.items[self.len] = place;
@@ -42,7 +42,7 @@ impl Places {
     /// The numbers.
     pub fn as_slice(&self) -> &[u8]
         ensures value { result.now ≡ self.now }
-        ensures few { length self.now ≤ ACTIONS_IN_ROW }
+        ensures few { length self.now ≤ MAX_ROW_ACTIONS }
     {
         &self.items[..self.len]
     }

@@ -3,7 +3,7 @@ ghost use Rattle.std.specs.List.{list_all};
 ghost use Rattle.tab_text.specs.Lines.{is_plain, is_blank, is_comment, is_skipped, is_row_line};
 ghost use Rattle.tab_text.specs.Words.{is_letter, is_name_byte, is_spelled, is_name, trimmed_front, trimmed_back, trimmed};
 
-use crate::limit::NAME_LIMIT;
+use crate::limits::MAX_NAME;
 
 /// Whether a byte is a letter.
 fn is_letter(byte: u8) -> bool
@@ -42,7 +42,7 @@ pub(crate) fn is_name(octets: &[u8]) -> bool
     ensures { result ≡ is_name octets.now }
 {
     is_spelled(octets)
-        && octets.len() <= NAME_LIMIT
+        && octets.len() <= MAX_NAME
         && octets != b"when".as_slice()
         && octets != b"and".as_slice()
 }

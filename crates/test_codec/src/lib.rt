@@ -2,6 +2,12 @@
 #![tactic(auto)]
 
 #[cfg(test)]
+mod avp;
+#[cfg(test)]
+mod dict;
+#[cfg(test)]
+mod frame;
+#[cfg(test)]
 mod message;
 #[cfg(test)]
 mod tree;

@@ -5,22 +5,22 @@ use Rattle.tab_text.specs.Lines.{lines}
 use Rattle.tab_text.proofs.ReaderLemmas.{fault-found, first_fault-within, first_fault-over, header-bad, header-good, no-rows}
 use Rattle.tab_text.proofs.reader.Reader.open.Goals as goal
 
-pub returns-then-text-gt-TEXT_LIMIT : goal.returns-then-text-gt-TEXT_LIMIT
-returns-then-text-gt-TEXT_LIMIT c = first_fault-over c.args.text.now c.if-text-gt-TEXT_LIMIT.true
+pub returns-then-text-gt-MAX_TEXT : goal.returns-then-text-gt-MAX_TEXT
+returns-then-text-gt-MAX_TEXT c = first_fault-over c.args.text.now c.if-text-gt-MAX_TEXT.true
 
 pub returns-in_err-line : goal.returns-in_err-line
 returns-in_err-line c =
     let text = c.args.text.now in
     let p = err_from_is_err_and c.from_residual.result c.from_residual.ensures.1 in
     let found = rw c.new-lines.ensures at c.in_err-line.ensures in
-    rw (p.1, p.2) (first_fault-within text c.if-text-gt-TEXT_LIMIT.false ∙ fault-found [] (lines text) _ found)
+    rw (p.1, p.2) (first_fault-within text c.if-text-gt-MAX_TEXT.false ∙ fault-found [] (lines text) _ found)
 
 pub returns-in_default : goal.returns-in_default
 returns-in_default c =
     let text = c.args.text.now in
     let kept = rw c.in_default.is at c.in_ok-line.ensures in
     let found = rw c.new-lines.ensures at kept in
-    first_fault-within text c.if-text-gt-TEXT_LIMIT.false ∙ (fault-found [] (lines text) (Ok None) found).0
+    first_fault-within text c.if-text-gt-MAX_TEXT.false ∙ (fault-found [] (lines text) (Ok None) found).0
 
 pub returns-in_default-header_of : goal.returns-in_default-header_of
 returns-in_default-header_of c =
@@ -29,7 +29,7 @@ returns-in_default-header_of c =
     let kept = rw c.in-Some.is at c.in_ok-line.ensures in
     let found = rw c.new-lines.ensures at kept in
     let next = fault-found [] (lines text) (Ok (Some (line, lines_left c.next_kept.new.self))) found in
-    first_fault-within text c.if-text-gt-TEXT_LIMIT.false ∙ next.0 ∙ rw (header-bad line c.in_default-header_of.ensures) refl
+    first_fault-within text c.if-text-gt-MAX_TEXT.false ∙ next.0 ∙ rw (header-bad line c.in_default-header_of.ensures) refl
 
 pub returns : goal.returns
 returns c =
@@ -42,6 +42,6 @@ returns c =
       record {
         at = record { line = refl; columns = c.in-Some-header_of.ensures.1; count = refl; state = sym (no-rows line) };
         kept = next.1;
-        fault = first_fault-within text c.if-text-gt-TEXT_LIMIT.false ∙ next.0 ∙ rw (header-good line c.in-Some-header_of.ensures.0) refl;
+        fault = first_fault-within text c.if-text-gt-MAX_TEXT.false ∙ next.0 ∙ rw (header-good line c.in-Some-header_of.ensures.0) refl;
       },
     )

@@ -17,11 +17,11 @@ returns-in_err-row-clause-row c = λ header body stands.
     let cut : cells_in c.cells_of.result ≡ cells_of (columns_of header.octets) line = c.cells_of.ensures ∙ ap (λ (columns : Columns). cells_of columns line) stands.columns in
     rw (p.1, p.2) (row-own header body line c.args.self.now.count _ (sym c.if-not-is_row_line.ensures) stands.count (rw (← cut) c.in_err-row.ensures))
 
-pub returns-then-self-ge-ROW_LIMIT-clause-row : goal.returns-then-self-ge-ROW_LIMIT-clause-row
-returns-then-self-ge-ROW_LIMIT-clause-row c = λ header body stands.
+pub returns-then-self-ge-MAX_ROWS-clause-row : goal.returns-then-self-ge-MAX_ROWS-clause-row
+returns-then-self-ge-MAX_ROWS-clause-row c = λ header body stands.
     let line = line_of c.args.line in
     let cut : cells_in c.cells_of.result ≡ cells_of (columns_of header.octets) line = c.cells_of.ensures ∙ ap (λ (columns : Columns). cells_of columns line) stands.columns in
-    row-over header body line c.args.self.now.count (sym c.if-not-is_row_line.ensures) stands.count (rw (← cut) c.in_ok-row.ensures.sound) c.if-self-ge-ROW_LIMIT.true
+    row-over header body line c.args.self.now.count (sym c.if-not-is_row_line.ensures) stands.count (rw (← cut) c.in_ok-row.ensures.sound) c.if-self-ge-MAX_ROWS.true
 
 pub returns-clause-row : goal.returns-clause-row
 returns-clause-row c = λ header body stands.
@@ -33,5 +33,5 @@ returns-clause-row c = λ header body stands.
       room = omega (arith, stands.count);
       few_guards = c.in_ok-row.ensures.few_guards;
       few_actions = c.in_ok-row.ensures.few_actions;
-      fault = row-under header body line c.args.self.now.count (sym c.if-not-is_row_line.ensures) stands.count (rw (← cut) c.in_ok-row.ensures.sound) c.if-self-ge-ROW_LIMIT.false;
+      fault = row-under header body line c.args.self.now.count (sym c.if-not-is_row_line.ensures) stands.count (rw (← cut) c.in_ok-row.ensures.sound) c.if-self-ge-MAX_ROWS.false;
     }

@@ -6,4 +6,4 @@ pub returns : goal.returns
 returns c =
     let room = c.args.self.now in
     let whole = take_all c.loop-name.name-index _ c.loop-name-test.false in
-    (c.new-2.ensures ∙ rw whole at c.loop-name.invariant) ∙ sym (take-map _ room.len room.names)
+    (c.new.ensures ∙ rw whole at c.loop-name.invariant) ∙ sym (take-map _ room.len room.names)

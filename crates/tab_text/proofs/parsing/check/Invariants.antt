@@ -1,0 +1,13 @@
+use Rattle.std.proofs.Common.{List, length}
+use Rattle.tab_text.specs.Lines.{Line, kept}
+use Rattle.tab_text.specs.Reading.{lines_left}
+use Rattle.tab_text.specs.Rooms.{rooms_names}
+use Rattle.tab_text.proofs.ParseLemmas.{IsChecked}
+use Rattle.tab_text.proofs.parsing.check.Given as goal
+
+abbrev pub invariant-loop-row : goal.invariant-loop-row
+invariant-loop-row l =
+    (header : Line) × (body : List Line) × IsChecked l.text l.reader (rooms_names l.names) header body
+
+abbrev pub decreases-loop-row : goal.decreases-loop-row
+decreases-loop-row l = length (kept (lines_left l.reader.lines))

@@ -1,0 +1,322 @@
+//! Laws: what a guard answers, what an action may answer, and the book that keeps them.
+
+use base_codes::{DeedCode, ResultCode, session_fact, session_register};
+use base_list::{AddError, AddFault, Octets};
+use std::alloc::{AllocError, Global};
+use std::test::Fail;
+use tab_law::{
+    ActLaw, Atom, Chain, Change, Deed, Deeds, Field, GuardLaw, LawBook, MAX_ACTIONS, MAX_GUARDS,
+    MAX_KINDS, Numbers, PLACES, Scene, Term, Test, high, holds, permits,
+};
+
+/// The field of an answer's request number, and of its Result-Code.
+const NUMBER: Field = Field::Fact(session_fact::REQUEST_NUMBER as u8);
+
+const RESULT: Field = Field::Fact(session_fact::RESULT_CODE as u8);
+
+/// Registers and facts that are all 0.
+fn blank() -> Scene {
+    Scene {
+        regs: [0; PLACES],
+        facts: [0; PLACES],
+    }
+}
+
+fn guard(alloc: Global, test: Test) -> Result<GuardLaw, AllocError> {
+    let mut tests = Vec::new(alloc);
+    tests.push(test)?;
+    Ok(GuardLaw::new(tests))
+}
+
+/// The numbers 4 and 6.
+fn four_and_six(alloc: Global) -> Result<Numbers, AllocError> {
+    let mut numbers = Vec::new(alloc);
+    numbers.push(4)?;
+    numbers.push(6)?;
+    Ok(Numbers::new(numbers))
+}
+
+/// What guards of one test answer at a request number: whether it is 5, differs from 5, is below 5,
+/// at least 5, 4 or 6.
+fn answers(alloc: Global, number: u64) -> Result<[bool; 5], AllocError> {
+    let five = Atom::Constant(5);
+    let mut scene = blank();
+    scene.facts[session_fact::REQUEST_NUMBER] = number;
+    Ok([
+        holds(&guard(alloc, Test::Equal(NUMBER, five))?, &scene),
+        holds(&guard(alloc, Test::Differing(NUMBER, five))?, &scene),
+        holds(&guard(alloc, Test::Below(NUMBER, five))?, &scene),
+        holds(&guard(alloc, Test::AtLeast(NUMBER, five))?, &scene),
+        holds(
+            &guard(alloc, Test::Among(NUMBER, four_and_six(alloc)?))?,
+            &scene,
+        ),
+    ])
+}
+
+#[test]
+fn each_test_is_met_where_it_says(rt: HostRuntime) -> Result<(), Fail> {
+    for (number, wanted) in [
+        (4, [false, true, true, false, true]),
+        (5, [true, false, false, true, false]),
+        (6, [false, true, false, true, true]),
+    ] {
+        assert!(rt; answers(rt.alloc(), number)? == wanted, "at {number}");
+    }
+    Ok(())
+}
+
+/// An answer to the last request, with success; the fact's number counts round.
+fn mine_and_success(alloc: Global) -> Result<GuardLaw, AllocError> {
+    let own = Atom::Register(session_register::REQUEST_NUMBER as u8);
+    let result = Field::Fact((session_fact::RESULT_CODE + PLACES) as u8);
+    let success = Atom::Constant(ResultCode::Success.number() as u64);
+    let mut tests = Vec::new(alloc);
+    tests.push(Test::Equal(NUMBER, own))?;
+    tests.push(Test::Equal(result, success))?;
+    Ok(GuardLaw::new(tests))
+}
+
+/// An answer with that request number and Result-Code, where the last request had number 3.
+fn answered(number: u64, code: u64) -> Scene {
+    let mut scene = blank();
+    scene.regs[session_register::REQUEST_NUMBER] = 3;
+    scene.facts[session_fact::REQUEST_NUMBER] = number;
+    scene.facts[session_fact::RESULT_CODE] = code;
+    scene
+}
+
+#[test]
+fn a_guard_needs_all_its_tests_and_numbers_count_round(rt: HostRuntime) -> Result<(), Fail> {
+    let law = mine_and_success(rt.alloc())?;
+    for (number, code, answer) in [(3, 2001, true), (3, 5012, false), (4, 2001, false)] {
+        assert!(rt;
+            holds(&law, &answered(number, code)) == answer,
+            "{number} {code}"
+        );
+    }
+    let none = GuardLaw::new(Vec::new(rt.alloc()));
+    let kept = law.copy(rt.alloc())?;
+    assert!(rt; kept.is_same(&law));
+    assert!(rt; !kept.is_same(&none));
+    Ok(())
+}
+
+fn number(value: u64) -> Term {
+    Term::Just(Atom::Constant(value))
+}
+
+/// Arguments that are all 0 but the first.
+fn arguments(first: Term) -> [Term; PLACES] {
+    let mut terms = [number(0); PLACES];
+    terms[0] = first;
+    terms
+}
+
+/// A deed whose arguments are all 0 but the first.
+fn deed(code: DeedCode, first: u64) -> Deed {
+    let mut a = [0; PLACES];
+    a[0] = first;
+    let code = code.number();
+    Deed { code, a }
+}
+
+/// The number of the register of granted units, and of their unit.
+const GRANTED: u8 = session_register::GRANTED as u8;
+
+const UNIT: u8 = session_register::UNIT as u8;
+
+/// Grants as many units as the answer says, reserves them, and keeps what was granted before.
+fn reserve(alloc: Global) -> Result<ActLaw, AllocError> {
+    let offered = Term::Just(Atom::Fact(session_fact::GRANTED as u8));
+    let before = Term::Just(Atom::Register(GRANTED));
+    let after = Term::Just(Atom::NewRegister(GRANTED));
+    let mut changes = Vec::new(alloc);
+    changes.push(Change::Set(GRANTED, number(9)))?;
+    changes.push(Change::Pick(GRANTED, number(1), offered))?;
+    changes.push(Change::Set(UNIT, before))?;
+    changes.push(Change::Emit(DeedCode::Reserve.number(), arguments(after)))?;
+    Ok(ActLaw::new(changes))
+}
+
+/// 7 units granted, and 60 offered.
+fn offered() -> Scene {
+    let mut scene = blank();
+    scene.regs[session_register::GRANTED] = 7;
+    scene.facts[session_fact::GRANTED] = 60;
+    scene
+}
+
+/// Whether these registers and one deed that reserves so many units are permitted.
+fn may_reserve(law: &ActLaw, regs: &[u64; PLACES], units: u64) -> bool {
+    let mut deeds = Deeds::new();
+    deeds.push(deed(DeedCode::Reserve, units));
+    permits(law, &offered(), regs, &deeds)
+}
+
+#[test]
+fn a_pick_may_be_any_value_of_its_range(rt: HostRuntime) -> Result<(), Fail> {
+    let law = reserve(rt.alloc())?;
+    let acted = high(&law, &offered());
+    assert!(rt; acted.regs[session_register::GRANTED] == 60);
+    assert!(rt;
+        acted.regs[session_register::UNIT] == 7,
+        "a term reads the register before the action"
+    );
+    assert!(rt;
+        acted.deeds.as_slice() == [deed(DeedCode::Reserve, 60)].as_slice(),
+        "a deed reads it after the action"
+    );
+    assert!(rt; DeedCode::Reserve.number() == 20);
+    for (units, answer) in [(0, false), (1, true), (60, true), (61, false)] {
+        let mut regs = acted.regs;
+        regs[session_register::GRANTED] = units;
+        assert!(rt; may_reserve(&law, &regs, units) == answer, "at {units}");
+        regs[session_register::FINAL] = 1;
+        assert!(rt; !may_reserve(&law, &regs, units), "another register stays");
+    }
+    assert!(rt;
+        !permits(&law, &offered(), &acted.regs, &Deeds::new()),
+        "the deed is owed"
+    );
+    Ok(())
+}
+
+/// A sum, a difference and the lesser of numbers, and five deeds.
+fn ends(alloc: Global) -> Result<ActLaw, AllocError> {
+    let most = Atom::Constant(u64::MAX);
+    let one = Atom::Constant(1);
+    let mut changes = Vec::new(alloc);
+    changes.push(Change::Set(1, Term::Sum(most, one)))?;
+    changes.push(Change::Set(2, Term::Difference(one, most)))?;
+    changes.push(Change::Set(3, Term::Least(most, one)))?;
+    for argument in 0..5u64 {
+        changes.push(Change::Emit(DeedCode::Service.number(), arguments(number(argument))))?;
+    }
+    Ok(ActLaw::new(changes))
+}
+
+#[test]
+fn sums_stop_at_the_ends_and_the_first_four_emits_count(rt: HostRuntime) -> Result<(), Fail> {
+    let law = ends(rt.alloc())?;
+    let acted = high(&law, &blank());
+    assert!(rt; acted.regs[..4] == [0, u64::MAX, 0, 1]);
+    assert!(rt; acted.deeds.len() == 4);
+    assert!(rt; acted.deeds.as_slice()[3].a[0] == 3);
+    let kept = law.copy(rt.alloc())?;
+    let other = reserve(rt.alloc())?;
+    assert!(rt; kept.is_same(&law));
+    assert!(rt; !kept.is_same(&other));
+    Ok(())
+}
+
+#[test]
+fn a_chain_keeps_its_members(rt: HostRuntime) {
+    let mut chain = Chain::new();
+    chain.push([1; PLACES]);
+    chain.push([2; PLACES]);
+    assert!(rt; chain.as_slice() == [[1; PLACES], [2; PLACES]].as_slice());
+}
+
+/// A name of its own for each number.
+fn numbered(number: u8) -> [u8; 2] {
+    [b'n', number]
+}
+
+/// Adds as many kinds as a book may have.
+fn fill_kinds(book: &mut LawBook) -> Result<(), AddError> {
+    for number in 0..MAX_KINDS as u8 {
+        book.add_kind(&numbered(number))?;
+    }
+    Ok(())
+}
+
+/// What is wrong with a kind that is added.
+fn refused_kind(book: &mut LawBook, name: &[u8]) -> Option<AddFault> {
+    match book.add_kind(name) {
+        Err(AddError::Fault(fault)) => Some(fault),
+        _ => None,
+    }
+}
+
+#[test]
+fn a_name_is_taken_before_the_book_is_full(rt: HostRuntime) {
+    let mut book = LawBook::new(rt.alloc());
+    assert!(rt; fill_kinds(&mut book) == Ok(()));
+    assert!(rt; book.kinds().len() == MAX_KINDS);
+    assert!(rt; book.kinds().find(&numbered(127)) == Some(127));
+    assert!(rt; book.kinds().find(b"CCA-I") == None);
+    assert!(rt; refused_kind(&mut book, &numbered(0)) == Some(AddFault::Taken));
+    assert!(rt; refused_kind(&mut book, b"CCA-I") == Some(AddFault::Full));
+    assert!(rt; book.kinds().len() == MAX_KINDS);
+    assert!(rt; AddFault::Taken.number() == 1 && AddFault::Full.number() == 2);
+}
+
+/// Whether a law is refused for that fault, and comes back.
+fn comes_back(
+    alloc: Global,
+    book: &mut LawBook,
+    law: &GuardLaw,
+    name: &[u8],
+    fault: AddFault,
+) -> Result<bool, AllocError> {
+    match book.add_guard(name, law.copy(alloc)?) {
+        Ok(()) => Ok(false),
+        Err(refused) => { Ok(refused.error == AddError::Fault(fault) && refused.back.is_same(law)) }
+    }
+}
+
+/// Adds a law as many times as a book may have guards.
+fn fill_guards(alloc: Global, book: &mut LawBook, law: &GuardLaw) -> Result<(), AddError> {
+    for number in 0..MAX_GUARDS as u8 {
+        book.add_guard(&numbered(number), law.copy(alloc)?)?;
+    }
+    Ok(())
+}
+
+#[test]
+fn a_guard_that_is_refused_comes_back(rt: HostRuntime) -> Result<(), Fail> {
+    let alloc = rt.alloc();
+    let law = guard(alloc, Test::Below(Field::Register(2), Atom::Fact(3)))?;
+    let mut book = LawBook::new(alloc);
+    assert!(rt; fill_guards(alloc, &mut book, &law) == Ok(()));
+    assert!(rt; book.guards().len() == MAX_GUARDS);
+    assert!(rt; book.guards().at(63).name.as_slice() == numbered(63).as_slice());
+    assert!(rt; book.guards().at(63).value.is_same(&law));
+    for (number, fault) in [(63, AddFault::Taken), (64, AddFault::Full)] {
+        let name = numbered(number);
+        assert!(rt;
+            comes_back(alloc, &mut book, &law, &name, fault)?,
+            "{number}"
+        );
+    }
+    Ok(())
+}
+
+/// Adds an action as many times as a book may have actions.
+fn fill_acts(alloc: Global, book: &mut LawBook) -> Result<(), AddError> {
+    for number in 0..MAX_ACTIONS as u8 {
+        book.add_act(&numbered(number), reserve(alloc)?)?;
+    }
+    Ok(())
+}
+
+#[test]
+fn an_action_is_refused_where_the_book_is_full(rt: HostRuntime) -> Result<(), Fail> {
+    let alloc = rt.alloc();
+    let law = reserve(alloc)?;
+    let mut book = LawBook::new(alloc);
+    assert!(rt; fill_acts(alloc, &mut book) == Ok(()));
+    assert!(rt; book.acts().len() == MAX_ACTIONS);
+    assert!(rt; book.acts().at(5).value.is_same(&law));
+    let added = book.add_act(b"Charge", law);
+    assert!(rt; added.map_err(AddError::from) == Err(AddError::Fault(AddFault::Full)));
+    Ok(())
+}
+
+#[test]
+fn a_copied_name_is_the_same(rt: HostRuntime) -> Result<(), Fail> {
+    let name = Octets::new(b"mine".to_vec(rt.alloc())?);
+    assert!(rt; name.copy(rt.alloc())?.as_slice() == b"mine".as_slice());
+    Ok(())
+}

@@ -1,0 +1,9 @@
+//! The tests of the tables, over the public calls of their crates: laws, texts and steps.
+#![tactic(auto)]
+
+#[cfg(test)]
+mod laws;
+#[cfg(test)]
+mod steps;
+#[cfg(test)]
+mod texts;
