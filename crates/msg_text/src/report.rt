@@ -9,7 +9,6 @@ use dia_msg::{Command, MsgError, MsgFault, read_message, write_message};
 use std::alloc::{AllocError, Global};
 
 /// Reads messages and keeps their text.
-#[derive(Drop)]
 pub struct Report {
     alloc: Global,
     dictionary: Dictionary,
@@ -20,6 +19,19 @@ pub struct Report {
     out: Vec<u8>,
     /// A fault was printed.
     refused: bool,
+}
+
+impl Drop for Report {
+    fn drop(self) {
+        let Report {
+            alloc: _,
+            dictionary,
+            spelling,
+            lines,
+            out,
+            refused: _,
+        } = self;
+    }
 }
 
 impl Report {

@@ -12,11 +12,22 @@ use std::marker::Model;
 /// taken out, so a place stays that of its name.
 ///
 /// In: `add_kind`, `add_guard`, `add_act`. Looks: `kinds`, `guards`, `acts`.
-#[derive(Debug, Drop)]
+#[derive(Debug)]
 pub struct LawBook {
     kinds: NamedList<()>,
     guards: NamedList<GuardLaw>,
     acts: NamedList<ActLaw>,
+}
+
+// A derived `drop` is proved anew, field by field, at each way out of each function that holds a book; this one is a call.
+impl Drop for LawBook {
+    fn drop(self) {
+        let LawBook {
+            kinds,
+            guards,
+            acts,
+        } = self;
+    }
 }
 
 impl Model for LawBook {

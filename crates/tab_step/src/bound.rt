@@ -57,10 +57,16 @@ pub struct RowPlaces {
 }
 
 /// A table whose names were found in a book of laws, each row with their places there.
-#[derive(Drop)]
 pub struct Bound {
     table: Table,
     places: Vec<RowPlaces>,
+}
+
+// A derived `drop` is proved anew, field by field, at each way out of each function that holds it; this one is a call.
+impl Drop for Bound {
+    fn drop(self) {
+        let Bound { table, places } = self;
+    }
 }
 
 impl Model for Bound {

@@ -8,13 +8,26 @@ use std::marker::Model;
 
 /// A state machine's table: names, numbered by first appearance, and rows in text order.
 /// State 0 is the state in which a machine starts.
-#[derive(Debug, Drop)]
+#[derive(Debug)]
 pub struct Table {
     states: NameList,
     kinds: NameList,
     guards: NameList,
     actions: NameList,
     rows: Vec<Row>,
+}
+
+// A derived `drop` is proved anew, field by field, at each way out of each function that holds a table; this one is a call.
+impl Drop for Table {
+    fn drop(self) {
+        let Table {
+            states,
+            kinds,
+            guards,
+            actions,
+            rows,
+        } = self;
+    }
 }
 
 impl Model for Table {

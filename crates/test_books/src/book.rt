@@ -56,22 +56,37 @@ fn in_part(amount: u64, unpaid: u64) -> Outcome {
     Outcome::Done { amount, unpaid }
 }
 
-/// The verdict's number, the offer, whether it is final, and the pay of a quote to a session that used and wants so much.
-fn quoted(page: &Page, session: u64, used: u64, want: u64) -> (u32, u64, bool, u64) {
+/// Whether the operations, one after the other, have these outcomes.
+fn applies(page: &mut Page, rows: &[(Op, Outcome)]) -> bool {
+    let mut all = true;
+    for (op, outcome) in rows {
+        all = all && page.apply(*op) == Ok(*outcome);
+    }
+    all
+}
+
+/// What a quote is asked: the session, the used units and the wanted ones.
+type Asked = (u64, u64, u64);
+
+/// What it answers: the number of the verdict, the offer, whether that is final, and the pay.
+type Answer = (u32, u64, bool, u64);
+
+/// Whether a page answers this to a quote.
+fn quotes(page: &Page, (session, used, want): Asked, answer: Answer) -> bool {
     let quote = page.quote(ACCOUNT, session, 0, used, want);
     (
         quote.verdict.number(),
         quote.offer,
         quote.is_final,
         quote.pay,
-    )
+    ) == answer
 }
 
-/// Whether the operations, one after the other, have these outcomes.
-fn applies(page: &mut Page, rows: &[(Op, Outcome)]) -> bool {
+/// Whether quotes, each with the operation after it, have these answers and outcomes.
+fn quotes_and_applies(page: &mut Page, rows: &[(Asked, Answer, Op, Outcome)]) -> bool {
     let mut all = true;
-    for (op, outcome) in rows {
-        all = all && page.apply(*op) == Ok(*outcome);
+    for (asked, answer, op, outcome) in rows {
+        all = all && quotes(page, *asked, *answer) && page.apply(*op) == Ok(*outcome);
     }
     all
 }
@@ -117,13 +132,28 @@ fn fills(page: &mut Page) -> bool {
 #[test]
 fn two_sessions_share_an_account(rt: HostRuntime) {
     let mut page = page_with(rt.alloc(), 100).expect(&rt, "memory");
-    assert!(rt; quoted(&page, FIRST, 0, 60) == (2001, 60, false, 0));
-    assert!(rt; applies(&mut page, &[(reserve(FIRST, 60), done(60))]));
-    assert!(rt; quoted(&page, SECOND, 0, 60) == (2001, 40, true, 0));
-    assert!(rt; applies(&mut page, &[(reserve(SECOND, 40), done(40))]));
-    assert!(rt; quoted(&page, FIRST, 70, 10) == (4012, 0, false, 60));
     let paid = in_part(60, 10);
-    assert!(rt; applies(&mut page, &[(debit(FIRST, 70), paid)]));
+    let rows = [
+        (
+            (FIRST, 0, 60),
+            (2001, 60, false, 0),
+            reserve(FIRST, 60),
+            done(60),
+        ),
+        (
+            (SECOND, 0, 60),
+            (2001, 40, true, 0),
+            reserve(SECOND, 40),
+            done(40),
+        ),
+        (
+            (FIRST, 70, 10),
+            (4012, 0, false, 60),
+            debit(FIRST, 70),
+            paid,
+        ),
+    ];
+    assert!(rt; quotes_and_applies(&mut page, &rows));
     assert!(rt; sums_to(&page, (100, 40, 60, 10)));
     assert!(rt; page.journal().len() == 3);
     let last = Booked {
@@ -136,9 +166,10 @@ fn two_sessions_share_an_account(rt: HostRuntime) {
 #[test]
 fn the_largest_numbers_do_not_wrap(rt: HostRuntime) {
     let mut page = page_with(rt.alloc(), MAX_GIVEN).expect(&rt, "memory");
-    assert!(rt; applies(&mut page, &[(reserve(FIRST, 1), done(1))]));
     let paid = 4_611_686_018_427_387_904;
-    assert!(rt; quoted(&page, FIRST, LARGEST, 0) == (2001, 0, false, paid));
+    let first = [(reserve(FIRST, 1), done(1))];
+    assert!(rt; applies(&mut page, &first));
+    assert!(rt; quotes(&page, (FIRST, LARGEST, 0), (2001, 0, false, paid)));
     let rows = [
         (
             debit(FIRST, LARGEST),

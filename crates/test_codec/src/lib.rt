@@ -1,4 +1,4 @@
-//! Tests of the codec: AVPs, frames, the dictionary, groups and messages, over their public calls alone.
+//! Tests of AVPs, frames and the dictionary, over their public calls alone.
 #![tactic(auto)]
 
 #[cfg(test)]
@@ -7,7 +7,3 @@ mod avp;
 mod dict;
 #[cfg(test)]
 mod frame;
-#[cfg(test)]
-mod message;
-#[cfg(test)]
-mod tree;
