@@ -6,7 +6,7 @@ use Rattle.dia_dict.specs.Dictionary.{known}
 use Rattle.dia_dict.specs.declared.definition.Definition.{Definition}
 use Rattle.dia_msg.specs.declared.command.Command.{Command}
 use Rattle.dia_tree.specs.declared.fault.MsgFault.{MsgFault}
-use Rattle.dia_tree.specs.Code.{number_of}
+use Rattle.base_codes.specs.ResultCodes.{number_of}
 use Rattle.dia_msg.specs.Command.{header_of}
 use Rattle.dia_msg.specs.Reading.{IsReading}
 use Rattle.dia_msg.specs.Spelling.{IsTooLong, spell}
