@@ -1,17 +1,18 @@
 -- The book: its accounts and its journal, and what these two allow.
 use Rattle.std.specs.Prelude.{◌≤◌, ℕ, ◌+◌, ◌-◌, min, List, [], ◌∷◌, ◌++◌, ◌==◌, Bool, false, nat_le, nat_lt, ◌&&◌, ◌||◌, if◌then◌else◌, find, Option, None, Some, IfSome, is_some, length}
 use Rattle.std.specs.Option.{option_map, option_map_or}
+use Rattle.base_codes.specs.declared.result_code.ResultCode.{ResultCode}
+use Rattle.base_codes.specs.declared.result_code.ResultCode.TheVariants.{Success, CreditLimitReached, UserUnknown}
+use Rattle.base_list.specs.declared.error.AddFault.TheVariants.{Taken, Full}
 use Rattle.acct_book.specs.declared.op.Op.{Op}
 use Rattle.acct_book.specs.declared.op.Op.TheVariants.{Reserve, Debit, Release, Charge, Refund}
 use Rattle.acct_book.specs.declared.op.Outcome.{Outcome}
 use Rattle.acct_book.specs.declared.op.Outcome.TheVariants.{Done, Refused}
 use Rattle.acct_book.specs.declared.op.Booked.{Booked}
-use Rattle.acct_book.specs.declared.answer.Verdict.{Verdict}
-use Rattle.acct_book.specs.declared.answer.Verdict.TheVariants.{Success, CreditLimitReached, UserUnknown}
 use Rattle.acct_book.specs.declared.answer.Quote.{Quote}
 use Rattle.acct_book.specs.declared.answer.Totals.{Totals}
-use Rattle.acct_book.specs.declared.fault.OpenFault.{OpenFault}
-use Rattle.acct_book.specs.declared.fault.OpenFault.TheVariants.{Taken, TooLarge, Full}
+use Rattle.acct_book.specs.declared.error.OpenError.{OpenError}
+use Rattle.acct_book.specs.declared.error.OpenError.TheVariants.{NoMemory, TooLarge, Add}
 use Rattle.acct_book.specs.declared.limit.TheConstants.{MAX_ACCOUNTS, MAX_GIVEN}
 use Rattle.acct_book.specs.Sums.{own, reserved, debited, unpaid, account_of}
 
@@ -24,12 +25,6 @@ pub record Opened : Type 0 where
 pub record Book : Type 0 where
   pub accounts : List Opened
   pub journal : List Booked
-
--- the values of Result-Code (RFC 6733 section 7.1, RFC 8506 section 9)
-abbrev pub number_of : Verdict → ℕ
-number_of Success = 2001
-number_of CreditLimitReached = 4012
-number_of UserUnknown = 5030
 
 -- what the account was opened with
 abbrev pub given_of : List Opened → ℕ → Option ℕ
@@ -61,7 +56,7 @@ abbrev pub offer_of : Totals → ℕ → ℕ → ℕ → ℕ
 offer_of t own used want = min want (left_of t own used)
 
 -- success where something is offered or nothing is wanted, else the credit limit is reached
-abbrev pub verdict_of : ℕ → ℕ → Verdict
+abbrev pub verdict_of : ℕ → ℕ → ResultCode
 verdict_of want offer = if nat_le 1 offer || (want == 0) then Success else CreditLimitReached
 
 -- the last units: something is offered, and it is less than is wanted or all that is left
@@ -120,15 +115,22 @@ abbrev pub opened : Book → ℕ → ℕ → Book
 opened book id given = record { accounts = book.accounts ++ record { id = id; given = given } ∷ []; journal = book.journal }
 
 -- the refusal of an account: it is open already, then too much is given, then the page is full
-abbrev pub refusal_at : Bool → ℕ → ℕ → Option OpenFault
+abbrev pub refusal_at : Bool → ℕ → ℕ → Option OpenError
 refusal_at is_open given accounts =
-    if is_open then Some Taken
+    if is_open then Some (Add Taken)
     else (if nat_lt MAX_GIVEN given then Some TooLarge
-    else (if nat_le MAX_ACCOUNTS accounts then Some Full else None))
+    else (if nat_le MAX_ACCOUNTS accounts then Some (Add Full) else None))
 
 -- the refusal of an account on the page
-abbrev pub refusal_of : Book → ℕ → ℕ → Option OpenFault
+abbrev pub refusal_of : Book → ℕ → ℕ → Option OpenError
 refusal_of book id given = refusal_at (is_some (given_of book.accounts id)) given (length book.accounts)
+
+-- the number of an error: that of its refusal, in their order, and then want of memory
+abbrev pub number_of : OpenError → ℕ
+number_of (Add Taken) = 1
+number_of TooLarge = 2
+number_of (Add Full) = 3
+number_of NoMemory = 4
 
 -- of no account is more reserved and debited than was given
 abbrev pub NeverOver : Book → Type 0

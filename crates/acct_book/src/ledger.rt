@@ -3,15 +3,32 @@ ghost use Rattle.std.specs.Prelude.{◌≡◌, ◌≤◌, ◌<◌, ◌+◌, ◌^
 ghost use Rattle.std.specs.Prelude.{[], length, fold, count_by, nat_eq, vec_len};
 ghost use Rattle.std.specs.Prelude.{OnOk, OnErr, IfErr, IsSome, IsTrue};
 ghost use Rattle.indexmap.specs.IndexMap.{spare, get};
+ghost use Rattle.acct_book.specs.Book.{refusal_at};
 
 use crate::answer::Totals;
-use crate::fault::{NoMemory, OpenFault};
+use crate::error::{NoMemory, OpenError};
 use crate::holder::Holder;
-use crate::limit::{MAX_GIVEN, refusal};
+use crate::limit::{MAX_ACCOUNTS, MAX_GIVEN};
 use crate::op::{Booked, Op, Outcome};
 use crate::settle::held_then;
+use base_list::AddFault;
 use indexmap::IndexMap;
 use std::alloc::Global;
+
+// Why an account is not opened on a page that has so many, but for want of memory.
+fn refusal(is_open: bool, given: u64, accounts: usize) -> Option<OpenError>
+    ensures { result ≡ refusal_at is_open given accounts }
+{
+    if is_open {
+        Some(OpenError::Add(AddFault::Taken))
+    } else if given > MAX_GIVEN {
+        Some(OpenError::TooLarge)
+    } else if accounts >= MAX_ACCOUNTS {
+        Some(OpenError::Add(AddFault::Full))
+    } else {
+        None
+    }
+}
 
 /// The running totals by account, in the order of opening, the reservations, and the journal.
 #[derive(Drop)]
@@ -42,7 +59,7 @@ impl Ledger {
     }
 
     /// Why an account is not opened, but for want of memory.
-    pub(crate) fn refusal(&self, account: u64, given: u64) -> Option<OpenFault>
+    pub(crate) fn refusal(&self, account: u64, given: u64) -> Option<OpenError>
         ensures { result ≡ refusal_of (book_of self.now) account given }
     {
         let is_open = self.accounts.contains_key(&account);
@@ -57,14 +74,14 @@ impl Ledger {
     }
 
     /// Opens an account that isn't open.
-    pub(crate) fn open(&mut self, account: u64, given: u64) -> Result<(), OpenFault>
+    pub(crate) fn open(&mut self, account: u64, given: u64) -> Result<(), OpenError>
         requires some { 1 ≤ account }
         requires fresh { get nat_eq self.old.accounts account ≡ None }
         requires small { given ≤ MAX_GIVEN }
         ensures ok { OnOk result (book_of self.new ≡ opened (book_of self.old) account given) }
         ensures kept { IsKept self.old → IsKept self.new }
         ensures err { OnErr result (book_of self.new ≡ book_of self.old) }
-        ensures fault { IfErr result (λ fault. fault ≡ OpenFault.NoMemory) }
+        ensures fault { IfErr result (λ e. e ≡ OpenError.NoMemory) }
     {
         let totals = Totals {
             given,

@@ -2,7 +2,7 @@
 #![tactic(auto)]
 
 mod answer;
-mod fault;
+mod error;
 mod holder;
 mod law;
 mod ledger;
@@ -11,12 +11,9 @@ mod op;
 mod page;
 mod settle;
 
-pub use answer::{Quote, Totals, Verdict};
-pub use fault::{NoMemory, OpenFault};
+pub use answer::{Quote, Totals};
+pub use error::{NoMemory, OpenError};
 pub use law::{answered_is_never_over, reserved_is_sum_of_own};
 pub use limit::{MAX_ACCOUNTS, MAX_GIVEN};
 pub use op::{Booked, Op, Outcome};
 pub use page::Page;
-
-#[cfg(test)]
-mod tests;

@@ -2,11 +2,12 @@
 ghost use Rattle.std.specs.Prelude.{◌≡◌, ◌≤◌, ◌+◌, [], fold, unwrap_or};
 ghost use Rattle.std.specs.Prelude.{IfSome, IfOk, IfErr, OnOk, OnErr};
 
-use crate::answer::{Quote, Totals, Verdict};
-use crate::fault::{NoMemory, OpenFault};
+use crate::answer::{Quote, Totals};
+use crate::error::{NoMemory, OpenError};
 use crate::holder::Holder;
 use crate::ledger::Ledger;
 use crate::op::{Booked, Op, Outcome};
+use base_codes::ResultCode;
 use std::alloc::Global;
 use std::marker::Model;
 
@@ -45,17 +46,17 @@ impl Page {
 
     /// Opens an account with `given` units, after those that are open. Its number is that of a Subscription-Id-Data (RFC 8506
     /// section 8.48); 0 stands for a request that names no account.
-    pub fn open_account(&mut self, id: u64, given: u64) -> Result<(), OpenFault>
+    pub fn open_account(&mut self, id: u64, given: u64) -> Result<(), OpenError>
         requires { 1 ≤ id }
         ensures ok { OnOk result ((refusal_of self.old id given ≡ None)
             × (self.new ≡ opened self.old id given)) }
         // The first refusal that applies, and want of memory only where none does.
         ensures fault { IfErr result
-            (λ fault. fault ≡ unwrap_or (refusal_of self.old id given) OpenFault.NoMemory) }
+            (λ e. e ≡ unwrap_or (refusal_of self.old id given) OpenError.NoMemory) }
         ensures err { OnErr result (self.new ≡ self.old) }
     {
         match self.ledger.refusal(id, given) {
-            Some(fault) => Err(fault),
+            Some(refusal) => Err(refusal),
             None => self.ledger.open(id, given),
         }
     }
@@ -67,7 +68,7 @@ impl Page {
     {
         let Some(totals) = self.ledger.totals(account) else {
             return Quote {
-                verdict: Verdict::UserUnknown,
+                verdict: ResultCode::UserUnknown,
                 offer: 0,
                 is_final: false,
                 pay: 0,

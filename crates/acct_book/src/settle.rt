@@ -5,8 +5,9 @@ ghost use Rattle.acct_book.specs.Sums.{unpaid_of};
 ghost use Rattle.acct_book.specs.Book.{free_of, quote_at, outcome_at};
 ghost use Rattle.acct_book.specs.Kept.{IsSound, totals_after, held_after};
 
-use crate::answer::{Quote, Totals, Verdict};
+use crate::answer::{Quote, Totals};
 use crate::op::{Op, Outcome};
+use base_codes::ResultCode;
 
 impl Totals {
     // What is neither reserved nor debited.
@@ -27,9 +28,9 @@ impl Totals {
         let left = funds - pay;
         let offer = want.min(left);
         let verdict = if offer >= 1 || want == 0 {
-            Verdict::Success
+            ResultCode::Success
         } else {
-            Verdict::CreditLimitReached
+            ResultCode::CreditLimitReached
         };
         let is_final = offer >= 1 && (offer < want || left == offer);
         Quote {

@@ -1,11 +1,1 @@
-pub mod Meaning
-pub mod HexText
-pub mod Puts
-pub mod EndLemmas
-pub mod RunLemmas
 pub mod WordLemmas
-pub mod ReadLemmas
-pub mod EventLemmas
-pub mod WalkLemmas
-pub mod FactsLemmas
-pub mod EventExamples

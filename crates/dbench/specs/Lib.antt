@@ -1,14 +1,2 @@
-pub mod Statuses
-pub mod Devices
-pub mod Digits
-pub mod Stops
-pub mod Lines
-pub mod Ends
 pub mod Words
 pub mod Asked
-pub mod Printed
-pub mod Reports
-pub mod Inputs
-pub mod Readings
-pub mod Events
-pub mod Walks

@@ -4,8 +4,8 @@ use Rattle.clap.specs.Words.{App, IsAmong, Kinds, Text, fault_of, first_of, new_
 use Rattle.clap.specs.Simple.{on_top}
 use Rattle.clap.specs.declared.error.kind.ErrorKind.{ErrorKind}
 use Rattle.clap.specs.declared.error.kind.ErrorKind.TheVariants.{DisplayHelp, DisplayVersion}
-use Rattle.dbench.specs.declared.status.Status.{Status}
-use Rattle.dbench.specs.declared.status.Status.TheVariants as statuses
+use Rattle.bench_device.specs.declared.status.Status.{Status}
+use Rattle.bench_device.specs.declared.status.Status.TheVariants as statuses
 use Rattle.dbench.specs.declared.words.NoWords.{NoWords}
 use Rattle.dbench.specs.declared.words.NoWords.TheVariants as no_words
 

@@ -1,15 +1,13 @@
 //! One run of the program: from words, an input and an output to a status.
 ghost use Rattle.std.specs.Prelude.{◌≡◌, ◌≢◌, ◌⊎◌, ◌<◌, ◌≤◌, ◌+◌, ◌-◌, ◌^◌, [], None, map, max};
 ghost use Rattle.std.specs.Io.KnownBytes.{IsAtEnd};
-ghost use Rattle.dbench.specs.Devices.{IsRun, Tells};
-ghost use Rattle.dbench.specs.Inputs.{IsReport};
+ghost use Rattle.bench_device.specs.Devices.{IsRun, Tells};
+ghost use Rattle.msg_text.specs.Inputs.{IsReport};
 ghost use Rattle.dbench.specs.Words.{AreRefused, AskForText, file_of, no_words_status, no_words_text, word_faults};
 
-use crate::device::{ByteSink, FileSource};
-use crate::output::{MAX_IDLE_WRITES, tell};
-use crate::read::{MAX_READS, read_on};
-use crate::status::Status;
 use crate::words::{Asked, NoWords, WordsError, parse_words};
+use bench_device::{ByteSink, FileSource, MAX_IDLE_WRITES, Status, tell};
+use msg_text::{MAX_READS, read_on};
 use std::alloc::{AllocError, Global};
 use std::convert::AsStr;
 

@@ -1,7 +1,7 @@
 ghost use Rattle.std.specs.Prelude.{◌≡◌, IfOk};
 ghost use Rattle.dia_avp.specs.View.{seen};
 
-use crate::octets::Octets;
+use base_list::Octets;
 use std::alloc::{AllocError, Global};
 
 /// An attribute-value pair (RFC 6733 section 4.1). `vendor` is the Vendor-ID, which stands there only with flag V;

@@ -7,6 +7,7 @@ ghost use Rattle.dia_avp.specs.Reading.{avp_at, avps_in, vendor_at};
 
 use crate::avp::AvpView;
 use crate::fault::FaultCode;
+use base_codes::{AVP_HEADER_LEN, AVP_VENDOR_HEADER_LEN};
 use byteorder::{BigEndian, ByteOrder};
 
 const VENDOR: u8 = 0x80;
@@ -19,8 +20,8 @@ fn header_len_of(octets: &[u8]) -> usize
     ensures { result ≡ header_len octets.now }
 {
     match octets.get(4) {
-        Some(flags) if *flags & VENDOR != 0 => 12,
-        _ => 8,
+        Some(flags) if *flags & VENDOR != 0 => AVP_VENDOR_HEADER_LEN,
+        _ => AVP_HEADER_LEN,
     }
 }
 
@@ -32,7 +33,7 @@ fn vendor_of(octets: &[u8]) -> Option<u32>
     if octets[4] & VENDOR == 0 {
         return None;
     }
-    match BigEndian::read_u32(&octets[8..]) {
+    match BigEndian::read_u32(&octets[AVP_HEADER_LEN..]) {
         0 => None,
         id => Some(id),
     }

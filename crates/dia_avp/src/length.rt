@@ -7,9 +7,7 @@ ghost use Rattle.dia_avp.specs.Spelling.{length_of, spelled, spelling, HasLong};
 
 use crate::avp::{Avp, AvpView};
 use crate::avp_list::AvpList;
-
-/// The greatest length that 24 bits hold.
-const MAX_LENGTH: usize = 0xff_ffff;
+use base_codes::{AVP_HEADER_LEN, AVP_VENDOR_HEADER_LEN, MAX_LENGTH};
 
 /// The AVP Length: header, Vendor-ID and data.
 #[tactic(auto, unfolding(crate::specs::Spelling::length_of))]
@@ -18,8 +16,8 @@ pub(crate) fn length_of(avp: &AvpView<'_>) -> usize
     ensures small { result < 2 ^ 63 + 16 }
 {
     let header = match avp.vendor {
-        None | Some(0) => 8,
-        Some(_) => 12,
+        None | Some(0) => AVP_HEADER_LEN,
+        Some(_) => AVP_VENDOR_HEADER_LEN,
     };
     header + avp.octets.len()
 }

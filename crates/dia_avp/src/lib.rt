@@ -9,20 +9,16 @@ mod field;
 mod first;
 mod group;
 mod length;
-mod octets;
 mod reading;
 mod writing;
 
 pub use address::{Address, address_of};
 pub use avp::{Avp, AvpView};
 pub use avp_list::AvpList;
+pub use base_list::Octets;
 pub use fault::{AvpFault, FaultCode, FieldFault, GroupError, ReadError, WriteError};
 pub use field::{identity_of, text_of, u32_of, u64_of};
 pub use first::first_avp;
 pub use group::group_of;
-pub use octets::Octets;
 pub use reading::{MAX_AVPS, MAX_DEPTH, read_avps};
 pub use writing::{put_avp, put_avps, put_group, write_avp, write_avps};
-
-#[cfg(test)]
-mod tests;

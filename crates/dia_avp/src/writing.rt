@@ -9,6 +9,7 @@ use crate::avp::{Avp, AvpView};
 use crate::avp_list::AvpList;
 use crate::fault::WriteError;
 use crate::length::{has_long, is_long, length_of, spelled_len_of};
+use base_codes::AVP_HEADER_LEN;
 use byteorder::{BigEndian, ByteOrder};
 
 fn flags_of(vendor: Option<u32>, mandatory: bool, protected: bool) -> u8
@@ -23,12 +24,12 @@ fn flags_of(vendor: Option<u32>, mandatory: bool, protected: bool) -> u8
     vendor + mandatory + protected
 }
 
-fn header_of(code: u32, flags: u8, len: u32) -> [u8; 8]
+fn header_of(code: u32, flags: u8, len: u32) -> [u8; AVP_HEADER_LEN]
     requires { len < 2 ^ 24 }
     ensures octets { result ≡ header code flags len }
     ensures fits { code < 2 ^ 32 }
 {
-    let mut octets = [0; 8];
+    let mut octets = [0; AVP_HEADER_LEN];
     BigEndian::write_u32(&mut octets, code);
     octets[4] = flags;
     BigEndian::write_u24(&mut octets[5..], len);
@@ -113,7 +114,7 @@ pub fn put_group(code: u32, mandatory: bool, protected: bool, list: &AvpList, ou
     ensures numbers { HasNumbers (group_avp code mandatory protected list.now) }
     ensures inner { All HasNumbers list.now }
 {
-    let len = 8 + spelled_len_of(list.as_slice()).unwrap();
+    let len = AVP_HEADER_LEN + spelled_len_of(list.as_slice()).unwrap();
     let flags = flags_of(None, mandatory, protected);
     put(out, &header_of(code, flags, len as u32));
     put_avps(list.as_slice(), out);

@@ -1,13 +1,13 @@
 -- A dictionary is the list of the definitions that were added to those which every dictionary has, in order of adding.
 use Rattle.std.specs.Prelude.{◌≡◌, ℕ, Bool, false, ◌==◌, ◌&&◌, ◌||◌, nat_le, if◌then◌else◌, List, [], ◌∷◌, ◌++◌, length, find, All, Option, None, Some, is_some, unwrap_or}
 use Rattle.std.specs.Str.{bytes_eq}
+use Rattle.base_list.specs.declared.error.AddFault.{AddFault}
+use Rattle.base_list.specs.declared.error.AddFault.TheVariants.{Taken, Full}
 use Rattle.dia_avp.specs.declared.avp.Avp.{Avp}
 use Rattle.dia_dict.specs.declared.definition.AvpKind.{AvpKind}
 use Rattle.dia_dict.specs.declared.definition.Definition.{Definition}
 use Rattle.dia_dict.specs.declared.fault.DictFault.{DictFault}
 use Rattle.dia_dict.specs.declared.fault.DictFault.TheVariants.{Unknown, UnknownMandatory}
-use Rattle.dia_dict.specs.declared.fault.AddError.{AddError}
-use Rattle.dia_dict.specs.declared.fault.AddError.TheVariants.{Taken, Full}
 use Rattle.dia_dict.specs.declared.field.Field.{Field}
 use Rattle.dia_dict.specs.Base.{base}
 use Rattle.dia_dict.specs.Kind.{data_fault, IsValueOf}
@@ -54,7 +54,7 @@ abbrev pub defined : ℕ → Option ℕ → List ℕ → AvpKind → Definition
 defined code vendor name kind = record { code = code; vendor = vendor; name = name; kind = kind }
 
 -- why a definition may not be added, memory aside: its code and vendor, or its name, has one, or else there are 256 already
-abbrev pub refusal : List Definition → ℕ → Option ℕ → List ℕ → Option AddError
+abbrev pub refusal : List Definition → ℕ → Option ℕ → List ℕ → Option AddFault
 refusal definitions code vendor name =
     if is_taken definitions code vendor name then Some Taken else if nat_le 256 (length definitions) then Some Full else None
 

@@ -1,7 +1,7 @@
 ghost use Rattle.std.specs.Prelude.{◌≡◌};
 ghost use Rattle.dia_dict.specs.Kind.{least_size};
 
-use dia_avp::Octets;
+use base_list::Octets;
 
 /// The type of an AVP's data (RFC 6733 sections 4.2 and 4.3.1).
 #[derive(Clone, Copy, Debug, PartialEq, Eq)]

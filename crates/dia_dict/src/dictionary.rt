@@ -1,13 +1,15 @@
 //! The dictionary.
 
-ghost use Rattle.std.specs.Prelude.{◌≡◌, None, Some, [], ◌∷◌, ◌++◌, IfOk, IfErr, OnOk, OnErr, slice_get, unwrap_or};
+ghost use Rattle.std.specs.Prelude.{◌≡◌, None, Some, [], ◌∷◌, ◌++◌, IfOk, IfErr, OnOk, OnErr, slice_get};
 ghost use Rattle.std.specs.Option.{option_copied};
+ghost use Rattle.base_list.specs.Adding.{error_of};
 ghost use Rattle.dia_avp.specs.View.{seen};
 
 use crate::definition::{AvpKind, Definition};
-use crate::fault::{AddError, DictFault};
+use crate::fault::DictFault;
 use crate::field::Field;
 use crate::table::Table;
+use base_list::AddError;
 use dia_avp::AvpView;
 use std::alloc::{AllocError, Global};
 use std::marker::Model;
@@ -63,7 +65,7 @@ impl Dictionary {
 
         // It is refused by the definitions that are there, and for want of memory only where nothing else is refused.
         ensures free { OnOk result (refusal (known self.old) code vendor name.now ≡ None) }
-        ensures fault { IfErr result (λ e. e ≡ unwrap_or (refusal (known self.old) code vendor name.now) AddError.NoMemory) }
+        ensures fault { IfErr result (λ e. e ≡ error_of (refusal (known self.old) code vendor name.now)) }
         ensures err { OnErr result (self.new ≡ self.old) }
     {
         self.table.add(code, vendor, name, kind)

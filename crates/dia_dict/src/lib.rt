@@ -12,9 +12,6 @@ mod table;
 
 pub use definition::{AvpKind, Definition};
 pub use dictionary::Dictionary;
-pub use fault::{AddError, DictFault};
+pub use fault::DictFault;
 pub use field::Field;
 pub use table::MAX_DEFINITIONS;
-
-#[cfg(test)]
-mod tests;

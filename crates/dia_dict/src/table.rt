@@ -1,13 +1,13 @@
 //! Definitions in order of adding, found by AVP Code and vendor.
 
-ghost use Rattle.std.specs.Prelude.{◌≡◌, false, None, Some, [], ◌∷◌, ◌++◌, IfOk, OnOk, OnErr, IfErr, length, slice_get, unwrap_or};
+ghost use Rattle.std.specs.Prelude.{◌≡◌, false, None, Some, [], ◌∷◌, ◌++◌, IfOk, OnOk, OnErr, IfErr, length, slice_get};
 ghost use Rattle.std.specs.Option.{option_copied};
+ghost use Rattle.base_list.specs.Adding.{error_of};
 
 use crate::base::BASE;
 use crate::definition::{AvpKind, Definition};
-use crate::fault::AddError;
 use crate::key::Key;
-use dia_avp::Octets;
+use base_list::{AddError, AddFault, Octets};
 use indexmap::IndexMap;
 use std::alloc::{AllocError, Global};
 use std::marker::Model;
@@ -84,14 +84,14 @@ impl Table {
     ) -> Result<(), AddError>
         ensures ok { OnOk result (self.new ≡ self.old ++ defined code vendor name.now kind ∷ []) }
         ensures free { OnOk result (refusal self.old code vendor name.now ≡ None) }
-        ensures fault { IfErr result (λ e. e ≡ unwrap_or (refusal self.old code vendor name.now) AddError.NoMemory) }
+        ensures fault { IfErr result (λ e. e ≡ error_of (refusal self.old code vendor name.now)) }
         ensures err { OnErr result (self.new ≡ self.old) }
     {
         if self.find(code, vendor).is_some() || self.by_name(name).is_some() {
-            return Err(AddError::Taken);
+            return Err(AddError::Fault(AddFault::Taken));
         }
         if self.map.len() >= MAX_DEFINITIONS {
-            return Err(AddError::Full);
+            return Err(AddError::Fault(AddFault::Full));
         }
         let name = Octets::from_slice(*self.map.allocator(), name.as_bytes())?;
         self.append(Definition {

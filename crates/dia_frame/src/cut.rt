@@ -5,13 +5,11 @@ ghost use Rattle.dia_frame.specs.Frames.{fault_of, is_bad_length};
 ghost use Rattle.dia_frame.specs.Whole.{whole_len, Cuts};
 
 use crate::fault::FrameFault;
-use crate::frame::Frame;
+use base_codes::{HEADER_LEN, VERSION};
+use base_list::Octets;
 use byteorder::{BigEndian, ByteOrder};
 use std::alloc::{AllocError, Global};
 use std::collections::VecDeque;
-
-/// The octets of a message's header.
-const HEADER_LEN: usize = 20;
 
 fn is_bad_length(limit: usize, len: usize) -> bool
     ensures { result ≡ is_bad_length limit len }
@@ -26,7 +24,7 @@ pub(crate) fn fault_of(limit: usize, octets: &[u8]) -> Option<FrameFault>
     match octets {
         [] => None,
         [version, octets @ ..] => {
-            if *version != 1 {
+            if *version != VERSION {
                 return Some(FrameFault::Version);
             }
             if octets.len() < 3 {
@@ -54,11 +52,15 @@ fn whole_len(limit: usize, octets: &[u8]) -> Option<usize>
     Some(len)
 }
 
-fn push_frame(alloc: Global, octets: &[u8], waiting: &mut VecDeque<Frame>) -> Result<(), AllocError>
+fn push_frame(
+    alloc: Global,
+    octets: &[u8],
+    waiting: &mut VecDeque<Octets>,
+) -> Result<(), AllocError>
     ensures ok { OnOk result (waiting.new.items ≡ waiting.old.items ++ octets.now ∷ []) }
     ensures err { OnErr result (waiting.new.items ≡ waiting.old.items) }
 {
-    let frame = Frame::new(alloc, octets)?;
+    let frame = Octets::from_slice(alloc, octets)?;
     waiting.push_back(frame)?;
     Ok(())
 }
@@ -69,7 +71,7 @@ pub(crate) fn cut_frames(
     alloc: Global,
     limit: usize,
     octets: &[u8],
-    waiting: &mut VecDeque<Frame>,
+    waiting: &mut VecDeque<Octets>,
 ) -> Result<usize, AllocError>
     ensures ok { IfOk result (Cuts octets.now limit waiting.old.items waiting.new.items) }
     ensures err { OnErr result (waiting.new.items ≡ waiting.old.items) }

@@ -4,7 +4,7 @@ ghost use Rattle.std.specs.Prelude.{◌≡◌, ◌∷◌, [], ◌++◌, length, 
 
 use crate::cut::{cut_frames, drop_front, fault_of};
 use crate::fault::{FeedError, FrameFault};
-use crate::frame::Frame;
+use base_list::Octets;
 use std::alloc::{AllocError, Global};
 use std::collections::VecDeque;
 use std::marker::Model;
@@ -17,7 +17,7 @@ use std::marker::Model;
 pub struct Framer {
     alloc: Global,
     limit: usize,
-    waiting: VecDeque<Frame>,
+    waiting: VecDeque<Octets>,
     rest: Vec<u8>,
     broken: bool,
 }
@@ -87,7 +87,7 @@ impl Framer {
     }
 
     /// The oldest frame that waits. Takes no memory.
-    pub fn next_frame(&mut self) -> Option<Frame>
+    pub fn next_frame(&mut self) -> Option<Octets>
         ensures oldest { MatchOption result
             ((self.old.waiting ≡ []) × (self.new ≡ self.old))
             (λ m. self.old ≡ record self.new { waiting = m ∷ self.new.waiting }) }
@@ -118,7 +118,7 @@ impl Framer {
         let mut waiting = VecDeque::with_capacity(self.alloc, self.waiting.len())?;
         for i in 0..self.waiting.len() {
             let frame = &self.waiting[i];
-            waiting.push_back(Frame::new(self.alloc, frame.octets())?)?;
+            waiting.push_back(frame.copy(self.alloc)?)?;
         }
         Ok(Framer {
             alloc: self.alloc,

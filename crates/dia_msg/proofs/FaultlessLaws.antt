@@ -3,8 +3,8 @@ use Rattle.std.proofs.Common.{◌≡◌, ℕ, ◌%◌, ◌≤◌, Bool, true, fa
 use Rattle.std.specs.Prelude.{slice_index, is_none, nat_lt}
 use Rattle.std.proofs.lemmas.Bool.{le-ltb, ltb-false, eq-eqb, eqb-true}
 use Rattle.dia_tree.specs.declared.fault.MsgFault.{MsgFault}
-use Rattle.dia_tree.specs.declared.code.ResultCode.{ResultCode}
-use Rattle.dia_tree.specs.declared.code.ResultCode.TheVariants.{InvalidMessageLength, UnsupportedVersion, CommandUnsupported, ApplicationUnsupported}
+use Rattle.base_codes.specs.declared.result_code.ResultCode.{ResultCode}
+use Rattle.base_codes.specs.declared.result_code.ResultCode.TheVariants.{InvalidMessageLength, UnsupportedVersion, CommandUnsupported, ApplicationUnsupported}
 use Rattle.dia_msg.specs.declared.rules.CommandKind.{CommandKind}
 use Rattle.dia_msg.specs.Header.{header_in}
 use Rattle.dia_msg.specs.Faults.{fault_if, is_bad_length, is_bad_application, kind_in, header_faults}

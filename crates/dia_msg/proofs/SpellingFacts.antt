@@ -3,7 +3,7 @@ use Rattle.std.proofs.Common.{◌≡◌, ℕ, true, false, List, [], ◌∷◌, 
 use Rattle.std.specs.Prelude.{codes}
 use Rattle.dia_avp.specs.declared.avp.Avp.{Avp}
 use Rattle.dia_avp.specs.Spelling.{length_of, spelled}
-use Rattle.dia_tree.specs.declared.code.ResultCode.TheVariants.{CommandUnsupported, MissingAvp}
+use Rattle.base_codes.specs.declared.result_code.ResultCode.TheVariants.{CommandUnsupported, MissingAvp}
 use Rattle.dia_msg.specs.declared.command.Command.{Command}
 use Rattle.dia_msg.specs.declared.command.Command.TheVariants.{Cer, Cea, Dwr, Dwa, Dpr, Dpa, Rar, Raa, Ccr, Cca}
 use Rattle.dia_msg.specs.declared.typed.Identity.{Identity}

@@ -1,7 +1,7 @@
 -- Headers, kinds and missing AVPs by example: the definitions of reading are checked by computation.
 use Rattle.std.proofs.Common.{◌≡◌, ℕ, true, false, List, [], ◌∷◌, ◌++◌, None, Some, refl}
 use Rattle.dia_avp.specs.declared.avp.Avp.{Avp}
-use Rattle.dia_tree.specs.declared.code.ResultCode.TheVariants.{InvalidMessageLength, UnsupportedVersion, CommandUnsupported, ApplicationUnsupported}
+use Rattle.base_codes.specs.declared.result_code.ResultCode.TheVariants.{InvalidMessageLength, UnsupportedVersion, CommandUnsupported, ApplicationUnsupported}
 use Rattle.dia_tree.specs.Faults.{fault}
 use Rattle.dia_msg.specs.declared.header.Flags.{Flags}
 use Rattle.dia_msg.specs.declared.rules.CommandKind.TheVariants.{DeviceWatchdogRequest, CreditControlRequest, CreditControlAnswer, ErrorAnswer}

@@ -2,7 +2,7 @@
 use Rattle.std.specs.Prelude.{ℕ, ◌/◌, ◌==◌, true, false, List, [], Option}
 use Rattle.std.specs.Option.{option_map}
 use Rattle.dia_avp.specs.Spelling.{spelled}
-use Rattle.dia_tree.specs.Code.{number_of}
+use Rattle.base_codes.specs.ResultCodes.{number_of}
 use Rattle.dia_msg.specs.declared.command.Command.{Command}
 use Rattle.dia_msg.specs.declared.command.Command.TheVariants.{ErrorAnswer}
 use Rattle.dia_tree.specs.declared.fault.MsgFault.{MsgFault}

@@ -5,8 +5,8 @@ use Rattle.dia_avp.specs.declared.avp.Avp.{Avp}
 use Rattle.dia_avp.specs.Reading.{avps_in}
 use Rattle.dia_dict.specs.declared.definition.Definition.{Definition}
 use Rattle.dia_tree.specs.declared.fault.MsgFault.{MsgFault}
-use Rattle.dia_tree.specs.declared.code.ResultCode.{ResultCode}
-use Rattle.dia_tree.specs.declared.code.ResultCode.TheVariants.{CommandUnsupported, ApplicationUnsupported, UnsupportedVersion, InvalidMessageLength}
+use Rattle.base_codes.specs.declared.result_code.ResultCode.{ResultCode}
+use Rattle.base_codes.specs.declared.result_code.ResultCode.TheVariants.{CommandUnsupported, ApplicationUnsupported, UnsupportedVersion, InvalidMessageLength}
 use Rattle.dia_tree.specs.Faults.{fault, group_faults, missing_fault}
 use Rattle.dia_msg.specs.declared.header.Flags.{Flags}
 use Rattle.dia_msg.specs.declared.rules.CommandKind.{CommandKind}

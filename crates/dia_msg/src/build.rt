@@ -18,12 +18,9 @@ use crate::source::Source;
 use std::alloc::AllocError;
 
 impl Source<'_> {
-    fn capabilities_exchange_request(
-        &self,
-        header: Header,
-    ) -> Result<CapabilitiesExchangeRequest, AllocError>
+    fn capabilities_exchange_request(&self, header: Header) -> Result<Command, AllocError>
         requires { All (λ a. length_of a < 2 ^ 24) (seen_all self.now.avps.now) }
-        ensures { IfOk result (λ c. Command.Cer c ≡ made_by (known self.now.dictionary.now) CommandKind.CapabilitiesExchangeRequest header false (seen_all self.now.avps.now)) }
+        ensures { IfOk result (λ c. c ≡ made_by (known self.now.dictionary.now) CommandKind.CapabilitiesExchangeRequest header false (seen_all self.now.avps.now)) }
     {
         let rules = rules::capabilities_exchange_request();
         let [
@@ -34,7 +31,7 @@ impl Source<'_> {
             product_name,
             auth_application_id,
         ] = rules;
-        Ok(CapabilitiesExchangeRequest {
+        Ok(Command::Cer(CapabilitiesExchangeRequest {
             header,
             origin_host: self.octets(origin_host)?,
             origin_realm: self.octets(origin_realm)?,
@@ -43,15 +40,12 @@ impl Source<'_> {
             product_name: self.octets(product_name)?,
             auth_application_id: self.all_numbers(auth_application_id)?,
             rest: self.rest(&rules)?,
-        })
+        }))
     }
 
-    fn capabilities_exchange_answer(
-        &self,
-        header: Header,
-    ) -> Result<CapabilitiesExchangeAnswer, AllocError>
+    fn capabilities_exchange_answer(&self, header: Header) -> Result<Command, AllocError>
         requires { All (λ a. length_of a < 2 ^ 24) (seen_all self.now.avps.now) }
-        ensures { IfOk result (λ c. Command.Cea c ≡ made_by (known self.now.dictionary.now) CommandKind.CapabilitiesExchangeAnswer header false (seen_all self.now.avps.now)) }
+        ensures { IfOk result (λ c. c ≡ made_by (known self.now.dictionary.now) CommandKind.CapabilitiesExchangeAnswer header false (seen_all self.now.avps.now)) }
     {
         let rules = rules::capabilities_exchange_answer();
         let [
@@ -63,7 +57,7 @@ impl Source<'_> {
             product_name,
             auth_application_id,
         ] = rules;
-        Ok(CapabilitiesExchangeAnswer {
+        Ok(Command::Cea(CapabilitiesExchangeAnswer {
             header,
             result_code: self.number(result_code),
             origin_host: self.octets(origin_host)?,
@@ -73,71 +67,71 @@ impl Source<'_> {
             product_name: self.octets(product_name)?,
             auth_application_id: self.all_numbers(auth_application_id)?,
             rest: self.rest(&rules)?,
-        })
+        }))
     }
 
-    fn device_watchdog_request(&self, header: Header) -> Result<DeviceWatchdogRequest, AllocError>
+    fn device_watchdog_request(&self, header: Header) -> Result<Command, AllocError>
         requires { All (λ a. length_of a < 2 ^ 24) (seen_all self.now.avps.now) }
-        ensures { IfOk result (λ c. Command.Dwr c ≡ made_by (known self.now.dictionary.now) CommandKind.DeviceWatchdogRequest header false (seen_all self.now.avps.now)) }
+        ensures { IfOk result (λ c. c ≡ made_by (known self.now.dictionary.now) CommandKind.DeviceWatchdogRequest header false (seen_all self.now.avps.now)) }
     {
         let rules = rules::device_watchdog_request();
         let [origin_host, origin_realm] = rules;
-        Ok(DeviceWatchdogRequest {
+        Ok(Command::Dwr(DeviceWatchdogRequest {
             header,
             origin_host: self.octets(origin_host)?,
             origin_realm: self.octets(origin_realm)?,
             rest: self.rest(&rules)?,
-        })
+        }))
     }
 
-    fn device_watchdog_answer(&self, header: Header) -> Result<DeviceWatchdogAnswer, AllocError>
+    fn device_watchdog_answer(&self, header: Header) -> Result<Command, AllocError>
         requires { All (λ a. length_of a < 2 ^ 24) (seen_all self.now.avps.now) }
-        ensures { IfOk result (λ c. Command.Dwa c ≡ made_by (known self.now.dictionary.now) CommandKind.DeviceWatchdogAnswer header false (seen_all self.now.avps.now)) }
+        ensures { IfOk result (λ c. c ≡ made_by (known self.now.dictionary.now) CommandKind.DeviceWatchdogAnswer header false (seen_all self.now.avps.now)) }
     {
         let rules = rules::device_watchdog_answer();
         let [result_code, origin_host, origin_realm] = rules;
-        Ok(DeviceWatchdogAnswer {
+        Ok(Command::Dwa(DeviceWatchdogAnswer {
             header,
             result_code: self.number(result_code),
             origin_host: self.octets(origin_host)?,
             origin_realm: self.octets(origin_realm)?,
             rest: self.rest(&rules)?,
-        })
+        }))
     }
 
-    fn disconnect_peer_request(&self, header: Header) -> Result<DisconnectPeerRequest, AllocError>
+    fn disconnect_peer_request(&self, header: Header) -> Result<Command, AllocError>
         requires { All (λ a. length_of a < 2 ^ 24) (seen_all self.now.avps.now) }
-        ensures { IfOk result (λ c. Command.Dpr c ≡ made_by (known self.now.dictionary.now) CommandKind.DisconnectPeerRequest header false (seen_all self.now.avps.now)) }
+        ensures { IfOk result (λ c. c ≡ made_by (known self.now.dictionary.now) CommandKind.DisconnectPeerRequest header false (seen_all self.now.avps.now)) }
     {
         let rules = rules::disconnect_peer_request();
         let [origin_host, origin_realm, disconnect_cause] = rules;
-        Ok(DisconnectPeerRequest {
+        Ok(Command::Dpr(DisconnectPeerRequest {
             header,
             origin_host: self.octets(origin_host)?,
             origin_realm: self.octets(origin_realm)?,
             disconnect_cause: self.number(disconnect_cause),
             rest: self.rest(&rules)?,
-        })
+        }))
     }
 
-    fn disconnect_peer_answer(&self, header: Header) -> Result<DisconnectPeerAnswer, AllocError>
+    fn disconnect_peer_answer(&self, header: Header) -> Result<Command, AllocError>
         requires { All (λ a. length_of a < 2 ^ 24) (seen_all self.now.avps.now) }
-        ensures { IfOk result (λ c. Command.Dpa c ≡ made_by (known self.now.dictionary.now) CommandKind.DisconnectPeerAnswer header false (seen_all self.now.avps.now)) }
+        ensures { IfOk result (λ c. c ≡ made_by (known self.now.dictionary.now) CommandKind.DisconnectPeerAnswer header false (seen_all self.now.avps.now)) }
     {
         let rules = rules::disconnect_peer_answer();
         let [result_code, origin_host, origin_realm] = rules;
-        Ok(DisconnectPeerAnswer {
+        Ok(Command::Dpa(DisconnectPeerAnswer {
             header,
             result_code: self.number(result_code),
             origin_host: self.octets(origin_host)?,
             origin_realm: self.octets(origin_realm)?,
             rest: self.rest(&rules)?,
-        })
+        }))
     }
 
-    fn re_auth_request(&self, header: Header) -> Result<ReAuthRequest, AllocError>
+    fn re_auth_request(&self, header: Header) -> Result<Command, AllocError>
         requires { All (λ a. length_of a < 2 ^ 24) (seen_all self.now.avps.now) }
-        ensures { IfOk result (λ c. Command.Rar c ≡ made_by (known self.now.dictionary.now) CommandKind.ReAuthRequest header false (seen_all self.now.avps.now)) }
+        ensures { IfOk result (λ c. c ≡ made_by (known self.now.dictionary.now) CommandKind.ReAuthRequest header false (seen_all self.now.avps.now)) }
     {
         let rules = rules::re_auth_request();
         let [
@@ -149,7 +143,7 @@ impl Source<'_> {
             auth_application_id,
             re_auth_request_type,
         ] = rules;
-        Ok(ReAuthRequest {
+        Ok(Command::Rar(ReAuthRequest {
             header,
             session_id: self.octets(session_id)?,
             origin_host: self.octets(origin_host)?,
@@ -159,32 +153,28 @@ impl Source<'_> {
             auth_application_id: self.number(auth_application_id),
             re_auth_request_type: self.number(re_auth_request_type),
             rest: self.rest(&rules)?,
-        })
+        }))
     }
 
-    fn re_auth_answer(&self, header: Header) -> Result<ReAuthAnswer, AllocError>
+    fn re_auth_answer(&self, header: Header) -> Result<Command, AllocError>
         requires { All (λ a. length_of a < 2 ^ 24) (seen_all self.now.avps.now) }
-        ensures { IfOk result (λ c. Command.Raa c ≡ made_by (known self.now.dictionary.now) CommandKind.ReAuthAnswer header false (seen_all self.now.avps.now)) }
+        ensures { IfOk result (λ c. c ≡ made_by (known self.now.dictionary.now) CommandKind.ReAuthAnswer header false (seen_all self.now.avps.now)) }
     {
         let rules = rules::re_auth_answer();
         let [session_id, result_code, origin_host, origin_realm] = rules;
-        Ok(ReAuthAnswer {
+        Ok(Command::Raa(ReAuthAnswer {
             header,
             session_id: self.octets(session_id)?,
             result_code: self.number(result_code),
             origin_host: self.octets(origin_host)?,
             origin_realm: self.octets(origin_realm)?,
             rest: self.rest(&rules)?,
-        })
+        }))
     }
 
-    fn credit_control_request(
-        &self,
-        header: Header,
-        event: bool,
-    ) -> Result<CreditControlRequest, AllocError>
+    fn credit_control_request(&self, header: Header, event: bool) -> Result<Command, AllocError>
         requires { All (λ a. length_of a < 2 ^ 24) (seen_all self.now.avps.now) }
-        ensures { IfOk result (λ c. Command.Ccr c ≡ made_by (known self.now.dictionary.now) CommandKind.CreditControlRequest header event (seen_all self.now.avps.now)) }
+        ensures { IfOk result (λ c. c ≡ made_by (known self.now.dictionary.now) CommandKind.CreditControlRequest header event (seen_all self.now.avps.now)) }
     {
         let rules = rules::credit_control_request(event);
         let [
@@ -201,7 +191,7 @@ impl Source<'_> {
             requested_service_unit,
             used_service_unit,
         ] = rules;
-        Ok(CreditControlRequest {
+        Ok(Command::Ccr(CreditControlRequest {
             header,
             session_id: self.octets(session_id)?,
             origin_host: self.octets(origin_host)?,
@@ -216,12 +206,12 @@ impl Source<'_> {
             requested_service_unit: self.optional_group(requested_service_unit)?,
             used_service_unit: self.all_groups(used_service_unit)?,
             rest: self.rest(&rules)?,
-        })
+        }))
     }
 
-    fn credit_control_answer(&self, header: Header) -> Result<CreditControlAnswer, AllocError>
+    fn credit_control_answer(&self, header: Header) -> Result<Command, AllocError>
         requires { All (λ a. length_of a < 2 ^ 24) (seen_all self.now.avps.now) }
-        ensures { IfOk result (λ c. Command.Cca c ≡ made_by (known self.now.dictionary.now) CommandKind.CreditControlAnswer header false (seen_all self.now.avps.now)) }
+        ensures { IfOk result (λ c. c ≡ made_by (known self.now.dictionary.now) CommandKind.CreditControlAnswer header false (seen_all self.now.avps.now)) }
     {
         let rules = rules::credit_control_answer();
         let [
@@ -236,7 +226,7 @@ impl Source<'_> {
             final_unit_indication,
             check_balance_result,
         ] = rules;
-        Ok(CreditControlAnswer {
+        Ok(Command::Cca(CreditControlAnswer {
             header,
             session_id: self.octets(session_id)?,
             result_code: self.number(result_code),
@@ -249,12 +239,12 @@ impl Source<'_> {
             final_unit_indication: self.optional_group(final_unit_indication)?,
             check_balance_result: self.optional_number(check_balance_result),
             rest: self.rest(&rules)?,
-        })
+        }))
     }
 
-    fn error_answer(&self, header: Header) -> Result<ErrorAnswer, AllocError>
+    fn error_answer(&self, header: Header) -> Result<Command, AllocError>
         requires { All (λ a. length_of a < 2 ^ 24) (seen_all self.now.avps.now) }
-        ensures { IfOk result (λ c. Command.ErrorAnswer c ≡ made_by (known self.now.dictionary.now) CommandKind.ErrorAnswer header false (seen_all self.now.avps.now)) }
+        ensures { IfOk result (λ c. c ≡ made_by (known self.now.dictionary.now) CommandKind.ErrorAnswer header false (seen_all self.now.avps.now)) }
     {
         let rules = rules::error_answer();
         let [
@@ -264,7 +254,7 @@ impl Source<'_> {
             result_code,
             failed_avp,
         ] = rules;
-        Ok(ErrorAnswer {
+        Ok(Command::ErrorAnswer(ErrorAnswer {
             header,
             session_id: self.optional_octets(session_id)?,
             origin_host: self.octets(origin_host)?,
@@ -272,7 +262,7 @@ impl Source<'_> {
             result_code: self.number(result_code),
             failed_avp: self.optional_octets(failed_avp)?,
             rest: self.rest(&rules)?,
-        })
+        }))
     }
 
     /// The command of a kind with a header and these AVPs; `event` where the message is an EVENT request.
@@ -286,33 +276,17 @@ impl Source<'_> {
         ensures { IfOk result (λ c. c ≡ made_by (known self.now.dictionary.now) kind header event (seen_all self.now.avps.now)) }
     {
         match kind {
-            CommandKind::CapabilitiesExchangeRequest => Ok(Command::Cer(
-                self.capabilities_exchange_request(header)?,
-            )),
-            CommandKind::CapabilitiesExchangeAnswer => Ok(Command::Cea(
-                self.capabilities_exchange_answer(header)?,
-            )),
-            CommandKind::DeviceWatchdogRequest => Ok(Command::Dwr(self.device_watchdog_request(
-                header,
-            )?)),
-            CommandKind::DeviceWatchdogAnswer => Ok(Command::Dwa(self.device_watchdog_answer(
-                header,
-            )?)),
-            CommandKind::DisconnectPeerRequest => Ok(Command::Dpr(self.disconnect_peer_request(
-                header,
-            )?)),
-            CommandKind::DisconnectPeerAnswer => Ok(Command::Dpa(self.disconnect_peer_answer(
-                header,
-            )?)),
-            CommandKind::ReAuthRequest => Ok(Command::Rar(self.re_auth_request(header)?)),
-            CommandKind::ReAuthAnswer => Ok(Command::Raa(self.re_auth_answer(header)?)),
-            CommandKind::CreditControlRequest => Ok(Command::Ccr(self.credit_control_request(
-                header, event,
-            )?)),
-            CommandKind::CreditControlAnswer => Ok(Command::Cca(self.credit_control_answer(
-                header,
-            )?)),
-            CommandKind::ErrorAnswer => Ok(Command::ErrorAnswer(self.error_answer(header)?)),
+            CommandKind::CapabilitiesExchangeRequest => self.capabilities_exchange_request(header),
+            CommandKind::CapabilitiesExchangeAnswer => self.capabilities_exchange_answer(header),
+            CommandKind::DeviceWatchdogRequest => self.device_watchdog_request(header),
+            CommandKind::DeviceWatchdogAnswer => self.device_watchdog_answer(header),
+            CommandKind::DisconnectPeerRequest => self.disconnect_peer_request(header),
+            CommandKind::DisconnectPeerAnswer => self.disconnect_peer_answer(header),
+            CommandKind::ReAuthRequest => self.re_auth_request(header),
+            CommandKind::ReAuthAnswer => self.re_auth_answer(header),
+            CommandKind::CreditControlRequest => self.credit_control_request(header, event),
+            CommandKind::CreditControlAnswer => self.credit_control_answer(header),
+            CommandKind::ErrorAnswer => self.error_answer(header),
         }
     }
 }

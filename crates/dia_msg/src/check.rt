@@ -10,13 +10,10 @@ ghost use Rattle.dia_msg.specs.Rules.{first_of};
 ghost use Rattle.dia_msg.specs.Command.{number_of};
 ghost use Rattle.dia_msg.specs.Faults.{kind_in, header_faults, has_event_type};
 
-use crate::header::{HEADER_LEN, Header, VERSION, header_of};
+use crate::header::{Header, header_of};
 use crate::rules::{CC_REQUEST_TYPE, CommandKind, application_of, is_coded};
+use base_codes::{CommandCode, HEADER_LEN, ResultCode, VERSION};
 use dia_avp::{AvpView, first_avp};
-use dia_tree::ResultCode;
-
-/// The Command Code of CCR and CCA.
-const CREDIT_CONTROL: u32 = 272;
 
 /// The CC-Request-Type of a request that opens no session.
 const EVENT_REQUEST: u32 = 4;
@@ -82,5 +79,7 @@ fn has_event_type(body: &[u8]) -> bool
 pub(crate) fn is_event(header: &Header, body: &[u8]) -> bool
     ensures { result ≡ ((header.now.command == 272) && (header.now.flags.request && has_event_type (avps_in body.now).0)) }
 {
-    header.command == CREDIT_CONTROL && header.flags.request && has_event_type(body)
+    header.command == CommandCode::CreditControl.number()
+        && header.flags.request
+        && has_event_type(body)
 }

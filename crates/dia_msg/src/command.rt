@@ -9,7 +9,7 @@ use crate::typed::{TypedAvp, TypedAvps};
 use dia_avp::{AvpList, Octets};
 
 /// A Capabilities-Exchange-Request (RFC 6733 section 5.3.1). `rest` has the AVPs that no field took, in order.
-#[derive(Debug, Drop)]
+#[derive(Debug)]
 pub struct CapabilitiesExchangeRequest {
     pub header: Header,
     pub origin_host: TypedAvp<Octets>,
@@ -21,8 +21,23 @@ pub struct CapabilitiesExchangeRequest {
     pub rest: AvpList,
 }
 
+impl Drop for CapabilitiesExchangeRequest {
+    fn drop(self) {
+        let CapabilitiesExchangeRequest {
+            header: _,
+            origin_host,
+            origin_realm,
+            host_ip_address,
+            vendor_id,
+            product_name,
+            auth_application_id,
+            rest,
+        } = self;
+    }
+}
+
 /// A Capabilities-Exchange-Answer (RFC 6733 section 5.3.2). `rest` has the AVPs that no field took, in order.
-#[derive(Debug, Drop)]
+#[derive(Debug)]
 pub struct CapabilitiesExchangeAnswer {
     pub header: Header,
     pub result_code: TypedAvp<u32>,
@@ -35,8 +50,24 @@ pub struct CapabilitiesExchangeAnswer {
     pub rest: AvpList,
 }
 
+impl Drop for CapabilitiesExchangeAnswer {
+    fn drop(self) {
+        let CapabilitiesExchangeAnswer {
+            header: _,
+            result_code,
+            origin_host,
+            origin_realm,
+            host_ip_address,
+            vendor_id,
+            product_name,
+            auth_application_id,
+            rest,
+        } = self;
+    }
+}
+
 /// A Device-Watchdog-Request (RFC 6733 section 5.5.1). `rest` has the AVPs that no field took, in order.
-#[derive(Debug, Drop)]
+#[derive(Debug)]
 pub struct DeviceWatchdogRequest {
     pub header: Header,
     pub origin_host: TypedAvp<Octets>,
@@ -44,8 +75,19 @@ pub struct DeviceWatchdogRequest {
     pub rest: AvpList,
 }
 
+impl Drop for DeviceWatchdogRequest {
+    fn drop(self) {
+        let DeviceWatchdogRequest {
+            header: _,
+            origin_host,
+            origin_realm,
+            rest,
+        } = self;
+    }
+}
+
 /// A Device-Watchdog-Answer (RFC 6733 section 5.5.2). `rest` has the AVPs that no field took, in order.
-#[derive(Debug, Drop)]
+#[derive(Debug)]
 pub struct DeviceWatchdogAnswer {
     pub header: Header,
     pub result_code: TypedAvp<u32>,
@@ -54,8 +96,20 @@ pub struct DeviceWatchdogAnswer {
     pub rest: AvpList,
 }
 
+impl Drop for DeviceWatchdogAnswer {
+    fn drop(self) {
+        let DeviceWatchdogAnswer {
+            header: _,
+            result_code,
+            origin_host,
+            origin_realm,
+            rest,
+        } = self;
+    }
+}
+
 /// A Disconnect-Peer-Request (RFC 6733 section 5.4.1). `rest` has the AVPs that no field took, in order.
-#[derive(Debug, Drop)]
+#[derive(Debug)]
 pub struct DisconnectPeerRequest {
     pub header: Header,
     pub origin_host: TypedAvp<Octets>,
@@ -64,8 +118,20 @@ pub struct DisconnectPeerRequest {
     pub rest: AvpList,
 }
 
+impl Drop for DisconnectPeerRequest {
+    fn drop(self) {
+        let DisconnectPeerRequest {
+            header: _,
+            origin_host,
+            origin_realm,
+            disconnect_cause,
+            rest,
+        } = self;
+    }
+}
+
 /// A Disconnect-Peer-Answer (RFC 6733 section 5.4.2). `rest` has the AVPs that no field took, in order.
-#[derive(Debug, Drop)]
+#[derive(Debug)]
 pub struct DisconnectPeerAnswer {
     pub header: Header,
     pub result_code: TypedAvp<u32>,
@@ -74,8 +140,20 @@ pub struct DisconnectPeerAnswer {
     pub rest: AvpList,
 }
 
+impl Drop for DisconnectPeerAnswer {
+    fn drop(self) {
+        let DisconnectPeerAnswer {
+            header: _,
+            result_code,
+            origin_host,
+            origin_realm,
+            rest,
+        } = self;
+    }
+}
+
 /// A Re-Auth-Request (RFC 6733 section 8.3.1). `rest` has the AVPs that no field took, in order.
-#[derive(Debug, Drop)]
+#[derive(Debug)]
 pub struct ReAuthRequest {
     pub header: Header,
     pub session_id: TypedAvp<Octets>,
@@ -88,8 +166,24 @@ pub struct ReAuthRequest {
     pub rest: AvpList,
 }
 
+impl Drop for ReAuthRequest {
+    fn drop(self) {
+        let ReAuthRequest {
+            header: _,
+            session_id,
+            origin_host,
+            origin_realm,
+            destination_realm,
+            destination_host,
+            auth_application_id,
+            re_auth_request_type,
+            rest,
+        } = self;
+    }
+}
+
 /// A Re-Auth-Answer (RFC 6733 section 8.3.2). `rest` has the AVPs that no field took, in order.
-#[derive(Debug, Drop)]
+#[derive(Debug)]
 pub struct ReAuthAnswer {
     pub header: Header,
     pub session_id: TypedAvp<Octets>,
@@ -99,8 +193,21 @@ pub struct ReAuthAnswer {
     pub rest: AvpList,
 }
 
+impl Drop for ReAuthAnswer {
+    fn drop(self) {
+        let ReAuthAnswer {
+            header: _,
+            session_id,
+            result_code,
+            origin_host,
+            origin_realm,
+            rest,
+        } = self;
+    }
+}
+
 /// A Credit-Control-Request (RFC 8506 section 3.1). `rest` has the AVPs that no field took, in order.
-#[derive(Debug, Drop)]
+#[derive(Debug)]
 pub struct CreditControlRequest {
     pub header: Header,
     pub session_id: TypedAvp<Octets>,
@@ -118,8 +225,29 @@ pub struct CreditControlRequest {
     pub rest: AvpList,
 }
 
+impl Drop for CreditControlRequest {
+    fn drop(self) {
+        let CreditControlRequest {
+            header: _,
+            session_id,
+            origin_host,
+            origin_realm,
+            destination_realm,
+            auth_application_id,
+            service_context_id,
+            cc_request_type,
+            cc_request_number,
+            subscription_id,
+            requested_action,
+            requested_service_unit,
+            used_service_unit,
+            rest,
+        } = self;
+    }
+}
+
 /// A Credit-Control-Answer (RFC 8506 section 3.2). `rest` has the AVPs that no field took, in order.
-#[derive(Debug, Drop)]
+#[derive(Debug)]
 pub struct CreditControlAnswer {
     pub header: Header,
     pub session_id: TypedAvp<Octets>,
@@ -135,8 +263,27 @@ pub struct CreditControlAnswer {
     pub rest: AvpList,
 }
 
+impl Drop for CreditControlAnswer {
+    fn drop(self) {
+        let CreditControlAnswer {
+            header: _,
+            session_id,
+            result_code,
+            origin_host,
+            origin_realm,
+            auth_application_id,
+            cc_request_type,
+            cc_request_number,
+            granted_service_unit,
+            final_unit_indication,
+            check_balance_result,
+            rest,
+        } = self;
+    }
+}
+
 /// An answer that tells a fault (RFC 6733 section 7.2). `rest` has the AVPs that no field took, in order.
-#[derive(Debug, Drop)]
+#[derive(Debug)]
 pub struct ErrorAnswer {
     pub header: Header,
     pub session_id: Option<TypedAvp<Octets>>,
@@ -145,6 +292,20 @@ pub struct ErrorAnswer {
     pub result_code: TypedAvp<u32>,
     pub failed_avp: Option<TypedAvp<Octets>>,
     pub rest: AvpList,
+}
+
+impl Drop for ErrorAnswer {
+    fn drop(self) {
+        let ErrorAnswer {
+            header: _,
+            session_id,
+            origin_host,
+            origin_realm,
+            result_code,
+            failed_avp,
+            rest,
+        } = self;
+    }
 }
 
 /// A message, by its command.

@@ -3,13 +3,8 @@
 ghost use Rattle.std.specs.Prelude.{◌≡◌, ◌≤◌, ◌<◌, ◌^◌, length};
 ghost use Rattle.dia_msg.specs.Header.{header_in, flags_in, flags_octet, header_octets};
 
+use base_codes::{HEADER_LEN, VERSION};
 use byteorder::{BigEndian, ByteOrder};
-
-/// How many octets a header has.
-pub const HEADER_LEN: usize = 20;
-
-/// The one version of Diameter.
-pub const VERSION: u8 = 1;
 
 const REQUEST: u8 = 0x80;
 
@@ -82,7 +77,7 @@ pub(crate) fn header_of(octets: &[u8]) -> Header
 }
 
 /// The octets of a header in front of a message of `len` octets.
-pub(crate) fn octets_of(header: &Header, len: u32) -> [u8; 20]
+pub(crate) fn octets_of(header: &Header, len: u32) -> [u8; HEADER_LEN]
     requires { len < 2 ^ 24 }
     ensures { result ≡ header_octets header.now len }
 {

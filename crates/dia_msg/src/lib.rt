@@ -29,18 +29,16 @@ mod typed;
 mod write;
 
 pub use answer::error_answer;
+pub use base_codes::ResultCode;
 pub use command::{
     CapabilitiesExchangeAnswer, CapabilitiesExchangeRequest, Command, CreditControlAnswer,
     CreditControlRequest, DeviceWatchdogAnswer, DeviceWatchdogRequest, DisconnectPeerAnswer,
     DisconnectPeerRequest, ErrorAnswer, ReAuthAnswer, ReAuthRequest,
 };
-pub use dia_tree::{MsgFault, ResultCode};
+pub use dia_tree::MsgFault;
 pub use fault::MsgError;
 pub use header::{Flags, Header};
 pub use read::read_message;
 pub use rules::CommandKind;
 pub use typed::{Identity, TypedAvp, TypedAvps};
 pub use write::write_message;
-
-#[cfg(test)]
-mod tests;

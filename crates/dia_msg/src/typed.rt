@@ -5,11 +5,21 @@ use std::alloc::{AllocError, Global};
 use std::marker::Model;
 
 /// The value of an AVP, with the flags M and P that it was read with or is to be written with (RFC 6733 section 4.1).
-#[derive(Debug, Drop)]
+#[derive(Debug)]
 pub struct TypedAvp<T> {
     pub mandatory: bool,
     pub protected: bool,
     pub value: T,
+}
+
+impl<T: Drop> Drop for TypedAvp<T> {
+    fn drop(self) {
+        let TypedAvp {
+            mandatory: _,
+            protected: _,
+            value,
+        } = self;
+    }
 }
 
 /// The values of AVPs of one code, in order. A contract sees them as a list.

@@ -12,12 +12,10 @@ ghost use Rattle.dia_msg.specs.Spelling.{message_len, spell, IsTooLong};
 
 use crate::command::Command;
 use crate::fields::{Content, FieldView, Item, fields_of};
-use crate::header::{HEADER_LEN, Header, octets_of};
+use crate::header::{Header, octets_of};
+use base_codes::{AVP_HEADER_LEN, HEADER_LEN, MAX_LENGTH};
 use byteorder::{BigEndian, ByteOrder};
 use dia_avp::{AvpList, AvpView, WriteError, put_avp, put_avps, put_group};
-
-/// The greatest length that 24 bits hold.
-const MAX_LENGTH: usize = 0xff_ffff;
 
 // The sum of two lengths, where 24 bits hold it.
 fn total(len: usize, more: usize) -> Option<usize>
@@ -49,7 +47,7 @@ fn with_item(start: usize, item: &Item<'_>) -> Option<usize>
     ensures { let len = start + length (spelled (item_avp item.now)) in SomeIff result (len < 2 ^ 24) len }
 {
     let data = content_len(&item.content)?;
-    total(start, (8 + data).div_ceil(4) * 4)
+    total(start, (AVP_HEADER_LEN + data).div_ceil(4) * 4)
 }
 
 // A length and the octets of a field, where 24 bits hold their sum.

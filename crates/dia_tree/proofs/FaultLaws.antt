@@ -8,7 +8,7 @@ use Rattle.dia_avp.specs.declared.avp.Avp.{Avp}
 use Rattle.dia_avp.specs.Reading.{avps_in}
 use Rattle.dia_dict.specs.declared.definition.Definition.{Definition}
 use Rattle.dia_tree.specs.declared.fault.MsgFault.{MsgFault}
-use Rattle.dia_tree.specs.declared.code.ResultCode.TheVariants.{UnableToComply}
+use Rattle.base_codes.specs.declared.result_code.ResultCode.TheVariants.{UnableToComply}
 use Rattle.dia_tree.specs.Faults.{fault, avp_faults, place_faults, list_faults, left_faults, broken_fault, group_faults, IsGood}
 
 -- the faults of octets that do not stand in a group too many

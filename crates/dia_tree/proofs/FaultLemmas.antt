@@ -10,7 +10,7 @@ use Rattle.dia_dict.specs.declared.definition.Definition.{Definition}
 use Rattle.dia_tree.specs.declared.fault.FaultView.{FaultView}
 use Rattle.dia_tree.specs.declared.fault.MsgFault.{MsgFault}
 use Rattle.dia_tree.specs.View.{seen_fault}
-use Rattle.dia_tree.specs.declared.code.ResultCode.TheVariants.{UnableToComply}
+use Rattle.base_codes.specs.declared.result_code.ResultCode.TheVariants.{UnableToComply}
 use Rattle.dia_dict.specs.Dictionary.{definition_of}
 use Rattle.dia_dict.specs.Kind.{least_size, data_fault}
 use Rattle.dia_tree.specs.Kind.{is_group}

@@ -4,7 +4,7 @@ use Rattle.dia_avp.specs.declared.avp.Avp.{Avp}
 use Rattle.dia_avp.specs.Reading.{vendor_at, item_at, avp_at, parted, avps_in}
 use Rattle.dia_avp.specs.Spelling.{length_of, spelled}
 use Rattle.dia_dict.specs.Dictionary.{known}
-use Rattle.dia_tree.specs.declared.code.ResultCode.TheVariants.{AvpUnsupported, InvalidAvpValue, UnableToComply, InvalidAvpLength}
+use Rattle.base_codes.specs.declared.result_code.ResultCode.TheVariants.{AvpUnsupported, InvalidAvpValue, UnableToComply, InvalidAvpLength}
 use Rattle.dia_tree.specs.Faults.{fault, group_faults}
 use Rattle.dia_tree.specs.Normal.{normal}
 

@@ -13,8 +13,8 @@ use Rattle.dia_dict.specs.Kind.{least_size, data_fault}
 use Rattle.dia_dict.specs.Dictionary.{definition_of}
 use Rattle.dia_tree.specs.Kind.{is_group}
 use Rattle.dia_tree.specs.declared.fault.MsgFault.{MsgFault}
-use Rattle.dia_tree.specs.declared.code.ResultCode.{ResultCode}
-use Rattle.dia_tree.specs.declared.code.ResultCode.TheVariants.{AvpUnsupported, InvalidAvpValue, MissingAvp, UnableToComply, InvalidAvpLength}
+use Rattle.base_codes.specs.declared.result_code.ResultCode.{ResultCode}
+use Rattle.base_codes.specs.declared.result_code.ResultCode.TheVariants.{AvpUnsupported, InvalidAvpValue, MissingAvp, UnableToComply, InvalidAvpLength}
 
 -- a fault of a code, with its failed AVP
 abbrev pub fault : ResultCode → Option Avp → MsgFault

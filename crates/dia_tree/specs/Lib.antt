@@ -1,4 +1,3 @@
-pub mod Code
 pub mod View
 pub mod Kind
 pub mod Faults

@@ -8,11 +8,11 @@ ghost use Rattle.dia_dict.specs.Kind.{least_size, data_fault as fault_of_data};
 ghost use Rattle.dia_tree.specs.View.{seen_fault};
 ghost use Rattle.dia_tree.specs.Faults.{fault, is_bad_value as has_bad_value, unknown_faults, own_faults, data_faults, group_faults};
 
-use crate::code::ResultCode;
 use crate::cut::number_at;
 use crate::fault::FaultView;
 use crate::kind::is_group;
 use crate::zeros::{broken_fault, zeros};
+use base_codes::ResultCode;
 use dia_avp::{AvpView, FieldFault, MAX_AVPS, first_avp};
 use dia_dict::{AvpKind, Dictionary};
 

@@ -3,7 +3,7 @@
 ghost use Rattle.std.specs.Prelude.{◌≡◌, IfOk, OnErr, IsSome};
 ghost use Rattle.dia_tree.specs.View.{seen_fault};
 
-use crate::code::ResultCode;
+use base_codes::ResultCode;
 use dia_avp::{Avp, AvpView};
 use std::alloc::{AllocError, Global};
 use thiserror::Error;

@@ -3,7 +3,6 @@
 //!
 //! | File | What it does |
 //! |---|---|
-//! | `code` | Result-Codes and their numbers |
 //! | `fault` | a fault with its failed AVP |
 //! | `kind` | which AVPs are groups |
 //! | `cut`, `zeros` | the header of a broken AVP; faults whose failed AVP is a header and zeros |
@@ -12,7 +11,6 @@
 #![tactic(auto)]
 
 mod check;
-mod code;
 mod cut;
 mod fault;
 mod kind;
@@ -20,10 +18,6 @@ mod normal;
 mod zeros;
 
 pub use check::first_fault;
-pub use code::ResultCode;
 pub use fault::{FaultView, MsgFault};
 pub use normal::{group_list, normal_avp};
 pub use zeros::missing_fault;
-
-#[cfg(test)]
-mod tests;

@@ -6,9 +6,9 @@ ghost use Rattle.dia_dict.specs.Dictionary.{known};
 ghost use Rattle.dia_tree.specs.View.{seen_fault};
 ghost use Rattle.dia_tree.specs.Faults.{zeros as with_zeros, zeroed as with_least_zeros, broken_fault as fault_of_broken, missing_fault as fault_of_missing};
 
-use crate::code::ResultCode;
 use crate::cut::cut_avp;
 use crate::fault::FaultView;
+use base_codes::ResultCode;
 use dia_avp::AvpView;
 use dia_dict::Dictionary;
 

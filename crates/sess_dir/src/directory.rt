@@ -1,9 +1,9 @@
 //! The directory.
-ghost use Rattle.std.specs.Prelude.{◌≡◌, ◌-◌, ◌<◌, ◌≤◌, ◌↔◌, ◌++◌, ◌∷◌, [], length, take, slice_get, option_copied, Contains, IsTrue, IfSome, IfOk, OnOk, OnErr, IfErr, IsErrOf, IsSome};
+ghost use Rattle.std.specs.Prelude.{◌≡◌, ◌-◌, ◌<◌, ◌≤◌, ◌↔◌, ◌++◌, ◌∷◌, [], length, take, slice_get, option_copied, Contains, IsTrue, IfSome, IfOk, OnOk, OnErr, IfErr, IsErrOf, IsSome, ◌⊎◌};
 ghost use Rattle.std.specs.Option.{IfNone};
 ghost use Rattle.sess_dir.specs.Names.{place_of, NoNameTwice};
 
-use crate::AddFault;
+use base_list::{AddError, AddFault};
 use indexmap::IndexSet;
 use std::alloc::Global;
 use std::marker::Model;
@@ -21,13 +21,14 @@ pub struct Directory {
 impl Model for Directory {
     ghost use Rattle.std.specs.Prelude.{List, ℕ, ◌≤◌, length};
     ghost use Rattle.std.specs.Coded.{coded_ℕ, coded_list};
+    ghost use Rattle.sess_dir.specs.declared.directory.TheConstants.{MAX_NAMES};
     ghost use Rattle.sess_dir.specs.Names.{octets_of};
 
     ghost Value = { List (List ℕ) };
 
     ghost view = { λ d. octets_of d.names.keys };
 
-    ghost invariant = { λ d. length d.names.keys ≤ 4096 };
+    ghost invariant = { λ d. length d.names.keys ≤ MAX_NAMES };
 }
 
 impl Directory {
@@ -66,7 +67,7 @@ impl Directory {
     }
 
     /// The place of a name, which is added at the end where it is not there yet.
-    pub fn find_or_add(&mut self, name: &[u8]) -> Result<usize, AddFault>
+    pub fn find_or_add(&mut self, name: &[u8]) -> Result<usize, AddError>
         ensures ok { IfOk result (λ place. place_of self.new name.now ≡ Some place) }
 
         // A name that is there keeps its place, and nothing is added or refused.
@@ -77,8 +78,10 @@ impl Directory {
         ensures added { place_of self.old name.now ≡ None →
             IfOk result (λ place. (place ≡ length self.old) × (self.new ≡ self.old ++ name.now ∷ [])) }
 
-        // It is refused where there is no room, and where memory runs out.
-        ensures full { IsErrOf result AddFault.Full ↔ ((place_of self.old name.now ≡ None) × (MAX_NAMES ≤ length self.old)) }
+        // It is refused where there is no room, and else only where memory runs out: it is never taken.
+        ensures full { IsErrOf result (AddError.Fault AddFault.Full)
+            ↔ ((place_of self.old name.now ≡ None) × (MAX_NAMES ≤ length self.old)) }
+        ensures fault { IfErr result (λ e. (e ≡ AddError.Fault AddFault.Full) ⊎ (e ≡ AddError.NoMemory)) }
         ensures err { OnErr result (self.new ≡ self.old) }
     {
         if let Some(place) = self.find(name) {
@@ -86,20 +89,20 @@ impl Directory {
         }
         let place = self.len();
         if place >= MAX_NAMES {
-            return Err(AddFault::Full);
+            return Err(AddError::Fault(AddFault::Full));
         }
         self.add(name)?;
         Ok(place)
     }
 
     // Adds a new name at the end.
-    fn add(&mut self, name: &[u8]) -> Result<(), AddFault>
+    fn add(&mut self, name: &[u8]) -> Result<(), AddError>
         requires new { place_of self.old name.now ≡ None }
         requires room { length self.old < MAX_NAMES }
         ensures ok { OnOk result (self.new ≡ self.old ++ name.now ∷ []) }
         ensures place { OnOk result (place_of self.new name.now ≡ Some (length self.old)) }
         ensures err { OnErr result (self.new ≡ self.old) }
-        ensures fault { IfErr result (λ fault. fault ≡ AddFault.NoMemory) }
+        ensures fault { IfErr result (λ e. e ≡ AddError.NoMemory) }
     {
         let copy = Vec::from_slice(*self.names.allocator(), name)?;
         self.names.insert(copy)?;

@@ -2,9 +2,5 @@
 #![tactic(auto)]
 
 mod directory;
-mod fault;
-#[cfg(test)]
-mod tests;
 
 pub use directory::{Directory, MAX_NAMES};
-pub use fault::AddFault;

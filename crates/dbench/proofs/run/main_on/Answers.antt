@@ -1,5 +1,5 @@
 use Rattle.std.proofs.Common.{refl}
-use Rattle.dbench.proofs.ReadLemmas.{IsReport-told}
+use Rattle.msg_text.proofs.ReadLemmas.{IsReport-told}
 use Rattle.dbench.proofs.run.main_on.Goals as goal
 
 -- there was no memory for the command line, and nothing was read

@@ -1,0 +1,14 @@
+//! Devices: what octets come from and go to, with their calls counted and their faults told; and how a run ends.
+#![tactic(auto)]
+
+mod counting;
+mod device;
+mod inputs;
+mod output;
+mod status;
+
+pub use counting::Counting;
+pub use device::{ByteSink, ByteSource, DeviceFailed};
+pub use inputs::{FileSource, Inputs};
+pub use output::{MAX_IDLE_WRITES, WriteFault, tell, write_whole};
+pub use status::Status;

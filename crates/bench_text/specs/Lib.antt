@@ -1,0 +1,4 @@
+pub mod Digits
+pub mod Stops
+pub mod Contents
+pub mod Numbers

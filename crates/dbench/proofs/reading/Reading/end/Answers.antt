@@ -1,7 +1,0 @@
-use Rattle.dbench.proofs.ReadLemmas.{IsPrintedOf-refused}
-use Rattle.dbench.proofs.reading.Reading.end.Goals as goal
-
--- a digit is left over, or memory ran out
-pub returns-in-Err-clause-printed : goal.returns-in-Err-clause-printed
-returns-in-Err-clause-printed c = λ text written so_far.
-    IsPrintedOf-refused c.finish.new.self text written c.in-Err.refusal (c.in-Err.ensures text written so_far)

@@ -1,8 +1,0 @@
-use Rattle.std.proofs.Common.{◌≡◌, ◌++◌, take}
-use Rattle.std.specs.List.{flat_map}
-use Rattle.dbench.specs.Walks.{deed_line}
-use Rattle.dbench.proofs.walk.put_deeds.Given as goal
-
--- the deeds so far are put
-abbrev pub invariant-loop-deed : goal.invariant-loop-deed
-invariant-loop-deed l = l.out.items ≡ l.initial.out.items ++ flat_map deed_line (take l.deed-index l.deeds)

@@ -1,0 +1,3 @@
+pub mod ZeroLemmas
+pub mod FactsLemmas
+pub mod EventExamples

@@ -1,0 +1,10 @@
+use Rattle.std.proofs.Common.{sym, ◌∙◌}
+use Rattle.msg_text.proofs.ReadLemmas.{WholeText-left}
+use Rattle.msg_text.proofs.reading.Reading.finish.Goals as goal
+
+-- octets are left over, and are printed as a message
+pub returns-in_ok-message : goal.returns-in_ok-message
+returns-in_ok-message c = λ text written so_far.
+    let message = rw c.rest-rest.ensures at c.in_ok-message.ensures.ok in
+    let empty = rw c.rest-rest.ensures at c.is_empty.ensures in
+    WholeText-left c.args.self.now _ text written _ _ so_far (sym c.is_some.ensures ∙ c.if-is_some.false) (sym empty ∙ c.if-not-is_empty.true) message.2 message.3

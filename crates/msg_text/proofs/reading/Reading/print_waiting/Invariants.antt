@@ -1,0 +1,12 @@
+use Rattle.std.proofs.Common.{◌≡◌, length}
+use Rattle.msg_text.proofs.ReadLemmas.{PrintsSome}
+use Rattle.msg_text.proofs.reading.Reading.print_waiting.Given as goal
+
+-- the messages that came so far are printed, and the digits are left alone
+abbrev pub invariant-loop-frame : goal.invariant-loop-frame
+invariant-loop-frame l =
+    (l.self.half ≡ l.initial.self.half) × PrintsSome l.initial.self.framer l.self.framer l.initial.self.report l.self.report
+
+-- each turn takes a frame that waits
+abbrev pub decreases-loop-frame : goal.decreases-loop-frame
+decreases-loop-frame l = length l.self.framer.waiting

@@ -1,0 +1,13 @@
+use Rattle.std.proofs.Common.{◌≡◌, ◌++◌, ℕ, List, None, length}
+use Rattle.msg_text.specs.Readings.{SoFar}
+use Rattle.msg_text.proofs.reading.Reading.take_text.Given as goal
+
+-- what is used of the text was taken
+abbrev pub invariant-pieces : goal.invariant-pieces
+invariant-pieces l =
+    (used : List ℕ) × (l.text ≡ used ++ l.rest)
+    × ((before written : List ℕ) → SoFar l.initial.self before written None → SoFar l.self (before ++ used) written None)
+
+-- each turn uses a character or more
+abbrev pub decreases-pieces : goal.decreases-pieces
+decreases-pieces l = length l.rest

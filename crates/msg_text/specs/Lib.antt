@@ -1,0 +1,6 @@
+pub mod Lines
+pub mod Ends
+pub mod Printed
+pub mod Reports
+pub mod Inputs
+pub mod Readings

@@ -1,0 +1,83 @@
+//! How reading comes to its end, and what that prints.
+ghost use Rattle.std.specs.Prelude.{◌≡◌};
+ghost use Rattle.msg_text.specs.declared.ends.Refusal.TheVariants.{NoMemory};
+ghost use Rattle.msg_text.specs.Ends.{end_status, end_text, frame_text, refusal_of};
+
+use bench_device::Status;
+use dia_frame::{FeedError, FrameFault};
+use std::alloc::AllocError;
+
+/// Why the input is read no further.
+#[derive(Clone, Copy, Debug, PartialEq, Eq)]
+pub(crate) enum Refusal {
+    BadHex,
+    Frame(FrameFault),
+    NoMemory,
+}
+
+impl From<AllocError> for Refusal {
+    ghost from_gives = { λ _ e. e ≡ NoMemory };
+
+    fn from(_e: AllocError) -> Refusal {
+        Refusal::NoMemory
+    }
+}
+
+impl From<FeedError> for Refusal {
+    ghost from_gives = { λ error refusal. refusal ≡ refusal_of error };
+
+    fn from(error: FeedError) -> Refusal {
+        match error {
+            FeedError::NoMemory => Refusal::NoMemory,
+            FeedError::Fault(fault) => Refusal::Frame(fault),
+        }
+    }
+}
+
+/// How reading came to its end.
+#[derive(Clone, Copy, Debug, PartialEq, Eq)]
+pub(crate) enum End {
+    Whole,
+    Refused(Refusal),
+    ReadFailed,
+    TooManyReads,
+}
+
+fn frame_text(fault: FrameFault) -> &'static [u8]
+    ensures { result.now ≡ frame_text fault }
+{
+    match fault {
+        FrameFault::Version => b"frame fault 1\n",
+        FrameFault::Length => b"frame fault 2\n",
+        FrameFault::Broken => b"frame fault 3\n",
+    }
+}
+
+impl End {
+    /// What is printed at the end, and nothing where the input was read whole.
+    pub(crate) fn text(self) -> &'static [u8]
+        ensures { result.now ≡ end_text self }
+    {
+        match self {
+            End::Whole => b"",
+            End::Refused(Refusal::BadHex) => b"bad hex\n",
+            End::Refused(Refusal::Frame(fault)) => frame_text(fault),
+            End::Refused(Refusal::NoMemory) => b"no memory\n",
+            End::ReadFailed => b"read fault\n",
+            End::TooManyReads => b"read fault: no end of input after 1048576 reads\n",
+        }
+    }
+
+    /// The status that it gives, where a fault was printed or none was.
+    pub(crate) fn status(self, refused: bool) -> Status
+        ensures { result ≡ end_status self refused }
+    {
+        match self {
+            End::Whole if refused => Status::Refused,
+            End::Whole => Status::Done,
+            End::Refused(Refusal::NoMemory) => Status::NoMemory,
+            End::Refused(_) => Status::Refused,
+            End::ReadFailed | End::TooManyReads => Status::Fault,
+        }
+    }
+}

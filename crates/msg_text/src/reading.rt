@@ -1,0 +1,130 @@
+//! What is known of an input while it is read: its octets, its messages, and what they print.
+ghost use Rattle.std.specs.Prelude.{◌≡◌, ◌≢◌, ◌++◌, ◌<◌, ℕ, List, [], None, IfOk, OnOk};
+ghost use Rattle.std.specs.Option.{ForSome};
+ghost use Rattle.msg_text.specs.Ends.{IsLast};
+
+use crate::ends::{End, Refusal};
+use crate::report::Report;
+use bench_text::{Stop, decode};
+use dia_frame::Framer;
+use std::alloc::{AllocError, Global};
+
+/// How many octets go to the Framer at once, and how long a message may be.
+const PIECE: usize = 4096;
+
+/// What is known of the input so far.
+#[derive(Drop)]
+pub(crate) struct Reading {
+    framer: Framer,
+    report: Report,
+    /// The digit of an octet whose second digit hasn't come.
+    half: Option<u8>,
+    ghost half_fits: { ForSome half (λ digit. digit < 16) },
+}
+
+impl Reading {
+    ghost use Rattle.msg_text.specs.Readings.{Finishes, PrintsWaiting, SoFar, Stands, TakesPiece, TakesText};
+    ghost use Rattle.msg_text.specs.Inputs.{IsPrintedOf};
+
+    /// Nothing is read yet.
+    pub(crate) fn new(alloc: Global) -> Result<Reading, AllocError>
+        ensures { IfOk result (λ reading. SoFar reading [] [] None) }
+    {
+        Ok(Reading {
+            framer: Framer::new(alloc, PIECE),
+            report: Report::new(alloc)?,
+            half: None,
+        })
+    }
+
+    /// What is to be written out.
+    pub(crate) fn text(&self) -> &[u8]
+        ensures { result.now ≡ self.now.report.out.items }
+    {
+        self.report.text()
+    }
+
+    /// Whether a fault was printed.
+    pub(crate) fn has_refused(&self) -> bool
+        ensures { result ≡ self.now.report.refused }
+    {
+        self.report.has_refused()
+    }
+
+    /// Forgets what was written out.
+    pub(crate) fn clear(&mut self)
+        ensures { (text written : List ℕ) → SoFar self.old text written None
+            → SoFar self.new text (written ++ self.old.report.out.items) None }
+    {
+        self.report.clear();
+    }
+
+    // Prints the messages that wait, oldest first.
+    fn print_waiting(&mut self) -> Result<(), AllocError>
+        ensures half { self.new.half ≡ self.old.half }
+        ensures printed { OnOk result (PrintsWaiting self.old.framer self.new.framer self.old.report self.new.report) }
+    {
+        while let Some(frame) = self.framer.next_frame() {
+            self.report.message(frame.as_slice())?;
+        }
+        Ok(())
+    }
+
+    // The messages that a piece completes are printed, also where the octets behind them show a fault.
+    fn take_piece(&mut self, piece: &[u8]) -> Result<(), Refusal>
+        ensures half { self.new.half ≡ self.old.half }
+        ensures stands { (octets written : List ℕ) → Stands self.old.framer self.old.report octets written None
+            → TakesPiece result (Stands self.new.framer self.new.report (octets ++ piece.now) written) }
+    {
+        let fed = self.framer.feed(piece);
+        self.print_waiting()?;
+        match fed {
+            Ok(_) => Ok(()),
+            Err(error) => Err(Refusal::from(error)),
+        }
+    }
+
+    /// Takes the next characters, and prints the messages that they complete.
+    pub(crate) fn take_text(&mut self, text: &[u8]) -> Result<(), Refusal>
+        ensures { (before written : List ℕ) → SoFar self.old before written None
+            → TakesText result self.new before text.now written }
+    {
+        let mut rest = text;
+        'pieces: while !rest.is_empty() {
+            let mut piece = [0u8; PIECE];
+            let decoded = decode(self.half, rest, &mut piece);
+            self.half = decoded.half;
+            self.take_piece(&piece[..decoded.made])?;
+            if let Stop::BadCharacter = decoded.stop {
+                return Err(Refusal::BadHex);
+            }
+            rest = &rest[decoded.used..];
+        }
+        Ok(())
+    }
+
+    /// Ends with the input: a digit that is left over is bad, and octets that are left over are a message.
+    pub(crate) fn end(&mut self) -> End
+        ensures last { IsLast result }
+        ensures printed { (text written : List ℕ) → SoFar self.old text written None
+            → IsPrintedOf (Unit {0}) text (written ++ self.new.report.out.items) result self.new.report.refused }
+    {
+        match self.finish() {
+            Ok(()) => End::Whole,
+            Err(refusal) => End::Refused(refusal),
+        }
+    }
+
+    fn finish(&mut self) -> Result<(), Refusal>
+        ensures { (text written : List ℕ) → SoFar self.old text written None → Finishes result self.new text written }
+    {
+        if self.half.is_some() {
+            return Err(Refusal::BadHex);
+        }
+        let rest = self.framer.rest();
+        if !rest.is_empty() {
+            self.report.message(rest)?;
+        }
+        Ok(())
+    }
+}

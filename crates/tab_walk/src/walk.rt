@@ -1,0 +1,258 @@
+//! A walk: a table stepped over a list of events, printed event by event.
+ghost use Rattle.std.specs.Prelude.{◌≡◌, ◌≢◌, ◌<◌, ◌≤◌, ◌-◌, ◌^◌, ◌++◌, ℕ, List, Bool, max, true, length, codes, decimal, if◌then◌else◌, IfOk, OnOk};
+ghost use Rattle.std.specs.List.{flat_map, slice_get};
+ghost use Rattle.std.specs.Option.{option_map};
+ghost use Rattle.tab_step.specs.Bind.{IsBoundTo};
+ghost use Rattle.bench_device.specs.Devices.{HasWriteCause};
+ghost use Rattle.tab_walk.specs.Walks.{IsRefused, IsWalked, IsWalkedBound, IsWalkedOn, RunText, bad_text, bind_text, kind_text, parse_text, row_text, state_text, step_text, steps_text, table_fault, unbound_text};
+
+use bench_device::{ByteSink, MAX_IDLE_WRITES, Status, tell};
+use bench_text::put_number;
+use event_text::{EventsError, put_deeds, put_name, read_events};
+use std::alloc::{AllocError, Global};
+use tab_law::{LawBook, PLACES};
+use tab_step::{Bound, Event, MachineState, Stepped, Unbound, bind, run};
+use tab_text::{ParseError, Table, TextFault, parse};
+
+/// What is printed, and whether it is a refusal.
+#[derive(Drop)]
+struct Outcome {
+    text: Vec<u8>,
+    refused: bool,
+}
+
+fn refusal(text: Vec<u8>) -> Outcome
+    ensures { result ≡ record { text = text; refused = true } }
+{
+    Outcome {
+        text,
+        refused: true,
+    }
+}
+
+/// The name of a state, if the table has one.
+fn state_name(table: &Table, state: u8) -> Option<&[u8]>
+    ensures { option_map (λ name. name.now) result ≡ slice_get table.now.states state }
+{
+    let names = table.states().as_slice();
+    let place = state as usize;
+    if place < names.len() {
+        Some(names[place].as_slice())
+    } else {
+        None
+    }
+}
+
+fn put_state(out: &mut Vec<u8>, table: &Table, state: u8) -> Result<(), AllocError>
+    ensures { OnOk result (out.new.items ≡ out.old.items ++ state_text table.now state) }
+{
+    put_name(out, b" ", state_name(table, state), u64::from(state))
+}
+
+fn put_row(out: &mut Vec<u8>, row: Option<u16>) -> Result<(), AllocError>
+    ensures { OnOk result (out.new.items ≡ out.old.items ++ row_text row) }
+{
+    match row {
+        Some(row) => put_number(out, b" row ", u64::from(row)),
+        None => out.extend_from_slice(b" row -"),
+    }
+}
+
+/// The name of a kind of events in the book.
+fn kind_name(book: &LawBook, kind: u8) -> &[u8]
+    ensures { result.now ≡ kind_text book.now kind }
+{
+    let place = kind as usize;
+    if place < book.kinds().len() {
+        book.kinds().at(place).name.as_slice()
+    } else {
+        b""
+    }
+}
+
+/// A step: the kind, the states before and after it, the row; and a line for each deed.
+fn put_step(
+    out: &mut Vec<u8>,
+    table: &Table,
+    book: &LawBook,
+    before: u8,
+    event: &Event,
+    step: &Stepped,
+) -> Result<(), AllocError>
+    ensures { OnOk result (out.new.items ≡ out.old.items ++ step_text table.now book.now before event.now step.now) }
+{
+    out.extend_from_slice(kind_name(book, event.kind))?;
+    put_state(out, table, before)?;
+    put_state(out, table, step.after.state)?;
+    put_row(out, step.row)?;
+    out.extend_from_slice(b"\n")?;
+    put_deeds(out, step.deeds.as_slice())
+}
+
+/// The steps of a walk from state 0.
+fn put_steps(
+    out: &mut Vec<u8>,
+    table: &Table,
+    book: &LawBook,
+    events: &[Event],
+    steps: &[Stepped],
+) -> Result<(), AllocError>
+    requires { length steps.now ≡ length events.now }
+    ensures { OnOk result (out.new.items ≡ out.old.items ++ steps_text table.now book.now 0 events.now steps.now) }
+{
+    let mut state = 0;
+    for i in 0..steps.len() {
+        let step = &steps[i];
+        put_step(out, table, book, state, &events[i], step)?;
+        state = step.after.state;
+    }
+    Ok(())
+}
+
+/// `line N fault C`: the first fault of a table's text.
+fn fault_line(alloc: Global, fault: &TextFault) -> Result<Vec<u8>, AllocError>
+    ensures { IfOk result (λ text. text.items ≡ table_fault fault.now) }
+{
+    let mut text = Vec::new(alloc);
+    put_number(&mut text, b"line ", fault.line as u64)?;
+    put_number(&mut text, b" fault ", u64::from(fault.code.number()))?;
+    text.extend_from_slice(b"\n")?;
+    Ok(text)
+}
+
+/// `bad line N`: the first line of the events that isn't one.
+fn bad_line(alloc: Global, line: usize) -> Result<Vec<u8>, AllocError>
+    ensures { IfOk result (λ text. text.items ≡ bad_text line) }
+{
+    let mut text = Vec::new(alloc);
+    put_number(&mut text, b"bad line ", line as u64)?;
+    text.extend_from_slice(b"\n")?;
+    Ok(text)
+}
+
+/// `unbound NAME`: the first name of a table that isn't in the book.
+fn unbound_line(alloc: Global, name: &[u8]) -> Result<Vec<u8>, AllocError>
+    ensures { IfOk result (λ text. text.items ≡ unbound_text name.now) }
+{
+    let mut text = Vec::new(alloc);
+    text.extend_from_slice(b"unbound ")?;
+    text.extend_from_slice(name)?;
+    text.extend_from_slice(b"\n")?;
+    Ok(text)
+}
+
+/// The text of a bound table's run on events.
+fn run_text(
+    alloc: Global,
+    bound: &Bound,
+    book: &LawBook,
+    events: &[Event],
+) -> Result<Vec<u8>, AllocError>
+    requires { IsBoundTo bound.now book.now }
+    ensures { IfOk result (λ text. RunText bound.now.table book.now events.now text.items) }
+{
+    let first = MachineState {
+        state: 0,
+        regs: [0; PLACES],
+    };
+    let steps = run(alloc, bound, book, &first, events)?;
+    let mut text = Vec::new(alloc);
+    put_steps(&mut text, bound.table(), book, events, &steps)?;
+    Ok(text)
+}
+
+/// The walk of a bound table over the events of a text.
+fn walk_bound(
+    alloc: Global,
+    bound: &Bound,
+    book: &LawBook,
+    events: &str,
+) -> Result<Outcome, AllocError>
+    requires { IsBoundTo bound.now book.now }
+    ensures { IfOk result (λ walk. IsWalkedBound bound.now.table book.now events.now walk.text.items walk.refused) }
+{
+    match read_events(alloc, book, events.as_bytes()) {
+        Ok(events) => Ok(Outcome {
+            text: run_text(alloc, bound, book, &events)?,
+            refused: false,
+        }),
+        Err(EventsError::NoMemory) => Err(AllocError),
+        Err(EventsError::BadLine(line)) => Ok(refusal(bad_line(alloc, line)?)),
+    }
+}
+
+/// The refusal of a text that gives no table.
+fn unparsed(alloc: Global, error: &ParseError) -> Result<Outcome, AllocError>
+    ensures { IfOk result (λ walk. IsRefused (parse_text error.now) walk.text.items walk.refused) }
+{
+    match error {
+        ParseError::NoMemory => Err(AllocError),
+        ParseError::Fault(fault) => Ok(refusal(fault_line(alloc, fault)?)),
+    }
+}
+
+/// The refusal of a table that names what the book lacks.
+fn unbound(alloc: Global, why: &Unbound) -> Result<Outcome, AllocError>
+    ensures { IfOk result (λ walk. IsRefused (bind_text why.now) walk.text.items walk.refused) }
+{
+    match why {
+        Unbound::NoMemory => Err(AllocError),
+        Unbound::Missing(name) => Ok(refusal(unbound_line(alloc, name.as_slice())?)),
+    }
+}
+
+/// The text of a walk, or of what was refused.
+fn text_of(alloc: Global, table: &[u8], book: &LawBook, events: &str) -> Result<Outcome, AllocError>
+    ensures { IfOk result (λ walk. IsWalked book.now table.now events.now walk.text.items walk.refused) }
+{
+    let table = match parse(alloc, table) {
+        Ok(table) => table,
+        Err(error) => return unparsed(alloc, &error),
+    };
+    match bind(alloc, table, book) {
+        Ok(bound) => walk_bound(alloc, &bound, book, events),
+        Err(why) => unbound(alloc, &why),
+    }
+}
+
+/// The status of a walk.
+fn walk_status(refused: bool) -> Status
+    ensures { result ≡ (if refused then Status.Refused else Status.Done) }
+{
+    if refused {
+        Status::Refused
+    } else {
+        Status::Done
+    }
+}
+
+/// Steps a table over events from state 0 with all registers 0, and prints each step: the kind, the states before and
+/// after it, the row, and a line for each deed.
+///
+/// A line of `events` is `KIND N=V ..`: a kind of the book, and facts by number. Refused, with status `Refused`, are a
+/// table with a fault (`line N fault C`), one that names what the book lacks (`unbound NAME`), and a line of another
+/// form (`bad line N`); nothing is stepped then.
+pub fn walk_on<O: ByteSink>(
+    alloc: Global,
+    table: &[u8],
+    book: &LawBook,
+    events: &str,
+    sink: &mut O,
+) -> Status
+    requires idle { O.idle sink.old ≡ 0 }
+    requires failures { O.failures sink.old < 2 ^ 64 - 1 }
+
+    // What is printed is the text of the table's run on the events, or the first refusal; want of memory aside, it is
+    // done exactly where nothing is refused.
+    ensures walk { IsWalkedOn O.contents O.failures O.idle book.now table.now events.now sink.old sink.new result }
+    ensures words { result ≢ Status.Usage }
+
+    // A fault comes only where the sink failed, or took nothing in as many writes in a row as the bound says.
+    ensures cause { result ≡ Status.Fault → HasWriteCause O.failures O.idle sink.old sink.new }
+    ensures row { O.most_idle sink.new ≤ max (O.most_idle sink.old) MAX_IDLE_WRITES }
+{
+    match text_of(alloc, table, book, events) {
+        Ok(walk) => tell(sink, &walk.text, walk_status(walk.refused)),
+        Err(AllocError) => tell(sink, b"no memory\n", Status::NoMemory),
+    }
+}

@@ -1,0 +1,277 @@
+//! The account book: two sessions on an account, the largest numbers, events, and what is refused.
+use acct_book::{Booked, MAX_GIVEN, Op, OpenError, Outcome, Page, Quote, Totals};
+use base_codes::ResultCode;
+use base_list::AddFault;
+use std::alloc::Global;
+
+const ACCOUNT: u64 = 100;
+
+const FIRST: u64 = 1;
+
+const SECOND: u64 = 2;
+
+const LARGEST: u64 = u64::MAX;
+
+fn page_with(alloc: Global, given: u64) -> Result<Page, OpenError> {
+    let mut page = Page::new(alloc);
+    page.open_account(ACCOUNT, given)?;
+    Ok(page)
+}
+
+fn reserve(session: u64, amount: u64) -> Op {
+    Op::Reserve {
+        account: ACCOUNT,
+        session,
+        group: 0,
+        amount,
+    }
+}
+
+fn debit(session: u64, used: u64) -> Op {
+    Op::Debit {
+        account: ACCOUNT,
+        session,
+        group: 0,
+        used,
+    }
+}
+
+fn release(session: u64) -> Op {
+    Op::Release {
+        account: ACCOUNT,
+        session,
+        group: 0,
+    }
+}
+
+fn charge(account: u64, amount: u64) -> Op {
+    Op::Charge { account, amount }
+}
+
+fn done(amount: u64) -> Outcome {
+    Outcome::Done { amount, unpaid: 0 }
+}
+
+fn in_part(amount: u64, unpaid: u64) -> Outcome {
+    Outcome::Done { amount, unpaid }
+}
+
+/// Whether the operations, one after the other, have these outcomes.
+fn applies(page: &mut Page, rows: &[(Op, Outcome)]) -> bool {
+    let mut all = true;
+    for (op, outcome) in rows {
+        all = all && page.apply(*op) == Ok(*outcome);
+    }
+    all
+}
+
+/// What a quote is asked: the session, the used units and the wanted ones.
+type Asked = (u64, u64, u64);
+
+/// What it answers: the number of the verdict, the offer, whether that is final, and the pay.
+type Answer = (u32, u64, bool, u64);
+
+/// Whether a page answers this to a quote.
+fn quotes(page: &Page, (session, used, want): Asked, answer: Answer) -> bool {
+    let quote = page.quote(ACCOUNT, session, 0, used, want);
+    (
+        quote.verdict.number(),
+        quote.offer,
+        quote.is_final,
+        quote.pay,
+    ) == answer
+}
+
+/// Whether quotes, each with the operation after it, have these answers and outcomes.
+fn quotes_and_applies(page: &mut Page, rows: &[(Asked, Answer, Op, Outcome)]) -> bool {
+    let mut all = true;
+    for (asked, answer, op, outcome) in rows {
+        all = all && quotes(page, *asked, *answer) && page.apply(*op) == Ok(*outcome);
+    }
+    all
+}
+
+/// Whether the journal has as many operations with these outcomes.
+fn has_booked(page: &Page, outcomes: &[Outcome]) -> bool {
+    let mut all = page.journal().len() == outcomes.len();
+    for (booked, outcome) in page.journal().iter().zip(outcomes) {
+        all = all && booked.outcome == *outcome;
+    }
+    all
+}
+
+/// Whether the sums of the account are these: given, reserved, debited and unpaid.
+fn sums_to(page: &Page, (given, reserved, debited, unpaid): (u64, u64, u64, u128)) -> bool {
+    page.totals(ACCOUNT)
+        == Some(Totals {
+            given,
+            reserved,
+            debited,
+            unpaid,
+        })
+}
+
+/// Whether accounts, one after the other, are opened or refused like this.
+fn opens(page: &mut Page, rows: &[(u64, u64, Result<(), OpenError>)]) -> bool {
+    let mut all = true;
+    for (id, given, outcome) in rows {
+        all = all && *id >= 1 && page.open_account(*id, *given) == *outcome;
+    }
+    all
+}
+
+/// Whether the accounts from 102 to 1,123 are opened with a unit each.
+fn fills(page: &mut Page) -> bool {
+    let mut all = true;
+    for id in 102..1124 {
+        all = all && page.open_account(id, 1) == Ok(());
+    }
+    all
+}
+
+#[test]
+fn two_sessions_share_an_account(rt: HostRuntime) {
+    let mut page = page_with(rt.alloc(), 100).expect(&rt, "memory");
+    let paid = in_part(60, 10);
+    let rows = [
+        (
+            (FIRST, 0, 60),
+            (2001, 60, false, 0),
+            reserve(FIRST, 60),
+            done(60),
+        ),
+        (
+            (SECOND, 0, 60),
+            (2001, 40, true, 0),
+            reserve(SECOND, 40),
+            done(40),
+        ),
+        (
+            (FIRST, 70, 10),
+            (4012, 0, false, 60),
+            debit(FIRST, 70),
+            paid,
+        ),
+    ];
+    assert!(rt; quotes_and_applies(&mut page, &rows));
+    assert!(rt; sums_to(&page, (100, 40, 60, 10)));
+    assert!(rt; page.journal().len() == 3);
+    let last = Booked {
+        op: debit(FIRST, 70),
+        outcome: paid,
+    };
+    assert!(rt; page.journal().last() == Some(&last));
+}
+
+#[test]
+fn the_largest_numbers_do_not_wrap(rt: HostRuntime) {
+    let mut page = page_with(rt.alloc(), MAX_GIVEN).expect(&rt, "memory");
+    let paid = 4_611_686_018_427_387_904;
+    let first = [(reserve(FIRST, 1), done(1))];
+    assert!(rt; applies(&mut page, &first));
+    assert!(rt; quotes(&page, (FIRST, LARGEST, 0), (2001, 0, false, paid)));
+    let rows = [
+        (
+            debit(FIRST, LARGEST),
+            in_part(paid, 13_835_058_055_282_163_711),
+        ),
+        (debit(SECOND, LARGEST), in_part(0, LARGEST)),
+        (debit(SECOND, LARGEST), in_part(0, LARGEST)),
+    ];
+    assert!(rt; applies(&mut page, &rows));
+    // 13,835,058,055,282,163,711 and twice 2^64 - 1.
+    assert!(rt; sums_to(&page, (paid, 0, paid, 50_728_546_202_701_266_941)));
+}
+
+#[test]
+fn unpaid_units_pass_64_bits(rt: HostRuntime) {
+    let mut page = page_with(rt.alloc(), 0).expect(&rt, "memory");
+    let list = [debit(FIRST, LARGEST), debit(FIRST, LARGEST)];
+    assert!(rt; page.apply_all(&list) == Ok(()));
+    assert!(rt; sums_to(&page, (0, 0, 0, 36_893_488_147_419_103_230)));
+}
+
+#[test]
+fn events_without_a_session(rt: HostRuntime) {
+    let mut page = page_with(rt.alloc(), 100).expect(&rt, "memory");
+    assert!(rt; applies(&mut page, &[(charge(ACCOUNT, 30), done(30))]));
+    let last_units = Quote {
+        verdict: ResultCode::Success,
+        offer: 70,
+        is_final: true,
+        pay: 0,
+    };
+    assert!(rt; page.quote(ACCOUNT, FIRST, 0, 0, 80) == last_units);
+    let refund = Op::Refund {
+        account: ACCOUNT,
+        amount: 50,
+    };
+    assert!(rt; applies(&mut page, &[(refund, done(30))]));
+    assert!(rt; sums_to(&page, (100, 0, 0, 0)));
+}
+
+#[test]
+fn a_senseless_list_is_refused_and_booked(rt: HostRuntime) {
+    let mut page = page_with(rt.alloc(), 100).expect(&rt, "memory");
+    let list = [reserve(FIRST, 60), reserve(FIRST, 60), charge(ACCOUNT, 60)];
+    assert!(rt; page.apply_all(&list) == Ok(()));
+    assert!(rt; page.apply_all(&list) == Ok(()));
+    let outcomes = [
+        done(60),
+        Outcome::Refused,
+        Outcome::Refused,
+        Outcome::Refused,
+        Outcome::Refused,
+        Outcome::Refused,
+    ];
+    assert!(rt; has_booked(&page, &outcomes));
+    assert!(rt; sums_to(&page, (100, 60, 0, 0)));
+}
+
+#[test]
+fn a_release_ends_its_own_reservation_alone(rt: HostRuntime) {
+    let mut page = page_with(rt.alloc(), 100).expect(&rt, "memory");
+    let rows = [
+        (reserve(FIRST, 60), done(60)),
+        (reserve(SECOND, 10), done(10)),
+        (release(FIRST), done(60)),
+        (release(FIRST), done(0)),
+    ];
+    assert!(rt; applies(&mut page, &rows));
+    assert!(rt; sums_to(&page, (100, 10, 0, 0)));
+}
+
+#[test]
+fn an_unknown_account_is_told_and_refused(rt: HostRuntime) {
+    let mut page = page_with(rt.alloc(), 100).expect(&rt, "memory");
+    let unknown = Quote {
+        verdict: ResultCode::UserUnknown,
+        offer: 0,
+        is_final: false,
+        pay: 0,
+    };
+    assert!(rt; page.quote(0, FIRST, 0, 5, 5) == unknown);
+    assert!(rt; unknown.verdict.number() == 5030);
+    assert!(rt; page.totals(0).is_none());
+    assert!(rt; applies(&mut page, &[(charge(0, 1), Outcome::Refused)]));
+    assert!(rt; page.journal().len() == 1);
+}
+
+#[test]
+fn an_account_is_opened_once(rt: HostRuntime) {
+    let mut page = page_with(rt.alloc(), 100).expect(&rt, "memory");
+    let rows = [
+        (ACCOUNT, MAX_GIVEN + 1, Err(OpenError::Add(AddFault::Taken))),
+        (ACCOUNT + 1, MAX_GIVEN + 1, Err(OpenError::TooLarge)),
+        (ACCOUNT + 1, MAX_GIVEN, Ok(())),
+    ];
+    assert!(rt; opens(&mut page, &rows));
+    assert!(rt; fills(&mut page));
+    let full = [
+        (ACCOUNT, 1, Err(OpenError::Add(AddFault::Taken))),
+        (1124, MAX_GIVEN + 1, Err(OpenError::TooLarge)),
+        (1124, 1, Err(OpenError::Add(AddFault::Full))),
+    ];
+    assert!(rt; opens(&mut page, &full));
+    assert!(rt; format!(in rt.alloc(); "{}", OpenError::Add(AddFault::Full)).is_ok());
+}

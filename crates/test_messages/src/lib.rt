@@ -1,0 +1,7 @@
+//! Tests of groups and messages, over their public calls alone.
+#![tactic(auto)]
+
+#[cfg(test)]
+mod message;
+#[cfg(test)]
+mod tree;

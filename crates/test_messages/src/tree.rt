@@ -1,0 +1,379 @@
+use dia_avp::{AvpView, WriteError, write_avp, write_avps};
+use dia_dict::{AvpKind, Dictionary};
+use dia_tree::{FaultView, MsgFault, first_fault, group_list, missing_fault, normal_avp};
+use std::alloc::{AllocError, Global};
+use std::test::Fail;
+
+/// Origin-Host `a`.
+const HOST: [u8; 12] = [0, 0, 1, 8, 0x40, 0, 0, 9, 0x61, 0, 0, 0];
+
+/// Origin-Realm that is not ASCII.
+const BAD_REALM: [u8; 12] = [0, 0, 1, 0x28, 0x40, 0, 0, 9, 0x80, 0, 0, 0];
+
+/// AVP 9999 of 3 octets, which the dictionary lacks, with flag M and without.
+const UNKNOWN_M: [u8; 12] = [0, 0, 0x27, 0x0f, 0x40, 0, 0, 11, 0x61, 0x62, 0x63, 0];
+
+const UNKNOWN: [u8; 12] = [0, 0, 0x27, 0x0f, 0, 0, 0, 11, 0x61, 0x62, 0x63, 0];
+
+/// The first of them without data, and with 4 zeros.
+const NO_UNKNOWN: [u8; 8] = [0, 0, 0x27, 0x0f, 0x40, 0, 0, 8];
+
+const ZERO_UNKNOWN: [u8; 12] = [0, 0, 0x27, 0x0f, 0x40, 0, 0, 12, 0, 0, 0, 0];
+
+/// Origin-State-Id of 3 octets, and with 4 zeros.
+const SHORT_STATE: [u8; 12] = [0, 0, 1, 0x16, 0x40, 0, 0, 11, 1, 2, 3, 0];
+
+const ZERO_STATE: [u8; 12] = [0, 0, 1, 0x16, 0x40, 0, 0, 12, 0, 0, 0, 0];
+
+/// CC-Total-Octets of 17 octets that has 16, and with 8 zeros.
+const LONG_OCTETS: [u8; 16] = [0, 0, 1, 0xa5, 0x40, 0, 0, 17, 0, 0, 0, 0, 0, 0, 0, 5];
+
+const ZERO_OCTETS: [u8; 16] = [0, 0, 1, 0xa5, 0x40, 0, 0, 16, 0, 0, 0, 0, 0, 0, 0, 0];
+
+/// Service-Context-Id without data.
+const NO_CONTEXT: [u8; 8] = [0, 0, 1, 0xcd, 0x40, 0, 0, 8];
+
+/// Origin-State-Id of a vendor whose header is cut off, and with 4 zeros.
+const CUT_VENDOR: [u8; 11] = [0, 0, 1, 0x16, 0xe0, 0, 0, 20, 0, 0, 0x28];
+
+const ZERO_VENDOR: [u8; 12] = [0, 0, 1, 0x16, 0xe0, 0, 0, 12, 0, 0, 0x28, 0];
+
+/// A Used-Service-Unit with Origin-Host `a`.
+const GROUP: [u8; 20] = [
+    0, 0, 1, 0xbe, 0x40, 0, 0, 20, 0, 0, 1, 8, 0x40, 0, 0, 9, 0x61, 0, 0, 0,
+];
+
+/// An AVP without flags but M.
+fn view_of(code: u32, vendor: Option<u32>, data: &[u8]) -> AvpView<'_> {
+    AvpView {
+        code,
+        vendor,
+        mandatory: true,
+        protected: false,
+        octets: data,
+    }
+}
+
+fn avp_of(
+    alloc: Global,
+    code: u32,
+    vendor: Option<u32>,
+    data: &[u8],
+) -> Result<Vec<u8>, WriteError> {
+    let mut out = Vec::new(alloc);
+    write_avp(&view_of(code, vendor, data), &mut out)?;
+    Ok(out)
+}
+
+fn joined(alloc: Global, front: &[u8], back: &[u8]) -> Result<Vec<u8>, AllocError> {
+    let mut octets = Vec::from_slice(alloc, front)?;
+    octets.extend_from_slice(back)?;
+    Ok(octets)
+}
+
+/// The octets within so many Used-Service-Units.
+fn nested(alloc: Global, inner: &[u8], levels: usize) -> Result<Vec<u8>, WriteError> {
+    let mut octets = Vec::from_slice(alloc, inner)?;
+    for _ in 0..levels {
+        octets = avp_of(alloc, 446, None, &octets)?;
+    }
+    Ok(octets)
+}
+
+/// Whether a fault has this number and, spelled, this failed AVP.
+fn is_told(alloc: Global, fault: &MsgFault, number: u32, failed: &[u8]) -> bool {
+    let mut out = Vec::new(alloc);
+    let is_written = match &fault.failed {
+        None => true,
+        Some(avp) => write_avp(&avp.view(), &mut out).is_ok(),
+    };
+    is_written && fault.result.number() == number && out.as_slice() == failed
+}
+
+/// Whether a fault is this one; 0 where there is none.
+fn is_fault(alloc: Global, fault: Option<FaultView<'_>>, number: u32, failed: &[u8]) -> bool {
+    match fault {
+        None => number == 0 && failed.is_empty(),
+        Some(view) => match &view.to_fault(alloc) {
+            Ok(fault) => is_told(alloc, fault, number, failed),
+            Err(_) => false,
+        },
+    }
+}
+
+/// Two parts of octets, the least and the greatest number of groups that they stand in, what stands behind, the number of
+/// the first fault and its failed AVP.
+type Row<'a> = (&'a [u8], &'a [u8], usize, usize, &'a [u8], u32, &'a [u8]);
+
+/// Whether octets have the fault of a row in each number of groups.
+fn holds(alloc: Global, dictionary: &Dictionary, row: &Row<'_>) -> Result<bool, WriteError> {
+    let (first, second, least, most, behind, number, failed) = *row;
+    let inner = joined(alloc, first, second)?;
+    for levels in least..=most {
+        let groups = nested(alloc, &inner, levels)?;
+        let octets = joined(alloc, &groups, behind)?;
+        let fault = first_fault(dictionary, false, &octets);
+        if !is_fault(alloc, fault, number, failed) {
+            return Ok(false);
+        }
+    }
+    Ok(true)
+}
+
+/// 128 AVPs that the dictionary lacks.
+fn full_list(alloc: Global) -> Result<Vec<u8>, AllocError> {
+    let mut octets = Vec::new(alloc);
+    for _ in 0..128 {
+        octets.extend_from_slice(&UNKNOWN)?;
+    }
+    Ok(octets)
+}
+
+/// Whether each row holds.
+fn all_hold(alloc: Global, dictionary: &Dictionary, rows: &[Row<'_>]) -> Result<bool, WriteError> {
+    for row in rows {
+        if !holds(alloc, dictionary, row)? {
+            return Ok(false);
+        }
+    }
+    Ok(true)
+}
+
+/// Whether the faults of lists come by place.
+fn lists_hold(alloc: Global, dictionary: &Dictionary) -> Result<bool, WriteError> {
+    let cut_state = [0, 0, 1, 0x16, 0x40];
+    let cut_unknown = [0, 0, 0x27, 0x0f, 0x40];
+    let rows: [Row<'_>; 10] = [
+        (&HOST, &UNKNOWN, 0, 0, b"", 0, b""),
+        (&HOST, &UNKNOWN_M, 0, 0, b"", 5001, &UNKNOWN_M),
+        (&UNKNOWN_M, &BAD_REALM, 0, 0, b"", 5001, &UNKNOWN_M),
+        (&BAD_REALM, &UNKNOWN_M, 0, 0, b"", 5004, &BAD_REALM),
+        (&HOST, &SHORT_STATE, 0, 0, b"", 5014, &ZERO_STATE),
+        (&HOST, &LONG_OCTETS, 0, 0, b"", 5014, &ZERO_OCTETS),
+        (&BAD_REALM, &LONG_OCTETS, 0, 0, b"", 5004, &BAD_REALM),
+        // A header that is cut off: its missing octets count as zero.
+        (&HOST, &cut_state, 0, 0, b"", 5014, &ZERO_STATE),
+        (&HOST, &cut_unknown, 0, 0, b"", 5014, &NO_UNKNOWN),
+        (&HOST, &CUT_VENDOR, 0, 0, b"", 5014, &ZERO_VENDOR),
+    ];
+    all_hold(alloc, dictionary, &rows)
+}
+
+/// Whether the faults inside groups come at the group's place, and groups have at most 4 levels.
+fn groups_hold(alloc: Global, dictionary: &Dictionary) -> Result<bool, WriteError> {
+    let cut_host = [0, 0, 1, 8, 0x40, 0, 0];
+    let rows: [Row<'_>; 12] = [
+        // Two AVPs inside groups and one behind.
+        (&ZERO_OCTETS, &UNKNOWN, 1, 4, &HOST, 0, b""),
+        (&UNKNOWN_M, &LONG_OCTETS, 1, 4, &BAD_REALM, 5001, &UNKNOWN_M),
+        (&UNKNOWN, &LONG_OCTETS, 1, 4, &BAD_REALM, 5014, &ZERO_OCTETS),
+        (&HOST, &BAD_REALM, 1, 4, &UNKNOWN_M, 5004, &BAD_REALM),
+        (&HOST, &HOST, 1, 4, &UNKNOWN_M, 5001, &UNKNOWN_M),
+        (&HOST, &SHORT_STATE, 1, 4, &cut_host, 5014, &ZERO_STATE),
+        // The fifth level is one too many.
+        (&HOST, b"", 4, 4, b"", 0, b""),
+        (&HOST, b"", 5, 6, b"", 5012, b""),
+        (b"", b"", 4, 4, b"", 0, b""),
+        (b"", b"", 5, 6, b"", 5012, b""),
+        // What is wrong before a group too many comes first.
+        (&UNKNOWN_M, &GROUP, 4, 4, b"", 5001, &UNKNOWN_M),
+        (&GROUP, &UNKNOWN_M, 4, 4, b"", 5012, b""),
+    ];
+    all_hold(alloc, dictionary, &rows)
+}
+
+/// Whether a list has at most 128 AVPs at each level; `full` has as many.
+fn full_lists_hold(
+    alloc: Global,
+    dictionary: &Dictionary,
+    full: &[u8],
+) -> Result<bool, WriteError> {
+    let cut = [0, 0, 0x27, 0x0f, 0x40, 0, 0, 11, 0x61];
+    let rows: [Row<'_>; 4] = [
+        (full, b"", 0, 4, b"", 0, b""),
+        (full, &UNKNOWN, 0, 4, b"", 5012, b""),
+        (full, &UNKNOWN_M, 0, 4, b"", 5012, b""),
+        (full, &cut, 0, 4, b"", 5014, &NO_UNKNOWN),
+    ];
+    all_hold(alloc, dictionary, &rows)
+}
+
+#[test]
+fn the_first_fault_comes_by_place_with_its_failed_avp(rt: HostRuntime) -> Result<(), Fail> {
+    let alloc = rt.alloc();
+    let full = full_list(alloc)?;
+    let dictionary = Dictionary::base(alloc)?;
+    assert!(rt; lists_hold(alloc, &dictionary)? && groups_hold(alloc, &dictionary)?);
+    assert!(rt; full_lists_hold(alloc, &dictionary, &full)?);
+    Ok(())
+}
+
+/// A code and data, and the number of the fault in an EVENT request and in any other message.
+type ValueRow<'a> = (u32, &'a [u8], u32, u32);
+
+/// Whether an AVP has this fault in an EVENT request or another message, in 0 to 4 groups; a value that is refused fails
+/// as it is.
+fn value_fails(
+    alloc: Global,
+    dictionary: &Dictionary,
+    avp: &[u8],
+    event: bool,
+    number: u32,
+) -> Result<bool, WriteError> {
+    for levels in 0..5usize {
+        let octets = nested(alloc, avp, levels)?;
+        let fault = first_fault(dictionary, event, &octets);
+        let is_numbered = match &fault {
+            None => number == 0,
+            Some(view) => view.result.number() == number,
+        };
+        if !is_numbered || number == 5004 && !is_fault(alloc, fault, number, avp) {
+            return Ok(false);
+        }
+    }
+    Ok(true)
+}
+
+/// Whether the AVP of a row has the faults of the row, and that of a vendor is unknown.
+fn value_holds(
+    alloc: Global,
+    dictionary: &Dictionary,
+    row: &ValueRow<'_>,
+) -> Result<bool, WriteError> {
+    let (code, data, in_event, else_where) = *row;
+    let own = avp_of(alloc, code, None, data)?;
+    let of_vendor = avp_of(alloc, code, Some(10415), data)?;
+    Ok(
+        value_fails(alloc, dictionary, &own, true, in_event)?
+            && value_fails(alloc, dictionary, &own, false, else_where)?
+            && is_fault(
+                alloc,
+                first_fault(dictionary, true, &of_vendor),
+                5001,
+                &of_vendor,
+            )
+            && is_fault(
+                alloc,
+                first_fault(dictionary, false, &of_vendor),
+                5001,
+                &of_vendor,
+            ),
+    )
+}
+
+/// Whether the values that credit control does not know are refused.
+fn values_hold(alloc: Global, dictionary: &Dictionary) -> Result<bool, WriteError> {
+    let longest = [0x61; 255];
+    let long = [0x61; 256];
+    let rows: [ValueRow<'_>; 14] = [
+        (263, b"", 5004, 5004),
+        (263, b"s", 0, 0),
+        (263, &longest, 0, 0),
+        (263, &long, 5004, 5004),
+        (416, &[0, 0, 0, 0], 5004, 5004),
+        (416, &[0, 0, 0, 1], 0, 0),
+        (416, &[0, 0, 0, 4], 0, 0),
+        (416, &[0, 0, 0, 5], 5004, 5004),
+        (416, &[0, 0, 1, 1], 5004, 5004),
+        (416, &[0, 0, 1], 5014, 5014),
+        (436, &[0, 0, 0, 0], 0, 0),
+        (436, &[0, 0, 0, 3], 0, 0),
+        (436, &[0, 0, 0, 4], 5004, 0),
+        (436, &[1, 0, 0, 3], 5004, 0),
+    ];
+    for row in &rows {
+        if !value_holds(alloc, dictionary, row)? {
+            return Ok(false);
+        }
+    }
+    Ok(true)
+}
+
+#[test]
+fn values_that_credit_control_does_not_know_are_5004(rt: HostRuntime) -> Result<(), Fail> {
+    let alloc = rt.alloc();
+    let dictionary = Dictionary::base(alloc)?;
+    assert!(rt; values_hold(alloc, &dictionary)?);
+    Ok(())
+}
+
+#[test]
+fn a_missing_avp_has_zeros_of_the_least_size_of_its_type(rt: HostRuntime) -> Result<(), Fail> {
+    let alloc = rt.alloc();
+    let mut dictionary = Dictionary::base(alloc)?;
+    let rows: [(u32, &[u8]); 4] = [
+        (461, &NO_CONTEXT),
+        (278, &ZERO_STATE),
+        (421, &ZERO_OCTETS),
+        (9999, &NO_UNKNOWN),
+    ];
+    for (code, failed) in rows {
+        let fault = missing_fault(&dictionary, code);
+        assert!(rt; is_fault(alloc, Some(fault), 5005, failed), "{code}");
+    }
+    // An AVP that was added is known in groups too.
+    let row: Row<'_> = (&UNKNOWN_M, b"", 2, 2, b"", 5001, &UNKNOWN_M);
+    assert!(rt; holds(alloc, &dictionary, &row)?);
+    dictionary.add(9999, None, "Test", AvpKind::Unsigned32)?;
+    let row: Row<'_> = (&UNKNOWN_M, b"", 2, 2, b"", 5014, &ZERO_UNKNOWN);
+    assert!(rt; holds(alloc, &dictionary, &row)?);
+    Ok(())
+}
+
+/// Subscription-Id within Subscription-Id, with reserved flags 0x1f and padding 0xff; the last padding is missing.
+const ODD: [u8; 47] = [
+    0, 0, 1, 0xbb, 0x5f, 0, 0, 47, //
+    0, 0, 1, 0xbb, 0x7f, 0, 0, 26, //
+    0, 0, 1, 0xbc, 0x5f, 0, 0, 9, 0x31, 0xff, 0xff, 0xff, //
+    0, 0, 1, 0xbc, 0x1f, 0, // a header that is cut off
+    0xff, 0xff, //
+    0, 0, 1, 0xbc, 0x5f, 0, 0, 11, 0x31, 0x30, 0x30,
+];
+
+/// The same in its one spelling.
+const EVEN: [u8; 40] = [
+    0, 0, 1, 0xbb, 0x40, 0, 0, 40, //
+    0, 0, 1, 0xbb, 0x60, 0, 0, 20, //
+    0, 0, 1, 0xbc, 0x40, 0, 0, 9, 0x31, 0, 0, 0, //
+    0, 0, 1, 0xbc, 0x40, 0, 0, 11, 0x31, 0x30, 0x30, 0,
+];
+
+/// The normal spelling of `ODD`.
+#[tactic(auto, unfolding(dia_avp::specs::Spelling::length_of))]
+fn normal_spelling(alloc: Global, dictionary: &Dictionary) -> Result<Vec<u8>, WriteError> {
+    let odd = AvpView {
+        code: 443,
+        vendor: None,
+        mandatory: true,
+        protected: false,
+        octets: &ODD[8..],
+    };
+    let normal = normal_avp(alloc, dictionary, &odd)?;
+    let mut out = Vec::new(alloc);
+    write_avp(&normal.view(), &mut out)?;
+    Ok(out)
+}
+
+/// Whether a group holds so many AVPs, and these are spelled so.
+fn is_group_of(
+    alloc: Global,
+    dictionary: &Dictionary,
+    octets: &[u8],
+    count: usize,
+    spelling: &[u8],
+) -> Result<bool, WriteError> {
+    let list = group_list(alloc, dictionary, octets)?;
+    let mut out = Vec::new(alloc);
+    write_avps(&list, &mut out)?;
+    Ok(list.len() == count && out.as_slice() == spelling)
+}
+
+#[test]
+fn reserved_flags_and_padding_become_zero_at_every_level(rt: HostRuntime) -> Result<(), Fail> {
+    let alloc = rt.alloc();
+    let dictionary = Dictionary::base(alloc)?;
+    let normal = normal_spelling(alloc, &dictionary)?;
+    assert!(rt; normal.as_slice() == EVEN.as_slice());
+    assert!(rt; is_group_of(alloc, &dictionary, &ODD[8..], 2, &EVEN[8..])?);
+    Ok(())
+}

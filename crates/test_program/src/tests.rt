@@ -1,0 +1,7 @@
+//! What is printed, and how a run ends, over readers and writers in memory.
+mod commands;
+mod faults;
+mod inputs;
+mod messages;
+mod streams;
+mod walks;

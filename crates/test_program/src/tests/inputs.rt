@@ -1,0 +1,236 @@
+//! What is printed of an input, and how reading it ends.
+use super::streams::{Narrow, Pieces, prints, prints_from};
+use bench_device::{Counting, Status};
+use msg_text::read_on;
+use std::alloc::Global;
+use std::io::ErrorKind;
+use std::test::Fail;
+
+const DWR: &str = "\
+0100003880000118000000000000000100000001\
+0000010840000011612e6578616d706c65000000\
+000001284000000f6578616d706c6500";
+
+const DWR_TEXT: &str = "\
+message 280 R--- app 0 hop 1 end 1 length 56
+  264 -M- 17 612e6578616d706c65
+  296 -M- 15 6578616d706c65
+octets 01000038800001180000000000000001000000010000010840000011612e6578616d706c65000000000001284000000f6578616d706c6500
+";
+
+/// The same with other reserved bits and padding.
+const DWR_OTHER_BITS: &str = "\
+010000388f000118000000000000000100000001\
+000001085f000011612e6578616d706c65ffffff\
+000001285f00000f6578616d706c65ff";
+
+/// The same in upper case, with blanks between.
+const DWR_UPPER: &str = "\
+ 0100003880000118000000000000000100000001\t0000010840000011612E6578616D706C65000000\r
+000001284000000F6578616D706C650\n\n0\n";
+
+/// Origin-State-Id 2^32 - 1 with flag P, and an unknown AVP of vendor 10415 without data.
+const VENDOR: &str = "\
+010000448000011800000000ffffffff00000000\
+0000010840000009610000000000012840000009\
+62000000000001162000000cffffffff0000270f8000000c000028af";
+
+const VENDOR_TEXT: &str = "\
+message 280 R--- app 0 hop 4294967295 end 0 length 68
+  264 -M- 9 61
+  296 -M- 9 62
+  278 --P 12 ffffffff
+  9999/10415 V-- 12
+octets 010000448000011800000000ffffffff00000000\
+0000010840000009610000000000012840000009\
+62000000000001162000000cffffffff0000270f8000000c000028af
+";
+
+#[test]
+fn messages_and_faults_are_printed(rt: HostRuntime) -> Result<(), Fail> {
+    for (input, wanted, status) in [
+        (DWR, DWR_TEXT, 0),
+        (DWR_OTHER_BITS, DWR_TEXT, 0),
+        (DWR_UPPER, DWR_TEXT, 0),
+        (VENDOR, VENDOR_TEXT, 0),
+        ("", "", 0),
+        (" \r\n\t", "", 0),
+        (
+            "010000448000011800000000000000010000000100000108400000116\
+12e6578616d706c65000000000001284000000f6578616d706c65000000270f4000000c00000001",
+            "fault 5001 0000270f4000000c00000001\n",
+            1,
+        ),
+        (
+            "01000038800001180000000000000001000000010000010840000011ff2e6578616d706c65000000\
+000001284000000f6578616d706c6500",
+            "fault 5004 0000010840000011ff2e6578616d706c65000000\n",
+            1,
+        ),
+        (
+            "01000028800001180000000000000001000000010000010840000011612e6578616d706c65000000",
+            "fault 5005 0000012840000008\n",
+            1,
+        ),
+        (
+            "0100001c800001180000000000000001000000010000010840000007",
+            "fault 5014 0000010840000008\n",
+            1,
+        ),
+        (
+            "01000020800001180000000000000001000000010000011640000009ff000000",
+            "fault 5014 000001164000000c00000000\n",
+            1,
+        ),
+        (
+            "0100001480000119000000000000000100000001",
+            "fault 3001\n",
+            1,
+        ),
+        (
+            "0100001400000118000000000000000100000001",
+            "fault 5005 0000010c4000000c00000000\n",
+            1,
+        ),
+        (
+            "0100001480000118000000040000000100000001",
+            "fault 3007\n",
+            1,
+        ),
+    ] {
+        let is_printed = prints(rt.alloc(), input, wanted, status)?;
+        assert!(rt; is_printed, "of {input}");
+    }
+    Ok(())
+}
+
+#[test]
+fn an_input_ends_at_the_first_octets_that_are_none(rt: HostRuntime) -> Result<(), Fail> {
+    let alloc = rt.alloc();
+    for (rest, behind, end) in [
+        ("zz", "", "bad hex"),
+        ("0", "", "bad hex"),
+        ("01 0g", "", "bad hex"),
+        ("01000010 g", "", "frame fault 2"),
+        ("02", DWR, "frame fault 1"),
+        ("01000010", DWR, "frame fault 2"),
+        ("01000016", DWR, "frame fault 2"),
+        ("01001004", DWR, "frame fault 2"),
+    ] {
+        for (before, lines) in [("", ""), (DWR, DWR_TEXT)] {
+            let input = format!(in alloc; "{before}{rest}{behind}")?;
+            let wanted = format!(in alloc; "{lines}{end}\n")?;
+            let is_printed = prints(alloc, input.as_str(), wanted.as_str(), 1)?;
+            assert!(rt; is_printed, "of {input}");
+        }
+    }
+    Ok(())
+}
+
+#[test]
+fn a_front_of_a_message_is_a_fault(rt: HostRuntime) -> Result<(), Fail> {
+    for count in 1..56 {
+        let front = DWR.get(..2 * count).ok_or("a front")?;
+        let is_printed = prints(rt.alloc(), front, "fault 5015\n", 1)?;
+        assert!(rt; is_printed, "of {count} octets");
+    }
+    Ok(())
+}
+
+#[test]
+fn too_many_avps_are_a_fault(rt: HostRuntime) -> Result<(), Fail> {
+    let mut many = String::from_str(rt.alloc(), "0100041c80000118000000000000000100000001")?;
+    for _ in 0..129 {
+        many.push_str("0000270f00000008")?;
+    }
+    let is_printed = prints(rt.alloc(), many.as_str(), "fault 5012\n", 1)?;
+    assert!(rt; is_printed);
+    Ok(())
+}
+
+#[test]
+fn a_stream_may_be_cut_anywhere_and_may_fail(rt: HostRuntime) -> Result<(), Fail> {
+    let alloc = rt.alloc();
+    for (rest, end, error, status, sizes) in [
+        ("", "", None, 0, [1, 7, 41, 112, 4095]),
+        (
+            "01",
+            "read fault\n",
+            Some(ErrorKind::BrokenPipe),
+            3,
+            [1, 7, 41, 112, 4095],
+        ),
+    ] {
+        let input = format!(in alloc; "{DWR}\n{DWR}{rest}")?;
+        let wanted = format!(in alloc; "{DWR_TEXT}{DWR_TEXT}{end}")?;
+        for size in sizes {
+            let reader = Pieces {
+                octets: input.as_bytes(),
+                size,
+                error,
+            };
+            let is_printed = prints_from(alloc, reader, wanted.as_str(), status)?;
+            assert!(rt; is_printed, "in pieces of {size}");
+        }
+    }
+    Ok(())
+}
+
+#[test]
+fn a_reader_without_end_is_a_read_fault(rt: HostRuntime) -> Result<(), Fail> {
+    let mut source = Counting::new(Pieces {
+        octets: DWR.as_bytes(),
+        size: 9,
+        error: Some(ErrorKind::Interrupted),
+    });
+    let mut sink = Counting::new(Vec::new(rt.alloc()));
+    let status = read_on(rt.alloc(), &mut source, &mut sink);
+    let wanted = format!(in rt.alloc();
+        "{DWR_TEXT}read fault: no end of input after 1048576 reads\n"
+    )?;
+    assert!(rt; sink.device.as_slice() == wanted.as_bytes());
+    assert!(rt; status.code() == 3);
+    assert!(rt; source.reads == 1_048_576);
+    assert!(rt; source.failures == 0);
+    Ok(())
+}
+
+/// Whether a writer with this room takes a front of the text, and the status is 3. It fails with the error, or takes nothing
+/// in 1,048,576 writes.
+fn is_write_fault(alloc: Global, room: usize, error: Option<ErrorKind>) -> Result<bool, Fail> {
+    let mut source = Counting::new(Pieces {
+        octets: DWR.as_bytes(),
+        size: 4095,
+        error: None,
+    });
+    let taken = Vec::new(alloc);
+    let mut sink = Counting::new(Narrow { taken, room, error });
+    let status = read_on(alloc, &mut source, &mut sink);
+    let front = DWR_TEXT.as_bytes().get(..room).ok_or("a front")?;
+    let failures = if error == Some(ErrorKind::BrokenPipe) {
+        1
+    } else {
+        0
+    };
+    Ok(
+        status == Status::Fault
+            && sink.device.taken.as_slice() == front
+            && sink.failures == failures
+            && sink.idle == 1_048_576 * (1 - failures),
+    )
+}
+
+#[test]
+fn a_writer_that_fails_or_takes_nothing_is_a_write_fault(rt: HostRuntime) -> Result<(), Fail> {
+    for (room, error) in [
+        (0, Some(ErrorKind::BrokenPipe)),
+        (50, Some(ErrorKind::BrokenPipe)),
+        (0, None),
+        (50, None),
+        (50, Some(ErrorKind::WouldBlock)),
+    ] {
+        let is_fault = is_write_fault(rt.alloc(), room, error)?;
+        assert!(rt; is_fault, "with room for {room}");
+    }
+    Ok(())
+}

@@ -1,0 +1,97 @@
+//! Readers and writers in memory, and what `read_on` prints of a text.
+use bench_device::Counting;
+use msg_text::read_on;
+use std::alloc::Global;
+use std::io;
+use std::io::{ErrorKind, Read, Write};
+use std::test::Fail;
+
+/// Gives its octets in pieces, and then fails with this error, or ends.
+#[derive(Drop)]
+pub(crate) struct Pieces<'a> {
+    pub(crate) octets: &'a [u8],
+    pub(crate) size: usize,
+    pub(crate) error: Option<ErrorKind>,
+}
+
+impl Read for Pieces<'_> {
+    fn read(&mut self, buffer: &mut [u8]) -> io::Result<usize> {
+        let count = self.size.min(buffer.len()).min(self.octets.len());
+        if count == 0 {
+            return match self.error {
+                Some(kind) => Err(io::Error::from(kind)),
+                None => Ok(0),
+            };
+        }
+        let (front, rest) = self.octets.split_at(count);
+        buffer[..count].copy_from_slice(front);
+        self.octets = rest;
+        Ok(count)
+    }
+}
+
+/// Takes so many octets, a few at a time, and then fails or takes nothing more.
+#[derive(Drop)]
+pub(crate) struct Narrow {
+    pub(crate) taken: Vec<u8>,
+    pub(crate) room: usize,
+    pub(crate) error: Option<ErrorKind>,
+}
+
+impl Write for Narrow {
+    fn write(&mut self, octets: &[u8]) -> io::Result<usize> {
+        let count = 7.min(self.room).min(octets.len());
+        if count == 0 {
+            return match self.error {
+                Some(kind) => Err(io::Error::from(kind)),
+                None => Ok(0),
+            };
+        }
+        self.taken.extend_from_slice(&octets[..count])?;
+        self.room -= count;
+        Ok(count)
+    }
+
+    fn flush(&mut self) -> io::Result<()> {
+        Ok(())
+    }
+}
+
+/// What is printed of a reader's text, and the status.
+pub(crate) fn read_from(alloc: Global, reader: Pieces<'_>) -> Result<(u8, String), Fail> {
+    let mut source = Counting::new(reader);
+    let mut sink = Counting::new(Vec::new(alloc));
+    let status = read_on(alloc, &mut source, &mut sink);
+    let text = String::from_utf8(sink.device).map_err(|_| "text")?;
+    Ok((status.code(), text))
+}
+
+/// The same of a text in pieces of a few characters.
+pub(crate) fn read(alloc: Global, input: &str) -> Result<(u8, String), Fail> {
+    let octets = input.as_bytes();
+    read_from(
+        alloc,
+        Pieces {
+            octets,
+            size: 4095,
+            error: None,
+        },
+    )
+}
+
+/// Whether this text is printed of the reader's, and this is the status.
+pub(crate) fn prints_from(
+    alloc: Global,
+    reader: Pieces<'_>,
+    wanted: &str,
+    code: u8,
+) -> Result<bool, Fail> {
+    let (status, text) = read_from(alloc, reader)?;
+    Ok(text.as_str() == wanted && status == code)
+}
+
+/// The same of a text in pieces of a few characters.
+pub(crate) fn prints(alloc: Global, input: &str, wanted: &str, code: u8) -> Result<bool, Fail> {
+    let (status, text) = read(alloc, input)?;
+    Ok(text.as_str() == wanted && status == code)
+}

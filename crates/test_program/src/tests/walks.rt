@@ -1,0 +1,109 @@
+//! What a walk prints.
+use bench_device::{Counting, Status};
+use std::alloc::Global;
+use std::test::Fail;
+use tab_law::{ActLaw, Atom, Change, Field, GuardLaw, LawBook, PLACES, Term, Test};
+use tab_walk::walk_on;
+
+const TABLE: &str = "  State  Event                        Action         Next
+  Wait   CCA-I when mine and success  Grant-Service  Done
+  Wait   CCA-I                        End-Service    Wait
+";
+
+/// A guard that says yes where the field is the atom.
+fn equal(alloc: Global, field: Field, atom: Atom) -> Result<GuardLaw, Fail> {
+    let mut tests = Vec::new(alloc);
+    tests.push(Test::Equal(field, atom))?;
+    Ok(GuardLaw::new(tests))
+}
+
+/// The action that keeps which service it hands out.
+fn service(alloc: Global, kind: u64) -> Result<ActLaw, Fail> {
+    let mut terms = [Term::Just(Atom::Constant(0)); PLACES];
+    terms[0] = Term::Just(Atom::Constant(kind));
+    let mut changes = Vec::new(alloc);
+    changes.push(Change::Set(10, Term::Just(Atom::Constant(kind))))?;
+    changes.push(Change::Emit(30, terms))?;
+    Ok(ActLaw::new(changes))
+}
+
+/// A client's guards `mine` and `success`, its services, and the kinds CCA-I and Tx.
+fn client_book(alloc: Global) -> Result<LawBook, Fail> {
+    let mut book = LawBook::new(alloc);
+    book.add_kind(b"CCA-I")?;
+    book.add_kind(b"Tx")?;
+    let mine = equal(alloc, Field::Fact(6), Atom::Register(1))?;
+    let success = equal(alloc, Field::Fact(12), Atom::Constant(2001))?;
+    let _ = book.add_guard(b"mine", mine);
+    let _ = book.add_guard(b"success", success);
+    let _ = book.add_act(b"Grant-Service", service(alloc, 1)?);
+    let _ = book.add_act(b"End-Service", service(alloc, 2)?);
+    Ok(book)
+}
+
+/// Whether a walk prints this text and ends so.
+fn walks(
+    alloc: Global,
+    book: &LawBook,
+    table: &str,
+    events: &str,
+    printed: &str,
+    wanted: Status,
+) -> bool {
+    let mut sink = Counting::new(Vec::new(alloc));
+    let status = walk_on(alloc, table.as_bytes(), book, events, &mut sink);
+    sink.device.as_slice() == printed.as_bytes() && status == wanted
+}
+
+const EVENTS: &str = "CCA-I 12=5012\nCCA-I 6=1 12=2001\nTx\nCCA-I 12=2001\n";
+
+const PRINTED: &str = "\
+CCA-I Wait Wait row 1
+  Service 2
+CCA-I Wait Wait row 1
+  Service 2
+Tx Wait Wait row -
+  Unlisted
+CCA-I Wait Done row 0
+  Service 1
+";
+
+const NO_HEADER: &str = "  Wait CCA-I - Wait\n";
+
+const UNKNOWN: &str = "  State  Event  Action  Next\n  Wait   Start  -       Wait\n";
+
+#[test]
+fn each_step_and_its_deeds_are_printed_or_the_first_refusal(rt: HostRuntime) -> Result<(), Fail> {
+    let book = client_book(rt.alloc())?;
+    for (table, events, printed, status) in [
+        (TABLE, EVENTS, PRINTED, Status::Done),
+        // A deed's arguments go up to the last that isn't 0.
+        (
+            TABLE,
+            "Tx 0=7 2=9 3=0\n",
+            "Tx Wait Wait row -\n  Unlisted 7 0 9\n",
+            Status::Done,
+        ),
+        (NO_HEADER, "", "line 1 fault 1\n", Status::Refused),
+        (UNKNOWN, "", "unbound Start\n", Status::Refused),
+        (
+            TABLE,
+            "CCA-I 12=2001\nCCA-U\n",
+            "bad line 2\n",
+            Status::Refused,
+        ),
+        (TABLE, "CCA-I 16=1\n", "bad line 1\n", Status::Refused),
+        (TABLE, "CCA-I 12=1 12=1\n", "bad line 1\n", Status::Refused),
+        (TABLE, "CCA-I 12\n", "bad line 1\n", Status::Refused),
+        (
+            TABLE,
+            "\n  a log's line is skipped\nTx 3=x\n",
+            "bad line 3\n",
+            Status::Refused,
+        ),
+    ] {
+        let is_printed = walks(rt.alloc(), &book, table, events, printed, status);
+        assert!(rt; is_printed, "of {events}");
+    }
+    Ok(())
+}
