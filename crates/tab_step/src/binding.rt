@@ -5,11 +5,11 @@ ghost use Rattle.tab_text.specs.Contents.{IsRowOf};
 ghost use Rattle.tab_step.specs.Moves.{name_at};
 ghost use Rattle.tab_step.specs.Bind.{lacking, lacking_in, missing, IsPlacesOf, IsBoundTo, IsUnbound};
 
-use crate::bound::{Bound, Places, RowPlaces};
+use crate::bound::{Bound, RowPlaces};
 use base_list::{NamedList, Octets};
 use std::alloc::{AllocError, Global};
-use tab_law::{LawBook, MAX_ROW_ACTIONS};
-use tab_text::{NameList, Row, Table};
+use tab_law::LawBook;
+use tab_text::{MAX_ROW_ACTIONS, NameList, Places, Row, Table};
 use thiserror::Error;
 
 /// Why a table isn't bound.
@@ -32,6 +32,15 @@ impl From<AllocError> for Unbound {
         Unbound::NoMemory
     }
 }
+
+// A book has room for the names of every table, and a chain for the actions of every row.
+const _: () = prove!(tab_text::MAX_KINDS <= tab_law::MAX_KINDS);
+
+const _: () = prove!(tab_text::MAX_GUARDS <= tab_law::MAX_GUARDS);
+
+const _: () = prove!(tab_text::MAX_ACTIONS <= tab_law::MAX_ACTIONS);
+
+const _: () = prove!(tab_text::MAX_ROW_ACTIONS <= tab_law::MAX_ROW_ACTIONS);
 
 /// The place of a name of the table in a list of a book, or that name where it isn't there.
 fn find_one<'a, T: Drop>(

@@ -1,54 +1,10 @@
-ghost use Rattle.std.specs.Prelude.{◌≡◌, ℕ, ◌≤◌, ◌<◌, ◌++◌, ◌∷◌, [], List, length};
+ghost use Rattle.std.specs.Prelude.{◌≡◌};
 
 use std::marker::Model;
-use tab_law::MAX_ROW_ACTIONS;
-use tab_text::Table;
+use tab_text::{Places, Table};
 
-/// Places in a book, in order: those of a row's guards or actions.
-#[derive(Drop)]
-pub struct Places {
-    items: [u8; MAX_ROW_ACTIONS],
-    count: usize,
-}
-
-impl Model for Places {
-    ghost use Rattle.std.specs.Prelude.{List, ℕ, take, ◌≤◌, ◌≡◌, length};
-    ghost use Rattle.tab_law.specs.declared.limits.TheConstants.{MAX_ROW_ACTIONS};
-
-    ghost Value = { List ℕ };
-
-    ghost view = { λ p. take p.count p.items };
-
-    ghost invariant = { λ p. (p.count ≤ MAX_ROW_ACTIONS) × (length p.items ≡ MAX_ROW_ACTIONS) };
-}
-
-impl Places {
-    pub(crate) fn new() -> Places
-        ensures { result ≡ [] }
-    {
-        Places {
-            items: [0; MAX_ROW_ACTIONS],
-            count: 0,
-        }
-    }
-
-    pub(crate) fn push(&mut self, place: u8)
-        requires { length self.old < MAX_ROW_ACTIONS }
-        ensures { self.new ≡ self.old ++ place ∷ [] }
-    {
-        self.items[self.count] = place;
-        self.count += 1;
-    }
-
-    pub fn as_slice(&self) -> &[u8]
-        ensures value { result.now ≡ self.now }
-        ensures few { length self.now ≤ MAX_ROW_ACTIONS }
-    {
-        &self.items[..self.count]
-    }
-}
-
-/// Where the names of a row stand in a book.
+/// Where the names of a row stand in a book: the place of its kind, and those of its guards and its
+/// actions, in order.
 #[derive(Drop)]
 pub struct RowPlaces {
     pub kind: u8,

@@ -11,7 +11,7 @@ mod running;
 mod stepping;
 
 pub use binding::{Unbound, bind};
-pub use bound::{Bound, Places, RowPlaces};
+pub use bound::{Bound, RowPlaces};
 pub use machine::{Event, MachineState, Stepped};
 pub use running::run;
 pub use stepping::step;

@@ -3,7 +3,7 @@ ghost use Rattle.std.specs.Prelude.{◌≡◌, ◌<◌, ◌≤◌, [], ◌∷◌
 use crate::limits::MAX_ROW_ACTIONS;
 use std::marker::Model;
 
-/// The numbers of a row's guards or actions, in order: at most 8.
+/// Numbers of a row's guards or actions, in order: at most 8, in room of their own.
 #[derive(Debug, Drop)]
 pub struct Places {
     items: [u8; MAX_ROW_ACTIONS],
@@ -22,7 +22,8 @@ impl Model for Places {
 }
 
 impl Places {
-    pub(crate) fn new() -> Places
+    /// No numbers.
+    pub fn new() -> Places
         ensures { result ≡ [] }
     {
         Places {
@@ -31,7 +32,8 @@ impl Places {
         }
     }
 
-    pub(crate) fn push(&mut self, place: u8)
+    /// Adds a number at the end.
+    pub fn push(&mut self, place: u8)
         requires { length self.old < MAX_ROW_ACTIONS }
         ensures { self.new ≡ self.old ++ place ∷ [] }
     {

@@ -7,7 +7,7 @@ use base_codes::{DeedCode, session_fact, session_register};
 use base_list::AddError;
 use std::alloc::{AllocError, Global};
 use std::test::Fail;
-use tab_law::{ActLaw, Atom, Change, Field, GuardLaw, LawBook, PLACES, Term, Test};
+use tab_law::{ActLaw, Atom, Change, Deed, Field, GuardLaw, LawBook, PLACES, Term, Test};
 use tab_step::{Bound, Event, MachineState, Stepped, Unbound, bind, run, step};
 use tab_text::parse;
 
@@ -19,14 +19,19 @@ const CLIENT: &str =
 const BUSY: &str =
     "  State  Event                        Action                                          Next\n  Wait   Go when a and b and c and d  Four, Four, Four, Four, Four, Four, Four, Four  Done\n";
 
+/// The numbers of the facts of an answer's request number, and of its Result-Code.
+const NUMBER: u8 = session_fact::REQUEST_NUMBER as u8;
+
+const RESULT: u8 = session_fact::RESULT_CODE as u8;
+
 fn number(value: u64) -> Term {
     Term::Just(Atom::Constant(value))
 }
 
 /// A guard that says yes where that fact is the atom.
-fn equal(alloc: Global, fact: usize, atom: Atom) -> Result<GuardLaw, AllocError> {
+fn equal(alloc: Global, fact: u8, atom: Atom) -> Result<GuardLaw, AllocError> {
     let mut tests = Vec::new(alloc);
-    tests.push(Test::Equal(Field::Fact((fact % PLACES) as u8), atom))?;
+    tests.push(Test::Equal(Field::Fact(fact), atom))?;
     Ok(GuardLaw::new(tests))
 }
 
@@ -64,11 +69,8 @@ fn add_client(alloc: Global, book: &mut LawBook) -> Result<(), AddError> {
     let success = Atom::Constant(2001);
     book.add_kind(b"CCA-I")?;
     book.add_kind(b"Tx")?;
-    book.add_guard(
-        b"success",
-        equal(alloc, session_fact::RESULT_CODE, success)?,
-    )?;
-    book.add_guard(b"mine", equal(alloc, session_fact::REQUEST_NUMBER, own)?)?;
+    book.add_guard(b"success", equal(alloc, RESULT, success)?)?;
+    book.add_guard(b"mine", equal(alloc, NUMBER, own)?)?;
     book.add_act(b"End-Service", service(alloc, 2)?)?;
     book.add_act(b"Grant-Service", service(alloc, 1)?)?;
     Ok(())
@@ -176,15 +178,35 @@ fn add_busy(alloc: Global, book: &mut LawBook) -> Result<(), AddError> {
     Ok(())
 }
 
+/// Whether register 1 counts on from 1 in a chain.
+fn counts_on(chain: &[[u64; PLACES]]) -> bool {
+    for place in 0..chain.len() {
+        if chain[place][1] != place as u64 + 1 {
+            return false;
+        }
+    }
+    true
+}
+
+/// Whether the first argument of deeds counts on from 1, in fours.
+fn counts_in_fours(deeds: &[Deed]) -> bool {
+    for (place, deed) in deeds.iter().enumerate() {
+        if deed.a[0] != place as u64 / 4 + 1 {
+            return false;
+        }
+    }
+    true
+}
+
 /// Whether a step has eight members in its chain and 32 deeds, each action counting on.
 fn is_full(stepped: &Stepped) -> bool {
     let chain = stepped.chain.as_slice();
     let deeds = stepped.deeds.as_slice();
     stepped.after.regs[1] == 8
         && chain.len() == 8
-        && chain[2][1] == 3
+        && counts_on(chain)
         && deeds.len() == 32
-        && deeds[11].a[0] == 3
+        && counts_in_fours(deeds)
 }
 
 #[test]
@@ -198,11 +220,13 @@ fn eight_actions_with_four_deeds_each_fill_a_step(rt: HostRuntime) -> Result<(),
 }
 
 /// Whether that is the first name of the client's table that a book lacks.
-fn is_missing(alloc: Global, book: &LawBook, name: &str) -> Result<bool, Fail> {
-    let table = parse(alloc, CLIENT.as_bytes())?;
+fn is_missing(alloc: Global, book: &LawBook, name: &str) -> bool {
+    let Ok(table) = parse(alloc, CLIENT.as_bytes()) else {
+        return false;
+    };
     match bind(alloc, table, book) {
-        Err(Unbound::Missing(missing)) => Ok(missing.as_slice() == name.as_bytes()),
-        _ => Ok(false),
+        Err(Unbound::Missing(missing)) => missing.as_slice() == name.as_bytes(),
+        _ => false,
     }
 }
 
@@ -214,16 +238,29 @@ fn add_all(alloc: Global, book: &mut LawBook, name: &[u8]) -> Result<(), AddErro
     Ok(())
 }
 
-#[test]
-fn the_first_name_in_text_order_is_missing(rt: HostRuntime) -> Result<(), Fail> {
-    let alloc = rt.alloc();
-    let mut book = LawBook::new(alloc);
-    for name in ["CCA-I", "mine", "success", "Grant-Service", "End-Service"] {
-        assert!(rt; is_missing(alloc, &book, name)?, "{name}");
-        add_all(alloc, &mut book, name.as_bytes())?;
+/// Whether that name is missing until it is added.
+fn is_missing_until_added(alloc: Global, book: &mut LawBook, name: &str) -> Result<bool, AddError> {
+    let was_missing = is_missing(alloc, book, name);
+    add_all(alloc, book, name.as_bytes())?;
+    Ok(was_missing)
+}
+
+/// Whether the client's table is bound to a book.
+fn is_bound(alloc: Global, book: &LawBook) -> bool {
+    match parse(alloc, CLIENT.as_bytes()) {
+        Ok(table) => bind(alloc, table, book).is_ok(),
+        Err(_) => false,
     }
-    let _bound = bound_to(alloc, CLIENT, &book)?;
-    Ok(())
+}
+
+#[test]
+fn the_first_name_in_text_order_is_missing(rt: HostRuntime) {
+    let mut book = LawBook::new(rt.alloc());
+    for name in ["CCA-I", "mine", "success", "Grant-Service", "End-Service"] {
+        let missing = is_missing_until_added(rt.alloc(), &mut book, name);
+        assert!(rt; missing == Ok(true), "{name}");
+    }
+    assert!(rt; is_bound(rt.alloc(), &book));
 }
 
 /// 511 rows of one kind, and then one of another.
@@ -236,11 +273,18 @@ fn long_text(alloc: Global) -> Result<String, AllocError> {
     Ok(text)
 }
 
+/// The table of that text, bound to a book.
+fn long_bound(alloc: Global, book: &LawBook) -> Result<Bound, Fail>
+    ensures { IfOk result (λ bound. IsBoundTo bound book.now) }
+{
+    let text = long_text(alloc)?;
+    bound_to(alloc, text.as_str(), book)
+}
+
 #[test]
 fn the_last_of_512_rows_takes_an_event(rt: HostRuntime) -> Result<(), Fail> {
     let book = client_book(rt.alloc())?;
-    let text = long_text(rt.alloc())?;
-    let bound = bound_to(rt.alloc(), text.as_str(), &book)?;
+    let bound = long_bound(rt.alloc(), &book)?;
     let stepped = step(&bound, &book, &start(), event(1, 0, 0));
     assert!(rt; is_outcome(&stepped, (Some(511), 1, 2, 30, 2)));
     Ok(())

@@ -167,19 +167,30 @@ fn a_name_is_of_its_form(rt: HostRuntime) {
     }
 }
 
+/// Too many guards or actions in line 2, and a bad name there.
+const OVER: Option<TextFault> = Some(TextFault {
+    line: 2,
+    code: TextCode::TooManyInRow,
+});
+
+const BAD: Option<TextFault> = Some(TextFault {
+    line: 2,
+    code: TextCode::BadName,
+});
+
 /// Rows with many guards or many actions, and what is wrong with each.
-const MANY: [(&[u8], Option<TextCode>); 6] = [
+const MANY: [(&[u8], Option<TextFault>); 6] = [
     (
         b"  State Event                               Action              Next\n  A     b when c and d and e and f          -                   C",
         None,
     ),
     (
         b"  State Event                               Action              Next\n  A     b when c and d and e and f and g    -                   C",
-        Some(TextCode::TooManyInRow),
+        OVER,
     ),
     (
         b"  State Event                               Action              Next\n  A     b when c and d and e and f and 7    -                   C",
-        Some(TextCode::BadName),
+        BAD,
     ),
     (
         b"  State Event                               Action              Next\n  A     b                                   a,b,c,d,e,f,g,h     C",
@@ -187,18 +198,17 @@ const MANY: [(&[u8], Option<TextCode>); 6] = [
     ),
     (
         b"  State Event                               Action              Next\n  A     b                                   a,b,c,d,e,f,g,h,i   C",
-        Some(TextCode::TooManyInRow),
+        OVER,
     ),
     (
         b"  State Event                               Action              Next\n  A     b                                   a,b,c,d,e,f,g,h,i,  C",
-        Some(TextCode::BadName),
+        BAD,
     ),
 ];
 
 #[test]
 fn a_row_has_at_most_four_guards_and_eight_actions(rt: HostRuntime) {
-    for (text, code) in MANY {
-        let wanted = code.map(|code| TextFault { line: 2, code });
+    for (text, wanted) in MANY {
         assert!(rt; is_read_as(rt.alloc(), text, wanted), "in {text:?}");
     }
 }
