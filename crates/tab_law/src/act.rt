@@ -3,10 +3,9 @@ ghost use Rattle.std.specs.Option.{option_copied};
 ghost use Rattle.tab_law.specs.Values.{term_value};
 ghost use Rattle.tab_law.specs.Acts.{is_change_of, last_of, Allows, IsAtHighest, deed_of, emitted, Permits, IsHigh};
 
-use crate::deeds::Deeds;
 use crate::law::{ActLaw, Change, Term};
 use crate::limits::{MAX_EMITS, PLACES};
-use crate::scene::{Deed, Scene};
+use crate::scene::{Deed, Deeds, Scene};
 use crate::value::term;
 
 /// What an action answers: the registers after it, and its deeds.

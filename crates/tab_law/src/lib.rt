@@ -7,8 +7,6 @@
 
 mod act;
 mod book;
-mod chain;
-mod deeds;
 mod guard;
 mod law;
 mod limits;
@@ -17,12 +15,10 @@ mod value;
 
 pub use act::{Acted, high, permits};
 pub use book::LawBook;
-pub use chain::Chain;
-pub use deeds::Deeds;
 pub use guard::holds;
 pub use law::{ActLaw, Atom, Change, Field, GuardLaw, Numbers, Term, Test};
 pub use limits::{
     MAX_ACTIONS, MAX_DEEDS, MAX_EMITS, MAX_GUARDS, MAX_KINDS, MAX_NUMBERS, MAX_ROW_ACTIONS,
     MAX_TESTS, PLACES,
 };
-pub use scene::{Deed, Scene};
+pub use scene::{Chain, Deed, Deeds, Scene};

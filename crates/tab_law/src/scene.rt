@@ -1,6 +1,7 @@
 ghost use Rattle.tab_law.specs.Scenes.{IsScene, IsDeed};
 
-use crate::limits::PLACES;
+use crate::limits::{MAX_DEEDS, MAX_ROW_ACTIONS, PLACES};
+use base_list::FixedList;
 
 /// What a guard or an action sees: the machine's registers and the event's facts.
 #[derive(Clone, Copy, PartialEq, Eq, Debug)]
@@ -14,6 +15,22 @@ pub struct Scene {
 pub struct Deed {
     pub code: u16,
     pub a: [u64; PLACES],
+}
+
+/// Deeds in order. The room lies in the value, some kilobytes of it, so keep it out of deep chains of calls.
+pub type Deeds = FixedList<Deed, MAX_DEEDS>;
+
+/// The registers after each action of a row, in order.
+pub type Chain = FixedList<[u64; PLACES], MAX_ROW_ACTIONS>;
+
+impl Default for Deed {
+    /// What stands in unused room.
+    fn default() -> Deed {
+        Deed {
+            code: 0,
+            a: [0; PLACES],
+        }
+    }
 }
 
 impl Scene {
