@@ -2,11 +2,9 @@
 #![tactic(auto)]
 
 mod error;
-mod fixed;
 mod named;
 mod octets;
 
 pub use error::{AddError, AddFault};
-pub use fixed::FixedList;
 pub use named::{Named, NamedList, Refused};
 pub use octets::Octets;

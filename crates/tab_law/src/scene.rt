@@ -1,7 +1,7 @@
 ghost use Rattle.tab_law.specs.Scenes.{IsScene, IsDeed};
 
 use crate::limits::{MAX_DEEDS, MAX_ROW_ACTIONS, PLACES};
-use base_list::FixedList;
+use base_fixed::FixedList;
 
 /// What a guard or an action sees: the machine's registers and the event's facts.
 #[derive(Clone, Copy, PartialEq, Eq, Debug)]

@@ -1,5 +1,5 @@
 use crate::limits::MAX_ROW_ACTIONS;
-use base_list::FixedList;
+use base_fixed::FixedList;
 
 /// Numbers of a row's guards or actions, in order.
 pub type Places = FixedList<u8, MAX_ROW_ACTIONS>;
