@@ -80,7 +80,7 @@ const READ_LONG_ABOUT: &str = "\
 Read Diameter messages in hexadecimal and print them.
 
 Takes digits of either case, two for each octet; blanks and newlines between them don't count. Of each
-message it prints the header, the AVPs (code, /vendor, flags, length, data) and the octets of its spelling;
+message it prints the header, the AVPs (code, /vendor, flags, length, data) and the octets of its encoding;
 of a faulty one `fault` with the Result-Code and the failed AVP. It stops at a `frame fault` (1: the version
 isn't 1, 2: the length is below 20, no multiple of 4 or over 4096) and at `bad hex`.
 

@@ -6,5 +6,5 @@ pub mod FrontLaws
 pub mod GroupLaws
 pub mod FieldLaws
 pub mod ReadLaws
-pub mod Spelled
+pub mod Encoded
 pub mod StandardFacts

@@ -6,7 +6,7 @@ use Rattle.dia_avp.specs.declared.fault.FaultCode.{FaultCode}
 use Rattle.dia_avp.specs.declared.fault.FaultCode.TheVariants.{ShortHeader, LengthBelowHeader, PastEnd, TooMany, TooDeep}
 use Rattle.dia_avp.specs.declared.fault.AvpFault.{AvpFault}
 use Rattle.dia_avp.specs.declared.avp.Avp.{Avp}
-use Rattle.dia_avp.specs.Spelling.{header}
+use Rattle.dia_avp.specs.Encoding.{header}
 use Rattle.dia_avp.specs.Avps.{AvpThen, AvpsThen, Avps, Broken, Wrong, WrongAt, IsReading, header_len, length_field}
 use Rattle.dia_avp.specs.Reading.{avp_at}
 use Rattle.dia_avp.proofs.OneLaws.{avp_again}

@@ -1,4 +1,4 @@
--- What is read at the front is spelled there, and what is spelled there is read.
+-- What is read at the front is encoded there, and what is encoded there is read.
 use Rattle.std.proofs.Common.{◌≡◌, ℕ, ◌+◌, ◌-◌, ◌≤◌, Bool, true, false, ltb, List, [], ◌∷◌, ◌++◌, length, take, drop, slice_index, Option, None, Ok, Err, cond, refl, sym, ap, subst, ◌∙◌, arith, append_assoc, inl, inr}
 use Prim.Native.Nat.{min}
 use Rattle.std.specs.Prelude.{slice_range}
@@ -8,7 +8,7 @@ use Rattle.byteorder.specs.Endian.{big_bytes, big_number}
 use Rattle.byteorder.specs.Numbers.{big_number-reads_back}
 use Rattle.dia_avp.specs.declared.fault.FaultCode.TheVariants.{ShortHeader, LengthBelowHeader, PastEnd}
 use Rattle.dia_avp.specs.declared.avp.Avp.{Avp}
-use Rattle.dia_avp.specs.Spelling.{padded, header}
+use Rattle.dia_avp.specs.Encoding.{padded, header}
 use Rattle.dia_avp.specs.Avps.{has_flag, vendor_of, IsVendor, AvpThen, header_len, length_field}
 use Rattle.dia_avp.specs.Reading.{vendor_at, item_at, avp_at}
 use Rattle.dia_avp.proofs.Bytes.{IsBytes, IsBytes-drop, big_bytes_4, big_bytes_3, big_number_4-lt, big_number_3-lt, cut}

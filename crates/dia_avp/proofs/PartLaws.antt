@@ -3,11 +3,11 @@
 --
 -- For any octets: avps_in-nil, avps_in-more (an AVP stands at the front), avps_in-broken (a broken one does), avps_in-none,
 -- avps_in-append (AVPs stand before).
--- Against the definition: avps_in-whole and avps_in-all (for bytes), avps_in-only (nothing else is so), avps_in-spelling.
+-- Against the definition: avps_in-whole and avps_in-all (for bytes), avps_in-only (nothing else is so), avps_in-encoding.
 -- Of what was read from bytes: avps_in-numbers, avps_in-not_zero, avps_in-short, avps_in-bytes, avps_in-left_bytes,
--- and avps_in-room, spelling-room: spelled again, the AVPs take no more room than before, padding counted.
+-- and avps_in-room, encoding-room: encoded again, the AVPs take no more room than before, padding counted.
 -- The same of `AvpsThen octets list left` alone: AvpsThen-numbers, AvpsThen-not_zero, AvpsThen-short, AvpsThen-bytes, AvpsThen-room.
--- Of any list whose data are bytes: spelled-bytes, spelling-bytes.
+-- Of any list whose data are bytes: encoded-bytes, encoding-bytes.
 use Rattle.std.proofs.Common.{◌≡◌, ◌⊎◌, ℕ, zero, suc, ◌+◌, ◌-◌, ◌<◌, ◌≤◌, ◌^◌, Bool, true, false, List, [], ◌∷◌, ◌++◌, length, replicate, slice_index, Option, Some, None, All, Result, Ok, Err, refl, sym, ap, subst, ◌∙◌, arith, inl, inr}
 use Rattle.std.specs.Prelude.{IfSome}
 use Rattle.std.proofs.lemmas.List.{length-append, length-drop}
@@ -16,14 +16,14 @@ use Rattle.byteorder.specs.Endian.{big_bytes}
 use Rattle.dia_avp.specs.declared.avp.Avp.{Avp}
 use Rattle.dia_avp.specs.declared.fault.FaultCode.{FaultCode}
 use Rattle.dia_avp.specs.declared.fault.FaultCode.TheVariants.{ShortHeader}
-use Rattle.dia_avp.specs.Spelling.{padded, header, vendor_id, has_vendor, flags_of, length_of, spelled, spelling}
+use Rattle.dia_avp.specs.Encoding.{padded, header, vendor_id, has_vendor, flags_of, length_of, encoded, encoding}
 use Rattle.dia_avp.specs.Avps.{has_flag, vendor_of, IsVendor, AvpThen, AvpsThen, Avps, Broken, IsLeftOver, header_len, length_field}
 use Rattle.dia_avp.specs.Reading.{avp_at, parted, avps_in}
 use Rattle.dia_avp.specs.Writing.{HasNumbers, NoZeroVendor}
 use Rattle.dia_avp.proofs.Bytes.{IsBytes, IsBytes-nil, IsBytes-cons, IsBytes-append, IsBytes-left, IsBytes-right, IsBytes-zeros, IsBytes-big_bytes}
 use Rattle.dia_avp.proofs.OneLaws.{whole_at, at_least_8, le_padded, avp_takes, avp_again}
 use Rattle.dia_avp.proofs.ListLaws.{broken_takes, broken_again}
-use Rattle.dia_avp.proofs.Spelled.{length_spelled, Avps-spelling}
+use Rattle.dia_avp.proofs.Encoded.{length_encoded, Avps-encoding}
 
 abbrev pub Parts : Type 0
 Parts = List Avp × List ℕ
@@ -134,9 +134,9 @@ avps_in-whole octets fits = whole-from (avp_at octets) (length octets) octets re
 pub avps_in-all : (octets : List ℕ) → IsBytes octets → (avps_in octets).1 ≡ [] → Avps octets (avps_in octets).0
 avps_in-all octets fits e = subst (λ (left : List ℕ). AvpsThen octets (avps_in octets).0 left) e (avps_in-whole octets fits).0
 
--- a spelling is read back
-pub avps_in-spelling : (list : List Avp) → All HasNumbers list → All (λ a. length_of a < 2 ^ 24) list → NoZeroVendor list → avps_in (spelling list) ≡ (list, [])
-avps_in-spelling list numbers short some = avps_in-only (spelling list) list [] (Avps-spelling list numbers short some) (inl refl)
+-- an encoding is read back
+pub avps_in-encoding : (list : List Avp) → All HasNumbers list → All (λ a. length_of a < 2 ^ 24) list → NoZeroVendor list → avps_in (encoding list) ≡ (list, [])
+avps_in-encoding list numbers short some = avps_in-only (encoding list) list [] (Avps-encoding list numbers short some) (inl refl)
 
 -- what a Vendor-ID says: its number fits, it is not 0, and it is written in no more octets
 number-fits : (n : ℕ) → n < 2 ^ 32 → IfSome (vendor_of n) (λ m. m < 2 ^ 32)
@@ -215,18 +215,18 @@ AvpThen-octets octets a rest t =
     let hd_len : length hd ≡ 8 = refl in
     omega (arith, t.len_is, ap length t.joined, length-append hd (t.id ++ (a.octets ++ (t.padding ++ rest))), length-append t.id (a.octets ++ (t.padding ++ rest)), length-append a.octets (t.padding ++ rest), length-append t.padding rest)
 
--- an AVP, spelled, and what follows it take no more room
-AvpThen-room : (octets : List ℕ) (a : Avp) (rest : List ℕ) → AvpThen octets a rest → length (spelled a) + padded (length rest) ≤ padded (length octets)
-AvpThen-room octets a [] t = omega (arith, AvpThen-octets octets a [] t, length_spelled a, AvpThen-len octets a [] t)
+-- an AVP, encoded, and what follows it take no more room
+AvpThen-room : (octets : List ℕ) (a : Avp) (rest : List ℕ) → AvpThen octets a rest → length (encoded a) + padded (length rest) ≤ padded (length octets)
+AvpThen-room octets a [] t = omega (arith, AvpThen-octets octets a [] t, length_encoded a, AvpThen-len octets a [] t)
 AvpThen-room octets a (x ∷ rest) t =
     let whole : t.len + length t.padding ≡ padded t.len = t.padding_whole (λ e. cc) in
-    omega (arith, AvpThen-octets octets a (x ∷ rest) t, length_spelled a, AvpThen-len octets a (x ∷ rest) t)
+    omega (arith, AvpThen-octets octets a (x ∷ rest) t, length_encoded a, AvpThen-len octets a (x ∷ rest) t)
 
--- spelled again, the AVPs and what is left take no more room than the octets and their padding
-pub AvpsThen-room : (octets : List ℕ) (list : List Avp) (left : List ℕ) → AvpsThen octets list left → length (spelling list) + length left ≤ padded (length octets)
+-- encoded again, the AVPs and what is left take no more room than the octets and their padding
+pub AvpsThen-room : (octets : List ℕ) (list : List Avp) (left : List ℕ) → AvpsThen octets list left → length (encoding list) + length left ≤ padded (length octets)
 AvpsThen-room octets [] left h = omega (arith, ap length h, le_padded (length octets))
 AvpsThen-room octets (a ∷ list) left h =
-    omega (arith, AvpThen-room octets a h.0 h.1, AvpsThen-room h.0 list left h.2, length-append (spelled a) (spelling list))
+    omega (arith, AvpThen-room octets a h.0 h.1, AvpsThen-room h.0 list left h.2, length-append (encoded a) (encoding list))
 
 -- The same of what is read from bytes.
 pub avps_in-numbers : (octets : List ℕ) → IsBytes octets → All HasNumbers (avps_in octets).0
@@ -244,12 +244,12 @@ avps_in-bytes octets fits = (AvpsThen-bytes octets (avps_in octets).0 (avps_in o
 pub avps_in-left_bytes : (octets : List ℕ) → IsBytes octets → IsBytes (avps_in octets).1
 avps_in-left_bytes octets fits = (AvpsThen-bytes octets (avps_in octets).0 (avps_in octets).1 fits (avps_in-whole octets fits).0).1
 
-pub avps_in-room : (octets : List ℕ) → IsBytes octets → length (spelling (avps_in octets).0) + length (avps_in octets).1 ≤ padded (length octets)
+pub avps_in-room : (octets : List ℕ) → IsBytes octets → length (encoding (avps_in octets).0) + length (avps_in octets).1 ≤ padded (length octets)
 avps_in-room octets fits = AvpsThen-room octets (avps_in octets).0 (avps_in octets).1 (avps_in-whole octets fits).0
 
--- a list that was read and spelled again takes no more room than its octets and their padding
-pub spelling-room : (octets : List ℕ) (list : List Avp) (left : List ℕ) → IsBytes octets → avps_in octets ≡ (list, left) → length (spelling list) ≤ padded (length octets)
-spelling-room octets list left fits e = omega (arith, avps_in-room octets fits, ap (λ (p : Parts). length (spelling p.0)) e)
+-- a list that was read and encoded again takes no more room than its octets and their padding
+pub encoding-room : (octets : List ℕ) (list : List Avp) (left : List ℕ) → IsBytes octets → avps_in octets ≡ (list, left) → length (encoding list) ≤ padded (length octets)
+encoding-room octets list left fits e = omega (arith, avps_in-room octets fits, ap (λ (p : Parts). length (encoding p.0)) e)
 
 flags-lt : (v m p : Bool) → flags_of v m p < 256
 flags-lt true true true = omega arith
@@ -269,15 +269,15 @@ vendor-bytes (Some (suc n)) = IsBytes-big_bytes 4 (suc n)
 header-bytes : (code flags len : ℕ) → flags < 256 → IsBytes (header code flags len)
 header-bytes code flags len lt = IsBytes-append (big_bytes 4 code) (flags ∷ big_bytes 3 len) (IsBytes-big_bytes 4 code) (IsBytes-cons flags (big_bytes 3 len) lt (IsBytes-big_bytes 3 len))
 
--- a spelling of data that are bytes is bytes
-pub spelled-bytes : (a : Avp) → IsBytes a.octets → IsBytes (spelled a)
-unfolding spelled
-spelled-bytes a fits =
+-- an encoding of data that are bytes is bytes
+pub encoded-bytes : (a : Avp) → IsBytes a.octets → IsBytes (encoded a)
+unfolding encoded
+encoded-bytes a fits =
     let hd = header a.code (flags_of (has_vendor a.vendor) a.mandatory a.protected) (length_of a) in
     let pad : List ℕ = replicate (padded (length_of a) - length_of a) 0 in
     let front = IsBytes-append hd (vendor_id a.vendor) (header-bytes a.code (flags_of (has_vendor a.vendor) a.mandatory a.protected) (length_of a) (flags-lt (has_vendor a.vendor) a.mandatory a.protected)) (vendor-bytes a.vendor) in
     IsBytes-append ((hd ++ vendor_id a.vendor) ++ a.octets) pad (IsBytes-append (hd ++ vendor_id a.vendor) a.octets front fits) (IsBytes-zeros (padded (length_of a) - length_of a))
 
-pub spelling-bytes : (list : List Avp) → All (λ a. IsBytes a.octets) list → IsBytes (spelling list)
-spelling-bytes [] h = IsBytes-nil
-spelling-bytes (a ∷ list) h = IsBytes-append (spelled a) (spelling list) (spelled-bytes a (All-head HasBytes a list h)) (spelling-bytes list (All-tail HasBytes a list h))
+pub encoding-bytes : (list : List Avp) → All (λ a. IsBytes a.octets) list → IsBytes (encoding list)
+encoding-bytes [] h = IsBytes-nil
+encoding-bytes (a ∷ list) h = IsBytes-append (encoded a) (encoding list) (encoded-bytes a (All-head HasBytes a list h)) (encoding-bytes list (All-tail HasBytes a list h))

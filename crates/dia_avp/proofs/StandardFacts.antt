@@ -1,8 +1,8 @@
--- The spelling of AVPs of a Device-Watchdog-Request, octet by octet (RFC 6733 sections 4.1 and 5.5.1), and what such octets are.
+-- The encoding of AVPs of a Device-Watchdog-Request, octet by octet (RFC 6733 sections 4.1 and 5.5.1), and what such octets are.
 use Rattle.std.proofs.Common.{◌≡◌, ℕ, true, false, List, [], ◌∷◌, ◌++◌, None, Some, refl}
 use Rattle.dia_avp.specs.declared.avp.Avp.{Avp}
 use Rattle.dia_avp.specs.declared.fault.FieldFault.TheVariants.{BadValue, BadLength}
-use Rattle.dia_avp.specs.Spelling.{length_of, spelled, group_avp}
+use Rattle.dia_avp.specs.Encoding.{length_of, encoded, group_avp}
 use Rattle.dia_avp.specs.Field.{is_address}
 use Rattle.dia_avp.specs.Group.{group_fault}
 use Rattle.dia_avp.specs.Reading.{vendor_at, item_at, avp_at, parted, avps_in}
@@ -11,9 +11,9 @@ use Rattle.dia_avp.specs.Reading.{vendor_at, item_at, avp_at, parted, avps_in}
 abbrev origin_host : Avp
 origin_host = record { code = 264; vendor = None; mandatory = true; protected = false; octets = 97 ∷ 46 ∷ 101 ∷ 120 ∷ 97 ∷ 109 ∷ 112 ∷ 108 ∷ 101 ∷ [] }
 
-pub origin_host-spelled : spelled origin_host ≡ 0 ∷ 0 ∷ 1 ∷ 8 ∷ 64 ∷ 0 ∷ 0 ∷ 17 ∷ 97 ∷ 46 ∷ 101 ∷ 120 ∷ 97 ∷ 109 ∷ 112 ∷ 108 ∷ 101 ∷ 0 ∷ 0 ∷ 0 ∷ []
-unfolding spelled length_of
-origin_host-spelled = refl
+pub origin_host-encoded : encoded origin_host ≡ 0 ∷ 0 ∷ 1 ∷ 8 ∷ 64 ∷ 0 ∷ 0 ∷ 17 ∷ 97 ∷ 46 ∷ 101 ∷ 120 ∷ 97 ∷ 109 ∷ 112 ∷ 108 ∷ 101 ∷ 0 ∷ 0 ∷ 0 ∷ []
+unfolding encoded length_of
+origin_host-encoded = refl
 
 -- an AVP with Vendor-ID 10415 and the flags V, M and P, and one with vendor 0
 abbrev vendor_avp : Avp
@@ -22,13 +22,13 @@ vendor_avp = record { code = 1; vendor = Some 10415; mandatory = true; protected
 abbrev zero_avp : Avp
 zero_avp = record { code = 1; vendor = Some 0; mandatory = false; protected = false; octets = 7 ∷ [] }
 
-pub vendor_avp-spelled : spelled vendor_avp ≡ 0 ∷ 0 ∷ 0 ∷ 1 ∷ 224 ∷ 0 ∷ 0 ∷ 12 ∷ 0 ∷ 0 ∷ 40 ∷ 175 ∷ []
-unfolding spelled length_of
-vendor_avp-spelled = refl
+pub vendor_avp-encoded : encoded vendor_avp ≡ 0 ∷ 0 ∷ 0 ∷ 1 ∷ 224 ∷ 0 ∷ 0 ∷ 12 ∷ 0 ∷ 0 ∷ 40 ∷ 175 ∷ []
+unfolding encoded length_of
+vendor_avp-encoded = refl
 
-pub zero_avp-spelled : spelled zero_avp ≡ 0 ∷ 0 ∷ 0 ∷ 1 ∷ 0 ∷ 0 ∷ 0 ∷ 9 ∷ 7 ∷ 0 ∷ 0 ∷ 0 ∷ []
-unfolding spelled length_of
-zero_avp-spelled = refl
+pub zero_avp-encoded : encoded zero_avp ≡ 0 ∷ 0 ∷ 0 ∷ 1 ∷ 0 ∷ 0 ∷ 0 ∷ 9 ∷ 7 ∷ 0 ∷ 0 ∷ 0 ∷ []
+unfolding encoded length_of
+zero_avp-encoded = refl
 
 -- the one whole AVP of its 17 octets without padding, and of these and a header that is cut
 abbrev host_octets : List ℕ
@@ -43,9 +43,9 @@ unfolding avps_in parted avp_at item_at vendor_at
 cut_octets-parts = refl
 
 -- a group of that AVP has 8 octets before it (RFC 6733 section 4.4)
-pub group-spelled : spelled (group_avp 443 true false (origin_host ∷ [])) ≡ 0 ∷ 0 ∷ 1 ∷ 187 ∷ 64 ∷ 0 ∷ 0 ∷ 28 ∷ spelled origin_host
-unfolding spelled length_of
-group-spelled = refl
+pub group-encoded : encoded (group_avp 443 true false (origin_host ∷ [])) ≡ 0 ∷ 0 ∷ 1 ∷ 187 ∷ 64 ∷ 0 ∷ 0 ∷ 28 ∷ encoded origin_host
+unfolding encoded length_of
+group-encoded = refl
 
 -- its octets are a group within 4 groups, not within 5, and not with a cut header behind them
 pub host_octets-group : group_fault 4 host_octets ≡ None

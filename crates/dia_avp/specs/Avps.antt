@@ -1,4 +1,4 @@
--- What octets mean: the AVPs whose spellings joined they are, reserved flags and padding aside (RFC 6733 section 4.1).
+-- What octets mean: the AVPs whose encodings joined they are, reserved flags and padding aside (RFC 6733 section 4.1).
 use Rattle.std.specs.Prelude.{◌≡◌, ◌<◌, ◌≤◌, ℕ, zero, suc, ◌+◌, ◌^◌, Bool, true, false, not, ◌==◌, ◌⊎◌, bit_and, List, [], ◌∷◌, ◌++◌, length, slice_index, drop, Option, Some, None, Result, Ok, Err, if◌then◌else◌}
 use Rattle.byteorder.specs.Endian.{big_bytes, big_number}
 use Rattle.dia_avp.specs.declared.avp.Avp.{Avp}
@@ -7,7 +7,7 @@ use Rattle.dia_avp.specs.declared.fault.FaultCode.TheVariants.{ShortHeader, Leng
 use Rattle.dia_avp.specs.declared.fault.AvpFault.{AvpFault}
 use Rattle.dia_avp.specs.declared.fault.ReadError.{ReadError}
 use Rattle.dia_avp.specs.declared.fault.ReadError.TheVariants as read_errors
-use Rattle.dia_avp.specs.Spelling.{padded, header}
+use Rattle.dia_avp.specs.Encoding.{padded, header}
 
 -- whether a flag is set among the flags
 abbrev pub has_flag : ℕ → ℕ → Bool
@@ -46,7 +46,7 @@ abbrev pub AvpsThen : List ℕ → List Avp → List ℕ → Type 0
 AvpsThen octets [] rest = octets ≡ rest
 AvpsThen octets (a ∷ list) rest = (next : List ℕ) × AvpThen octets a next × AvpsThen next list rest
 
--- the octets are the spellings of these AVPs joined
+-- the octets are the encodings of these AVPs joined
 abbrev pub Avps : List ℕ → List Avp → Type 0
 Avps octets list = AvpsThen octets list []
 

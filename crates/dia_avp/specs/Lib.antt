@@ -1,5 +1,5 @@
 pub mod Fault
-pub mod Spelling
+pub mod Encoding
 pub mod Avps
 pub mod View
 pub mod Reading

@@ -4,7 +4,7 @@ use Rattle.byteorder.specs.Endian.{big_number}
 use Rattle.dia_avp.specs.declared.avp.Avp.{Avp}
 use Rattle.dia_avp.specs.declared.fault.FaultCode.{FaultCode}
 use Rattle.dia_avp.specs.declared.fault.FaultCode.TheVariants.{ShortHeader, LengthBelowHeader, PastEnd}
-use Rattle.dia_avp.specs.Spelling.{padded}
+use Rattle.dia_avp.specs.Encoding.{padded}
 use Rattle.dia_avp.specs.Avps.{has_flag, vendor_of, header_len, length_field}
 
 -- the vendor of the AVP at the front

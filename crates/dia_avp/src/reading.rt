@@ -1,4 +1,4 @@
-//! The AVPs that octets spell.
+//! The AVPs that octets encode.
 
 ghost use Rattle.std.specs.Prelude.{◌≡◌, ◌↔◌, List, Ok, length, IfOk, IfErr, IsErrOf};
 ghost use Rattle.dia_avp.specs.declared.avp.Avp.{Avp as AvpValue};
@@ -16,7 +16,7 @@ pub const MAX_AVPS: usize = 128;
 /// The most levels of groups.
 pub const MAX_DEPTH: u8 = 4;
 
-/// How many AVPs the octets spell, or the first fault.
+/// How many AVPs the octets encode, or the first fault.
 pub(crate) fn count_of(octets: &[u8], depth: u8) -> Result<usize, AvpFault>
     ensures whole { IfOk result (λ n. (list : List AvpValue) × (length list ≡ n) × IsReading octets.now depth (Ok list)) }
     ensures fault { IfErr result (IsFault octets.now depth) }
@@ -62,10 +62,10 @@ pub(crate) fn list_of(alloc: Global, octets: &[u8], count: usize) -> Result<AvpL
     Ok(list)
 }
 
-/// The AVPs that the octets spell (RFC 6733 section 4.1), or the first fault. `depth` counts the groups around the
+/// The AVPs that the octets encode (RFC 6733 section 4.1), or the first fault. `depth` counts the groups around the
 /// octets. Reserved flags and padding are not looked at, and the last padding may be missing, wholly or in part.
 pub fn read_avps(alloc: Global, octets: &[u8], depth: u8) -> Result<AvpList, ReadError>
-    // The list is what the octets spell, and a fault is the first.
+    // The list is what the octets encode, and a fault is the first.
     ensures reading { UnlessNoMemory result (IsReading octets.now depth) }
 
     // No other list and no other fault is.

@@ -1,14 +1,14 @@
-//! The spelling of AVPs.
+//! The encoding of AVPs.
 
 ghost use Rattle.std.specs.Prelude.{◌≡◌, ◌+◌, ◌<◌, ◌≤◌, ◌^◌, ◌↔◌, ◌++◌, length, replicate, All, OnOk, OnErr, IsErrOf, IfSome, vec_len, vec_capacity};
 ghost use Rattle.dia_avp.specs.View.{seen};
-ghost use Rattle.dia_avp.specs.Spelling.{length_of, spelled, spelling, header, flags_of, has_vendor, vendor_id, group_avp, HasLong};
+ghost use Rattle.dia_avp.specs.Encoding.{length_of, encoded, encoding, header, flags_of, has_vendor, vendor_id, group_avp, HasLong};
 ghost use Rattle.dia_avp.specs.Writing.{HasNumbers, MeansAvp, MeansAvps, IsReadBack};
 
 use crate::avp::{Avp, AvpView};
 use crate::avp_list::AvpList;
 use crate::fault::WriteError;
-use crate::length::{has_long, is_long, length_of, spelled_len_of};
+use crate::length::{has_long, is_long, length_of, encoded_len_of};
 use base_codes::AVP_HEADER_LEN;
 use byteorder::{BigEndian, ByteOrder};
 
@@ -70,13 +70,13 @@ fn put_padding(out: &mut Vec<u8>, count: usize)
     put(out, &[0; 3][..count]);
 }
 
-/// Appends the one spelling of an AVP (RFC 6733 section 4.1) to octets that have room for it. Takes no memory.
-#[tactic(auto, unfolding(crate::specs::Spelling::spelled))]
+/// Appends the canonical encoding of an AVP (RFC 6733 section 4.1) to octets that have room for it. Takes no memory.
+#[tactic(auto, unfolding(crate::specs::Encoding::encoded))]
 pub fn put_avp(avp: &AvpView<'_>, out: &mut Vec<u8>)
     requires short { length_of (seen avp.now) < 2 ^ 24 }
-    requires room { vec_len out.old + length (spelled (seen avp.now)) ≤ vec_capacity out.old }
-    ensures items { out.new.items ≡ out.old.items ++ spelled (seen avp.now) }
-    ensures len { vec_len out.new ≡ vec_len out.old + length (spelled (seen avp.now)) }
+    requires room { vec_len out.old + length (encoded (seen avp.now)) ≤ vec_capacity out.old }
+    ensures items { out.new.items ≡ out.old.items ++ encoded (seen avp.now) }
+    ensures len { vec_len out.new ≡ vec_len out.old + length (encoded (seen avp.now)) }
     ensures room { vec_capacity out.old ≤ vec_capacity out.new }
     ensures numbers { HasNumbers (seen avp.now) }
 {
@@ -88,12 +88,12 @@ pub fn put_avp(avp: &AvpView<'_>, out: &mut Vec<u8>)
     put_padding(out, len.div_ceil(4) * 4 - len);
 }
 
-/// Appends the one spelling of the AVPs, the last padding too, to octets that have room for it. Takes no memory.
+/// Appends the canonical encoding of the AVPs, the last padding too, to octets that have room for it. Takes no memory.
 pub fn put_avps(avps: &[Avp], out: &mut Vec<u8>)
     requires short { All (λ a. length_of a < 2 ^ 24) avps.now }
-    requires room { vec_len out.old + length (spelling avps.now) ≤ vec_capacity out.old }
-    ensures items { out.new.items ≡ out.old.items ++ spelling avps.now }
-    ensures len { vec_len out.new ≡ vec_len out.old + length (spelling avps.now) }
+    requires room { vec_len out.old + length (encoding avps.now) ≤ vec_capacity out.old }
+    ensures items { out.new.items ≡ out.old.items ++ encoding avps.now }
+    ensures len { vec_len out.new ≡ vec_len out.old + length (encoding avps.now) }
     ensures room { vec_capacity out.old ≤ vec_capacity out.new }
     ensures numbers { All HasNumbers avps.now }
 {
@@ -102,35 +102,35 @@ pub fn put_avps(avps: &[Avp], out: &mut Vec<u8>)
     }
 }
 
-/// Appends the one spelling of the AVP without vendor whose data is the AVPs (RFC 6733 section 4.4) to octets that have
+/// Appends the canonical encoding of the AVP without vendor whose data is the AVPs (RFC 6733 section 4.4) to octets that have
 /// room for it. It has 8 octets more than the AVPs. Takes no memory.
-#[tactic(auto, unfolding(crate::specs::Spelling::spelled))]
+#[tactic(auto, unfolding(crate::specs::Encoding::encoded))]
 pub fn put_group(code: u32, mandatory: bool, protected: bool, list: &AvpList, out: &mut Vec<u8>)
     requires short { length_of (group_avp code mandatory protected list.now) < 2 ^ 24 }
-    requires room { vec_len out.old + length (spelled (group_avp code mandatory protected list.now)) ≤ vec_capacity out.old }
-    ensures items { out.new.items ≡ out.old.items ++ spelled (group_avp code mandatory protected list.now) }
-    ensures len { vec_len out.new ≡ vec_len out.old + length (spelled (group_avp code mandatory protected list.now)) }
+    requires room { vec_len out.old + length (encoded (group_avp code mandatory protected list.now)) ≤ vec_capacity out.old }
+    ensures items { out.new.items ≡ out.old.items ++ encoded (group_avp code mandatory protected list.now) }
+    ensures len { vec_len out.new ≡ vec_len out.old + length (encoded (group_avp code mandatory protected list.now)) }
     ensures room { vec_capacity out.old ≤ vec_capacity out.new }
     ensures numbers { HasNumbers (group_avp code mandatory protected list.now) }
     ensures inner { All HasNumbers list.now }
 {
-    let len = AVP_HEADER_LEN + spelled_len_of(list.as_slice()).unwrap();
+    let len = AVP_HEADER_LEN + encoded_len_of(list.as_slice()).unwrap();
     let flags = flags_of(None, mandatory, protected);
     put(out, &header_of(code, flags, len as u32));
     put_avps(list.as_slice(), out);
 }
 
-/// Appends the one spelling of an AVP (RFC 6733 section 4.1): reserved flags and padding are zero. `out` grows by its
+/// Appends the canonical encoding of an AVP (RFC 6733 section 4.1): reserved flags and padding are zero. `out` grows by its
 /// own allocator.
 pub fn write_avp(avp: &AvpView<'_>, out: &mut Vec<u8>) -> Result<(), WriteError>
-    ensures ok { OnOk result (out.new.items ≡ out.old.items ++ spelled (seen avp.now)) }
+    ensures ok { OnOk result (out.new.items ≡ out.old.items ++ encoded (seen avp.now)) }
 
     // An AVP too long for 24 bits is refused, whatever the memory.
     ensures too_long { IsErrOf result WriteError.LengthOver24Bits ↔ (2 ^ 24 ≤ length_of (seen avp.now)) }
     ensures err { OnErr result (out.new.items ≡ out.old.items) }
 
     // Memory is wanting only where there is no room for it, and the room stays.
-    ensures memory { IsErrOf result WriteError.NoMemory → vec_capacity out.old < vec_len out.old + length (spelled (seen avp.now)) }
+    ensures memory { IsErrOf result WriteError.NoMemory → vec_capacity out.old < vec_len out.old + length (encoded (seen avp.now)) }
     ensures room { vec_capacity out.old ≤ vec_capacity out.new }
 
     // What was written means this AVP again, whatever comes after it.
@@ -139,22 +139,22 @@ pub fn write_avp(avp: &AvpView<'_>, out: &mut Vec<u8>) -> Result<(), WriteError>
     if is_long(avp) {
         return Err(WriteError::LengthOver24Bits);
     }
-    out.reserve(avp.spelled_len())?;
+    out.reserve(avp.encoded_len())?;
     put_avp(avp, out);
     Ok(())
 }
 
-/// Appends the one spelling of the AVPs (RFC 6733 section 4.1): reserved flags and padding are zero, and the last
+/// Appends the canonical encoding of the AVPs (RFC 6733 section 4.1): reserved flags and padding are zero, and the last
 /// padding is written too. `out` grows by its own allocator.
 pub fn write_avps(list: &AvpList, out: &mut Vec<u8>) -> Result<(), WriteError>
-    ensures ok { OnOk result (out.new.items ≡ out.old.items ++ spelling list.now) }
+    ensures ok { OnOk result (out.new.items ≡ out.old.items ++ encoding list.now) }
 
     // An AVP too long for 24 bits is refused, whatever the memory.
     ensures too_long { IsErrOf result WriteError.LengthOver24Bits ↔ HasLong list.now }
     ensures err { OnErr result (out.new.items ≡ out.old.items) }
 
     // Memory is wanting only where there is no room for them, and the room stays.
-    ensures memory { IsErrOf result WriteError.NoMemory → vec_capacity out.old < vec_len out.old + length (spelling list.now) }
+    ensures memory { IsErrOf result WriteError.NoMemory → vec_capacity out.old < vec_len out.old + length (encoding list.now) }
     ensures room { vec_capacity out.old ≤ vec_capacity out.new }
 
     // What was written means this list, and is read as this list again.
@@ -165,7 +165,7 @@ pub fn write_avps(list: &AvpList, out: &mut Vec<u8>) -> Result<(), WriteError>
     if has_long(avps) {
         return Err(WriteError::LengthOver24Bits);
     }
-    let Some(len) = spelled_len_of(avps) else {
+    let Some(len) = encoded_len_of(avps) else {
         return Err(WriteError::NoMemory);
     };
     out.reserve(len)?;

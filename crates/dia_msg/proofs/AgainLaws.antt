@@ -1,4 +1,4 @@
--- The spelling of a command that was read is read as that command.
+-- The encoding of a command that was read is read as that command.
 use Rattle.std.proofs.Common.{◌≡◌, ◌==◌, ◌&&◌, ◌||◌, ℕ, zero, suc, ◌+◌, ◌-◌, ◌*◌, ◌/◌, ◌%◌, ◌<◌, ◌≤◌, ◌^◌, Bool, true, false, not, List, [], ◌∷◌, ◌++◌, length, drop, map, filter, Option, None, Some, Result, Ok, Err, All, refl, sym, ap, subst, ◌∙◌, arith}
 use Rattle.std.specs.Prelude.{if◌then◌else◌, slice_index, slice_get, IfOk, sum_by}
 use Rattle.std.specs.List.{flat_map}
@@ -10,18 +10,18 @@ use Rattle.std.proofs.lemmas.List.Sums.{sum_by-cons}
 use Rattle.byteorder.specs.Numbers.{big_number-reads_back}
 use Rattle.dia_avp.specs.declared.avp.Avp.{Avp}
 use Rattle.dia_avp.specs.Reading.{avps_in}
-use Rattle.dia_avp.specs.Spelling.{padded, length_of, spelled, spelling}
+use Rattle.dia_avp.specs.Encoding.{padded, length_of, encoded, encoding}
 use Rattle.dia_avp.specs.Writing.{HasNumbers, NoZeroVendor}
 use Rattle.dia_avp.proofs.Bytes.{IsBytes, IsBytes-drop, big_number_4-lt, big_number_3-lt}
-use Rattle.dia_avp.proofs.PartLaws.{avps_in-numbers, avps_in-not_zero, avps_in-bytes, avps_in-short, avps_in-spelling, avps_in-room}
-use Rattle.dia_avp.proofs.Spelled.{length_spelled}
+use Rattle.dia_avp.proofs.PartLaws.{avps_in-numbers, avps_in-not_zero, avps_in-bytes, avps_in-short, avps_in-encoding, avps_in-room}
+use Rattle.dia_avp.proofs.Encoded.{length_encoded}
 use Rattle.dia_dict.specs.declared.definition.Definition.{Definition}
 use Rattle.dia_dict.specs.Dictionary.{known, definition_of}
 use Rattle.dia_tree.specs.declared.fault.MsgFault.{MsgFault}
 use Rattle.dia_tree.specs.Faults.{group_faults, missing_fault, IsGood}
-use Rattle.dia_tree.specs.Normal.{normal}
+use Rattle.dia_tree.specs.Canonical.{canonical}
 use Rattle.dia_tree.proofs.FaultLaws.{each_good, few, good_octets}
-use Rattle.dia_tree.proofs.NormalLaws.{normals_good, normals_numbers, normals_not_zero, normals_room, normals_again}
+use Rattle.dia_tree.proofs.CanonicalLaws.{canonicals_good, canonicals_numbers, canonicals_not_zero, canonicals_room, canonicals_again}
 use Rattle.dia_msg.specs.declared.command.Command.{Command}
 use Rattle.dia_msg.specs.declared.fault.MsgError.{MsgError}
 use Rattle.dia_msg.specs.declared.header.Flags.{Flags}
@@ -32,16 +32,16 @@ use Rattle.dia_msg.specs.declared.rules.Rule.{Rule}
 use Rattle.dia_msg.specs.Header.{header_in, header_octets, flags_in, flags_octet}
 use Rattle.dia_msg.specs.Command.{kind_of, header_of, fields, rest_of, avps_of, made, number_in, with_length}
 use Rattle.dia_msg.specs.Rules.{kind_coded, application_of, rules_of, is_coded, first_of, taken, groups, untaken, missing}
-use Rattle.dia_msg.specs.Spelling.{message_len, spell}
+use Rattle.dia_msg.specs.Encoding.{message_len, encode}
 use Rattle.dia_msg.specs.Faults.{kind_in, header_faults, whole_avps, has_event_type, is_event, has_failed, is_complete, read_as, kind_read, rules_in, faults}
 use Rattle.dia_msg.specs.Reading.{Means, IsReading, IsReadAgain, UnlessNoMemory}
 use Rattle.dia_msg.proofs.FaultlessLaws.{none_both, SoundHeader, sound_header, SoundLength, sound_length, length-good, header-faultless}
 use Rattle.dia_msg.proofs.SpreadLemmas.{spread, spread-is, spread-All, spread-sum, coded-spread, taken-spread, groups-spread, untaken-spread}
 use Rattle.dia_msg.proofs.MapLemmas.{untaken-each, spread-each, missing-same, missing-each}
-use Rattle.dia_msg.proofs.FieldLemmas.{IsPlain, plain_same, normal_keeps}
+use Rattle.dia_msg.proofs.FieldLemmas.{IsPlain, plain_same, canonical_keeps}
 use Rattle.dia_msg.proofs.KindLemmas.{made_again, kind_of-made, header_of-made, rest_of-made, with_length-made, distinct, kind_of-with_length, fields-with_length}
 use Rattle.dia_msg.proofs.ReadingLaws.{source, kind_read-is, rules_in-is, all_none}
-use Rattle.dia_msg.proofs.WriteLemmas.{length-spell, spell-whole}
+use Rattle.dia_msg.proofs.WriteLemmas.{length-encode, encode-whole}
 
 -- the flags that were written are read
 flags_again : (r p e t : Bool) → let f : Flags = record { request = r; proxiable = p; error = e; retransmitted = t } in flags_in (flags_octet f) ≡ f
@@ -97,16 +97,16 @@ HasFields-header_in octets fits = record {
   end_to_end = big_number_4-lt (drop 16 octets) (IsBytes-drop 16 octets fits);
 }
 
--- no AVP of a list is longer than the list's spelling
-short_each : (list : List Avp) (n : ℕ) → length (spelling list) < n → All (λ a. length_of a < n) list
+-- no AVP of a list is longer than the list's encoding
+short_each : (list : List Avp) (n : ℕ) → length (encoding list) < n → All (λ a. length_of a < n) list
 short_each [] n short = All-nil (λ a. length_of a < n)
 short_each (a ∷ list) n short =
-    let all : length (spelling (a ∷ list)) ≡ length (spelled a) + length (spelling list) = length-append (spelled a) (spelling list) in
-    All-cons (λ x. length_of x < n) a list (omega (arith, length_spelled a)) (short_each list n (omega arith))
+    let all : length (encoding (a ∷ list)) ≡ length (encoded a) + length (encoding list) = length-append (encoded a) (encoding list) in
+    All-cons (λ x. length_of x < n) a list (omega (arith, length_encoded a)) (short_each list n (omega arith))
 
-length-spelling-spread : (rules : List Rule) (list : List Avp) → length (spelling (spread rules list)) ≡ length (spelling list)
-length-spelling-spread rules list =
-    length-flat_map spelled (spread rules list) ∙ spread-sum (λ a. length (spelled a)) rules list ∙ sym (length-flat_map spelled list)
+length-encoding-spread : (rules : List Rule) (list : List Avp) → length (encoding (spread rules list)) ≡ length (encoding list)
+length-encoding-spread rules list =
+    length-flat_map encoded (spread rules list) ∙ spread-sum (λ a. length (encoded a)) rules list ∙ sym (length-flat_map encoded list)
 
 -- how many there are, as a sum
 sum_by-ones : (list : List Avp) → sum_by (λ a. 1) list ≡ length list
@@ -120,17 +120,17 @@ length-each : (f : Avp → Avp) (list : List Avp) → length (map f list) ≡ le
 length-each f [] = refl
 length-each f (a ∷ list) = rw (length-each f list) refl
 
-spell-body : (c : Command) → drop 20 (spell c) ≡ spelling (avps_of c)
-unfolding spell
-spell-body c = refl
+encode-body : (c : Command) → drop 20 (encode c) ≡ encoding (avps_of c)
+unfolding encode
+encode-body c = refl
 
-spell-header : (c : Command) → HasFields (header_of c) → message_len c < 2 ^ 24 → header_in (spell c) ≡ record (header_of c) { length = message_len c }
-unfolding spell
-spell-header c fits short = header_again (header_of c) (message_len c) (spelling (avps_of c)) fits short
+encode-header : (c : Command) → HasFields (header_of c) → message_len c < 2 ^ 24 → header_in (encode c) ≡ record (header_of c) { length = message_len c }
+unfolding encode
+encode-header c fits short = header_again (header_of c) (message_len c) (encoding (avps_of c)) fits short
 
-spell-version : (c : Command) → slice_index (spell c) 0 ≡ 1
-unfolding spell
-spell-version c = refl
+encode-version : (c : Command) → slice_index (encode c) 0 ≡ 1
+unfolding encode
+encode-version c = refl
 
 -- a command that was read, with the kind and the rules by which it was
 record Parts (x : List Definition) (octets : List ℕ) (c : Command) : Type 0 where
@@ -153,7 +153,7 @@ parts x octets c r =
 
 -- the AVPs as they are written: of a kind, of these AVPs
 abbrev written : List Definition → CommandKind → Bool → List Avp → List Avp
-written d kind e list = spread (rules_of kind e) (map (normal d 4) list)
+written d kind e list = spread (rules_of kind e) (map (canonical d 4) list)
 
 -- a command that was read: its header, its rules, its AVPs
 record Shape (x : List Definition) (octets : List ℕ) (c : Command) : Type 0 where
@@ -169,19 +169,19 @@ shape x octets c m =
     let d = known x in
     let kind = kind_of c in
     let list = whole_avps octets in
-    let normals = map (normal d 4) list in
+    let canonicals = map (canonical d 4) list in
     let rules = rules_of kind (is_event octets) in
     let rules_are : rules_in octets ≡ rules = rules_in-is octets kind m.kind in
     let g = groups (rules_in octets) list in
-    let rest = map (normal d 4) (untaken (rules_in octets) list) in
-    let rest_is : rest_of c ≡ untaken rules normals =
-    ap rest_of m.is_made ∙ rest_of-made kind d (header_in octets) g rest ∙ ap (λ (rs : List Rule). map (normal d 4) (untaken rs list)) rules_are ∙ sym (untaken-each (normal d 4) rules list (normal_keeps d 4)) in
-    let fields_are : fields c ≡ groups rules normals = m.fields_are ∙ ap (λ (rs : List Rule). groups rs normals) rules_are in
+    let rest = map (canonical d 4) (untaken (rules_in octets) list) in
+    let rest_is : rest_of c ≡ untaken rules canonicals =
+    ap rest_of m.is_made ∙ rest_of-made kind d (header_in octets) g rest ∙ ap (λ (rs : List Rule). map (canonical d 4) (untaken rs list)) rules_are ∙ sym (untaken-each (canonical d 4) rules list (canonical_keeps d 4)) in
+    let fields_are : fields c ≡ groups rules canonicals = m.fields_are ∙ ap (λ (rs : List Rule). groups rs canonicals) rules_are in
     record {
       rules_are = rules_are;
       header_is = ap header_of m.is_made ∙ header_of-made kind d (header_in octets) g rest;
       avps_are =
-          ap (λ (fs : List (List Avp)). joined fs (rest_of c)) fields_are ∙ ap (joined (groups rules normals)) rest_is ∙ spread-is rules normals (distinct kind (is_event octets));
+          ap (λ (fs : List (List Avp)). joined fs (rest_of c)) fields_are ∙ ap (joined (groups rules canonicals)) rest_is ∙ spread-is rules canonicals (distinct kind (is_event octets));
     }
 
 -- what was read is no longer as it is written
@@ -194,9 +194,9 @@ fits_again x octets c fits s shape =
     let short : (header_in octets).length < 2 ^ 24 = big_number_3-lt (drop 1 octets) (IsBytes-drop 1 octets fits) in
     let body_len : length body ≡ length octets - 20 = length-drop 20 octets in
     let room = avps_in-room body bytes in
-    let normal_room = normals_room (known x) 4 list (avps_in-bytes body bytes) in
-    let same = length-spelling-spread rules (map (normal (known x) 4) list) in
-    omega (arith, short, s.own, s.has_header, s.aligned, body_len, room, normal_room, same, ap (λ (l : List Avp). length (spelling l)) shape.avps_are)
+    let canonical_room = canonicals_room (known x) 4 list (avps_in-bytes body bytes) in
+    let same = length-encoding-spread rules (map (canonical (known x) 4) list) in
+    omega (arith, short, s.own, s.has_header, s.aligned, body_len, room, canonical_room, same, ap (λ (l : List Avp). length (encoding l)) shape.avps_are)
 
 abbrev some_kind : CommandKind → Option CommandKind
 some_kind k = Some k
@@ -204,11 +204,11 @@ some_kind k = Some k
 abbrev application_bad : Header → Bool
 application_bad h = not (h.application == application_of h.command)
 
--- the header of the spelling
-record SpelledHeader (octets : List ℕ) (c : Command) : Type 0 where
-  pub header_is : header_in (spell c) ≡ record (header_in octets) { length = message_len c }
-  pub known_by : kind_in (spell c) ≡ kind_in octets
-  pub none : header_faults (spell c) ≡ []
+-- the header of the encoding
+record EncodedHeader (octets : List ℕ) (c : Command) : Type 0 where
+  pub header_is : header_in (encode c) ≡ record (header_in octets) { length = message_len c }
+  pub known_by : kind_in (encode c) ≡ kind_in octets
+  pub none : header_faults (encode c) ≡ []
 
 abbrev with_field : ℕ → Header → Header
 with_field n h = record h { length = n }
@@ -220,45 +220,45 @@ some_known : (octets : List ℕ) (o : Option CommandKind) (kind : CommandKind) (
 some_known octets None kind f e h = absurd cc
 some_known octets (Some k) kind f e h = (k, sym e)
 
-spelled_header : (octets : List ℕ) (c : Command) → IsBytes octets → SoundHeader octets → header_of c ≡ header_in octets → ((k : CommandKind) × (kind_in octets ≡ Some k)) → message_len c < 2 ^ 24 → SpelledHeader octets c
-spelled_header octets c fits sound is kind short =
-    let s = spell c in
+encoded_header : (octets : List ℕ) (c : Command) → IsBytes octets → SoundHeader octets → header_of c ≡ header_in octets → ((k : CommandKind) × (kind_in octets ≡ Some k)) → message_len c < 2 ^ 24 → EncodedHeader octets c
+encoded_header octets c fits sound is kind short =
+    let s = encode c in
     let n = message_len c in
     let header_is : header_in s ≡ with_field n (header_in octets) =
-    spell-header c (subst (λ (h : Header). HasFields h) (sym is) (HasFields-header_in octets fits)) short ∙ ap (with_field n) is in
+    encode-header c (subst (λ (h : Header). HasFields h) (sym is) (HasFields-header_in octets fits)) short ∙ ap (with_field n) is in
     let known_by : kind_in s ≡ kind_in octets = ap kind_by header_is in
     let application : application_bad (header_in s) ≡ application_bad (header_in octets) = ap application_bad header_is in
-    let w = spell-whole c short in
+    let w = encode-whole c short in
     let good = length-good s w.has_header w.length_is w.aligned in
     record { header_is = header_is; known_by = known_by; none = header-faultless s kind.0 good w.version (known_by ∙ kind.1) (application ∙ sound.application_good) }
 
--- the AVPs of the spelling are those that were read, in the order of the rules
+-- the AVPs of the encoding are those that were read, in the order of the rules
 abbrev Parted : Type 0
 Parted = List Avp × List ℕ
 
-spelled_avps : (x : List Definition) (octets : List ℕ) (c : Command) → IsBytes octets → Shape x octets c → message_len c < 2 ^ 24 → avps_in (drop 20 (spell c)) ≡ (written (known x) (kind_of c) (is_event octets) (whole_avps octets), [])
-spelled_avps x octets c fits shape short =
+encoded_avps : (x : List Definition) (octets : List ℕ) (c : Command) → IsBytes octets → Shape x octets c → message_len c < 2 ^ 24 → avps_in (drop 20 (encode c)) ≡ (written (known x) (kind_of c) (is_event octets) (whole_avps octets), [])
+encoded_avps x octets c fits shape short =
     let d = known x in
     let body = drop 20 octets in
     let bytes = IsBytes-drop 20 octets fits in
     let rules = rules_of (kind_of c) (is_event octets) in
     let list = whole_avps octets in
-    let normals = map (normal d 4) list in
-    let w = spread rules normals in
-    let fit : length (spelling w) < 2 ^ 24 = omega (arith, short, ap (λ (l : List Avp). length (spelling l)) shape.avps_are) in
-    ap avps_in (spell-body c ∙ ap spelling shape.avps_are)
-    ∙ avps_in-spelling w (spread-All HasNumbers rules normals (normals_numbers d 4 list (avps_in-numbers body bytes))) (short_each w (2 ^ 24) fit)
-    (spread-All (λ a. a.vendor ≡ Some 0 → ⊥) rules normals (normals_not_zero d 4 list (avps_in-not_zero body bytes)))
+    let canonicals = map (canonical d 4) list in
+    let w = spread rules canonicals in
+    let fit : length (encoding w) < 2 ^ 24 = omega (arith, short, ap (λ (l : List Avp). length (encoding l)) shape.avps_are) in
+    ap avps_in (encode-body c ∙ ap encoding shape.avps_are)
+    ∙ avps_in-encoding w (spread-All HasNumbers rules canonicals (canonicals_numbers d 4 list (avps_in-numbers body bytes))) (short_each w (2 ^ 24) fit)
+    (spread-All (λ a. a.vendor ≡ Some 0 → ⊥) rules canonicals (canonicals_not_zero d 4 list (avps_in-not_zero body bytes)))
 
 -- those of a code that is no group's are the same
-stays : (x : List Definition) (rules : List Rule) (list : List Avp) (code : ℕ) → IsPlain (known x) code → filter (is_coded code) (spread rules (map (normal (known x) 4) list)) ≡ filter (is_coded code) list
-stays x rules list code plain = coded-spread code rules (map (normal (known x) 4) list) ∙ plain_same (known x) code list plain
+stays : (x : List Definition) (rules : List Rule) (list : List Avp) (code : ℕ) → IsPlain (known x) code → filter (is_coded code) (spread rules (map (canonical (known x) 4) list)) ≡ filter (is_coded code) list
+stays x rules list code plain = coded-spread code rules (map (canonical (known x) 4) list) ∙ plain_same (known x) code list plain
 
-missing_stays : (x : List Definition) (others rules : List Rule) (list : List Avp) → missing others (spread rules (map (normal (known x) 4) list)) ≡ missing others list
+missing_stays : (x : List Definition) (others rules : List Rule) (list : List Avp) → missing others (spread rules (map (canonical (known x) 4) list)) ≡ missing others list
 missing_stays x others rules list =
     let d = known x in
-    let normals = map (normal d 4) list in
-    missing-same others (spread rules normals) normals (λ r. ap length (taken-spread r rules normals)) ∙ missing-each (normal d 4) others list (normal_keeps d 4)
+    let canonicals = map (canonical d 4) list in
+    missing-same others (spread rules canonicals) canonicals (λ r. ap length (taken-spread r rules canonicals)) ∙ missing-each (canonical d 4) others list (canonical_keeps d 4)
 
 abbrev event_by : List Avp → Bool
 event_by coded = option_map_or (λ a. (number_in a).value == 4) (slice_get coded 0) false
@@ -269,9 +269,9 @@ failed_by coded = option_map_or (λ a. not ((number_in a).value / 1000 == 2)) (s
 abbrev as_read : Bool → Bool → Flags → CommandKind → CommandKind
 as_read failed complete flags kind = if not flags.request && (flags.error || (failed && not complete)) then kinds.ErrorAnswer else kind
 
-read_stays : (x : List Definition) (rules : List Rule) (list : List Avp) (flags : Flags) (kind : CommandKind) → read_as kind flags (spread rules (map (normal (known x) 4) list)) ≡ read_as kind flags list
+read_stays : (x : List Definition) (rules : List Rule) (list : List Avp) (flags : Flags) (kind : CommandKind) → read_as kind flags (spread rules (map (canonical (known x) 4) list)) ≡ read_as kind flags list
 read_stays x rules list flags kind =
-    let w = spread rules (map (normal (known x) 4) list) in
+    let w = spread rules (map (canonical (known x) 4) list) in
     let failed : has_failed w ≡ has_failed list = ap failed_by (stays x rules list 268 refl) in
     let complete : is_complete kind w ≡ is_complete kind list = ap (λ (rs : List Rule). length rs == 0) (missing_stays x (rules_of kind false) rules list) in
     ap (λ (b : Bool). as_read b (is_complete kind w) flags kind) failed ∙ ap (λ (b : Bool). as_read (has_failed list) b flags kind) complete
@@ -286,18 +286,18 @@ same_kinds (Some k) f g h = ap some_kind (h k)
 abbrev read_by : Flags → List Avp → CommandKind → CommandKind
 read_by flags list k = read_as k flags list
 
--- the spelling is the message of the same kind, by the same rules
-record Respelled (x : List Definition) (octets : List ℕ) (c : Command) : Type 0 where
-  pub header : SpelledHeader octets c
-  pub avps : avps_in (drop 20 (spell c)) ≡ (written (known x) (kind_of c) (is_event octets) (whole_avps octets), [])
-  pub event : is_event (spell c) ≡ is_event octets
-  pub kind : kind_read (spell c) ≡ Some (kind_of c)
-  pub rules : rules_in (spell c) ≡ rules_of (kind_of c) (is_event octets)
+-- the encoding is the message of the same kind, by the same rules
+record Reencoded (x : List Definition) (octets : List ℕ) (c : Command) : Type 0 where
+  pub header : EncodedHeader octets c
+  pub avps : avps_in (drop 20 (encode c)) ≡ (written (known x) (kind_of c) (is_event octets) (whole_avps octets), [])
+  pub event : is_event (encode c) ≡ is_event octets
+  pub kind : kind_read (encode c) ≡ Some (kind_of c)
+  pub rules : rules_in (encode c) ≡ rules_of (kind_of c) (is_event octets)
 
-respelled : (x : List Definition) (octets : List ℕ) (c : Command) → Means (known x) octets c → Shape x octets c → SpelledHeader octets c
-    → avps_in (drop 20 (spell c)) ≡ (written (known x) (kind_of c) (is_event octets) (whole_avps octets), []) → Respelled x octets c
-respelled x octets c m shape h avps =
-    let s = spell c in
+reencoded : (x : List Definition) (octets : List ℕ) (c : Command) → Means (known x) octets c → Shape x octets c → EncodedHeader octets c
+    → avps_in (drop 20 (encode c)) ≡ (written (known x) (kind_of c) (is_event octets) (whole_avps octets), []) → Reencoded x octets c
+reencoded x octets c m shape h avps =
+    let s = encode c in
     let rules = rules_of (kind_of c) (is_event octets) in
     let list = whole_avps octets in
     let w = written (known x) (kind_of c) (is_event octets) list in
@@ -320,20 +320,20 @@ respelled x octets c m shape h avps =
     }
 
 -- and has no fault
-spelled_good : (x : List Definition) (octets : List ℕ) (c : Command) → IsBytes octets → Parts x octets c → Shape x octets c → Respelled x octets c → faults (known x) (spell c) ≡ []
-spelled_good x octets c fits p shape r =
+encoded_good : (x : List Definition) (octets : List ℕ) (c : Command) → IsBytes octets → Parts x octets c → Shape x octets c → Reencoded x octets c → faults (known x) (encode c) ≡ []
+encoded_good x octets c fits p shape r =
     let d = known x in
-    let s = spell c in
+    let s = encode c in
     let e = is_event octets in
     let body = drop 20 octets in
     let bytes = IsBytes-drop 20 octets fits in
     let list = whole_avps octets in
-    let normals = map (normal d 4) list in
+    let canonicals = map (canonical d 4) list in
     let rules = rules_of (kind_of c) e in
-    let w = spread rules normals in
-    let each = normals_good d e 4 list (avps_in-bytes body bytes) (avps_in-short body bytes) (each_good d e 4 body p.good) in
-    let many : length w ≤ 128 = omega (arith, few d e 4 body p.good, length-spread rules normals, length-each (normal d 4) list) in
-    let good : group_faults d e 5 (drop 20 s) ≡ [] = good_octets d e 4 (drop 20 s) w r.avps (spread-All (IsGood d e 4) rules normals each) many in
+    let w = spread rules canonicals in
+    let each = canonicals_good d e 4 list (avps_in-bytes body bytes) (avps_in-short body bytes) (each_good d e 4 body p.good) in
+    let many : length w ≤ 128 = omega (arith, few d e 4 body p.good, length-spread rules canonicals, length-each (canonical d 4) list) in
+    let good : group_faults d e 5 (drop 20 s) ≡ [] = good_octets d e 4 (drop 20 s) w r.avps (spread-All (IsGood d e 4) rules canonicals each) many in
     let whole : whole_avps s ≡ w = ap (λ (q : Parted). q.0) r.avps in
     let complete : missing (rules_in s) (whole_avps s) ≡ [] =
     ap (λ (rs : List Rule). missing rs (whole_avps s)) r.rules ∙ ap (λ (l : List Avp). missing rules l) whole ∙ missing_stays x rules rules list
@@ -344,55 +344,55 @@ spelled_good x octets c fits p shape r =
 same_made : (d : List Definition) (kind other : CommandKind) (h k : Header) (g f : List (List Avp)) (rest left : List Avp) → kind ≡ other → h ≡ k → g ≡ f → rest ≡ left → made d kind h g rest ≡ made d other k f left
 same_made d kind other h k g f rest left i j e r = rw (i, j, e, r) refl
 
-spelled_means : (x : List Definition) (octets : List ℕ) (c : Command) → IsBytes octets → Parts x octets c → Shape x octets c → Respelled x octets c → Means (known x) (spell c) (with_length (length (spell c)) c)
-spelled_means x octets c fits p shape r =
+encoded_means : (x : List Definition) (octets : List ℕ) (c : Command) → IsBytes octets → Parts x octets c → Shape x octets c → Reencoded x octets c → Means (known x) (encode c) (with_length (length (encode c)) c)
+encoded_means x octets c fits p shape r =
     let d = known x in
-    let s = spell c in
+    let s = encode c in
     let n = length s in
     let kind = kind_of c in
     let e = is_event octets in
     let body = drop 20 octets in
     let bytes = IsBytes-drop 20 octets fits in
     let list = whole_avps octets in
-    let f = normal d 4 in
-    let normals = map f list in
+    let f = canonical d 4 in
+    let canonicals = map f list in
     let rules = rules_of kind e in
-    let w = spread rules normals in
+    let w = spread rules canonicals in
     let whole : whole_avps s ≡ w = ap (λ (q : Parted). q.0) r.avps in
     let own : kind_of (with_length n c) ≡ kind = kind_of-with_length n c in
-    let again : map f normals ≡ normals = normals_again d 4 list (avps_in-bytes body bytes) (avps_in-short body bytes) in
+    let again : map f canonicals ≡ canonicals = canonicals_again d 4 list (avps_in-bytes body bytes) (avps_in-short body bytes) in
     let rest = map f (untaken (rules_in octets) list) in
     let left : map f (untaken (rules_in s) (whole_avps s)) ≡ rest =
-    ap (λ (rs : List Rule). map f (untaken rs (whole_avps s))) r.rules ∙ ap (λ (l : List Avp). map f (untaken rules l)) whole ∙ ap (λ (l : List Avp). map f l) (untaken-spread rules normals)
-    ∙ sym (untaken-each f rules normals (normal_keeps d 4)) ∙ ap (λ (l : List Avp). untaken rules l) again ∙ untaken-each f rules list (normal_keeps d 4)
+    ap (λ (rs : List Rule). map f (untaken rs (whole_avps s))) r.rules ∙ ap (λ (l : List Avp). map f (untaken rules l)) whole ∙ ap (λ (l : List Avp). map f l) (untaken-spread rules canonicals)
+    ∙ sym (untaken-each f rules canonicals (canonical_keeps d 4)) ∙ ap (λ (l : List Avp). untaken rules l) again ∙ untaken-each f rules list (canonical_keeps d 4)
     ∙ ap (λ (rs : List Rule). map f (untaken rs list)) (sym shape.rules_are) in
-    let taken_again : groups (rules_in s) (whole_avps s) ≡ groups rules normals =
-    ap (λ (rs : List Rule). groups rs (whole_avps s)) r.rules ∙ ap (λ (l : List Avp). groups rules l) whole ∙ groups-spread rules rules normals in
-    let header : header_in s ≡ record (header_in octets) { length = n } = r.header.header_is ∙ ap (λ (k : ℕ). with_field k (header_in octets)) (sym (length-spell c)) in
+    let taken_again : groups (rules_in s) (whole_avps s) ≡ groups rules canonicals =
+    ap (λ (rs : List Rule). groups rs (whole_avps s)) r.rules ∙ ap (λ (l : List Avp). groups rules l) whole ∙ groups-spread rules rules canonicals in
+    let header : header_in s ≡ record (header_in octets) { length = n } = r.header.header_is ∙ ap (λ (k : ℕ). with_field k (header_in octets)) (sym (length-encode c)) in
     let was : c ≡ made d kind (header_in octets) (groups rules list) rest = p.means.is_made ∙ ap (λ (rs : List Rule). made d kind (header_in octets) (groups rs list) rest) shape.rules_are in
     record {
       kind = r.kind ∙ ap some_kind (sym own);
       is_made =
           ap (with_length n) was ∙ with_length-made kind d (header_in octets) (groups rules list) rest n
           ∙ sym (made_again kind x e (record (header_in octets) { length = n }) list rest (source d octets fits p.good))
-          ∙ same_made d kind (kind_of (with_length n c)) (record (header_in octets) { length = n }) (header_in s) (groups rules normals) (groups (rules_in s) (whole_avps s)) rest (map f (untaken (rules_in s) (whole_avps s)))
+          ∙ same_made d kind (kind_of (with_length n c)) (record (header_in octets) { length = n }) (header_in s) (groups rules canonicals) (groups (rules_in s) (whole_avps s)) rest (map f (untaken (rules_in s) (whole_avps s)))
           (sym own) (sym header) (sym taken_again) (sym left);
       fields_are =
-          fields-with_length n c ∙ p.means.fields_are ∙ ap (λ (rs : List Rule). groups rs normals) shape.rules_are ∙ sym (groups-spread rules rules normals)
-          ∙ ap (λ (l : List Avp). groups rules l) (ap (λ (l : List Avp). spread rules l) (sym again) ∙ spread-each f rules normals (normal_keeps d 4) ∙ ap (λ (l : List Avp). map f l) (sym whole))
+          fields-with_length n c ∙ p.means.fields_are ∙ ap (λ (rs : List Rule). groups rs canonicals) shape.rules_are ∙ sym (groups-spread rules rules canonicals)
+          ∙ ap (λ (l : List Avp). groups rules l) (ap (λ (l : List Avp). spread rules l) (sym again) ∙ spread-each f rules canonicals (canonical_keeps d 4) ∙ ap (λ (l : List Avp). map f l) (sym whole))
           ∙ ap (λ (rs : List Rule). groups rs (map f (whole_avps s))) (sym r.rules);
     }
 
-spell_again : (x : List Definition) (octets : List ℕ) (c : Command) → IsBytes octets → Parts x octets c → IsReadAgain (known x) c
-spell_again x octets c fits p =
+encode_again : (x : List Definition) (octets : List ℕ) (c : Command) → IsBytes octets → Parts x octets c → IsReadAgain (known x) c
+encode_again x octets c fits p =
     let sound = sound_header octets p.header_sound in
     let shape = shape x octets c p.means in
     let short = fits_again x octets c fits (sound_length octets sound.length_good) shape in
     let kind = some_known octets (kind_in octets) (kind_of c) (read_by (header_in octets).flags (whole_avps octets)) refl p.means.kind in
-    let r = respelled x octets c p.means shape (spelled_header octets c fits sound shape.header_is kind short) (spelled_avps x octets c fits shape short) in
-    (spelled_good x octets c fits p shape r, spelled_means x octets c fits p shape r)
+    let r = reencoded x octets c p.means shape (encoded_header octets c fits sound shape.header_is kind short) (encoded_avps x octets c fits shape short) in
+    (encoded_good x octets c fits p shape r, encoded_means x octets c fits p shape r)
 
--- the spelling of what was read is read as the same command
+-- the encoding of what was read is read as the same command
 pub read_again : (x : List Definition) (octets : List ℕ) (r : Result Command MsgError) → IsBytes octets → UnlessNoMemory r (IsReading (known x) octets) → IfOk r (IsReadAgain (known x))
-read_again x octets (Ok c) fits h = spell_again x octets c fits (parts x octets c h)
+read_again x octets (Ok c) fits h = encode_again x octets c fits (parts x octets c h)
 read_again x octets (Err e) fits h = tt

@@ -1,4 +1,4 @@
--- What a field holds, written again, is the AVP that was read, in its one spelling.
+-- What a field holds, written again, is the AVP that was read, in its canonical encoding.
 use Rattle.std.proofs.Common.{◌≡◌, ◌==◌, ◌&&◌, ℕ, zero, suc, ◌+◌, ◌<◌, ◌≤◌, ◌^◌, Bool, true, false, cond, not, List, [], ◌∷◌, length, map, take, filter, get_or, Option, None, Some, All, refl, sym, ap, ◌∙◌, arith, take_all}
 use Rattle.std.specs.Prelude.{is_none, slice_get}
 use Rattle.std.specs.List.{list_all}
@@ -8,7 +8,7 @@ use Rattle.std.proofs.lemmas.List.Elements.{All-head, All-tail, All-filter, filt
 use Rattle.byteorder.specs.Endian.{big_bytes, big_number}
 use Rattle.dia_avp.specs.declared.avp.Avp.{Avp}
 use Rattle.dia_avp.specs.Reading.{avps_in}
-use Rattle.dia_avp.specs.Spelling.{length_of, spelling, vendor_id}
+use Rattle.dia_avp.specs.Encoding.{length_of, encoding, vendor_id}
 use Rattle.dia_avp.proofs.Bytes.{IsBytes, big_bytes_4}
 use Rattle.dia_avp.proofs.PartLaws.{avps_in-bytes, avps_in-short}
 use Rattle.dia_dict.specs.declared.definition.AvpKind.{AvpKind}
@@ -20,8 +20,8 @@ use Rattle.dia_dict.specs.Dictionary.{definition_of}
 use Rattle.dia_tree.specs.declared.fault.MsgFault.{MsgFault}
 use Rattle.dia_tree.specs.Kind.{is_grouped}
 use Rattle.dia_tree.specs.Faults.{least_of, data_faults, typed_faults, faults_by, group_faults, IsGood}
-use Rattle.dia_tree.specs.Normal.{normal}
-use Rattle.dia_tree.proofs.NormalLaws.{normal_head, normal-plain, normal-group, normal_inner, normals_again}
+use Rattle.dia_tree.specs.Canonical.{canonical}
+use Rattle.dia_tree.proofs.CanonicalLaws.{canonical_head, canonical-plain, canonical-group, canonical_inner, canonicals_again}
 use Rattle.dia_msg.specs.declared.rules.Rule.{Rule}
 use Rattle.dia_msg.specs.declared.typed.TypedAvp.{TypedAvp}
 use Rattle.dia_msg.specs.Rules.{is_coded, taken, groups}
@@ -53,10 +53,10 @@ coded_definition : (d : List Definition) (code : ℕ) (a : Avp) → is_coded cod
 coded_definition d code a e =
     ap (λ (n : ℕ). definition_of d n a.vendor) (coded_code code a e) ∙ ap (λ (v : Option ℕ). definition_of d code v) (coded_vendor code a e)
 
--- the one spelling keeps code and vendor
-pub normal_keeps : (d : List Definition) (n : ℕ) → KeepsHeads (normal d n)
-normal_keeps d n a code =
-    let h = normal_head d n a in
+-- the canonical encoding keeps code and vendor
+pub canonical_keeps : (d : List Definition) (n : ℕ) → KeepsHeads (canonical d n)
+canonical_keeps d n a code =
+    let h = canonical_head d n a in
     rw (h.code, h.vendor) refl
 
 -- codes of AVPs that are no groups, and of groups
@@ -69,12 +69,12 @@ IsGroup d code = is_grouped (definition_of d code None) ≡ true
 abbrev pub IsNumber : List Definition → ℕ → Type 0
 IsNumber d code = least_of (definition_of d code None) ≡ 4
 
-plain_stays : (d : List Definition) (code : ℕ) (a : Avp) → IsPlain d code → is_coded code a ≡ true → normal d 4 a ≡ a
-plain_stays d code a plain e = normal-plain d 4 a (ap is_grouped (coded_definition d code a e) ∙ plain)
+plain_stays : (d : List Definition) (code : ℕ) (a : Avp) → IsPlain d code → is_coded code a ≡ true → canonical d 4 a ≡ a
+plain_stays d code a plain e = canonical-plain d 4 a (ap is_grouped (coded_definition d code a e) ∙ plain)
 
 -- those of a plain code are as they were read
-pub plain_same : (d : List Definition) (code : ℕ) (list : List Avp) → IsPlain d code → filter (is_coded code) (map (normal d 4) list) ≡ filter (is_coded code) list
-plain_same d code list plain = filter-same (normal d 4) (is_coded code) list (λ a. normal_keeps d 4 a code) (λ a e. plain_stays d code a plain e)
+pub plain_same : (d : List Definition) (code : ℕ) (list : List Avp) → IsPlain d code → filter (is_coded code) (map (canonical d 4) list) ≡ filter (is_coded code) list
+plain_same d code list plain = filter-same (canonical d 4) (is_coded code) list (λ a. canonical_keeps d 4 a code) (λ a e. plain_stays d code a plain e)
 
 abbrev pub is_plain_rule : List Definition → Rule → Bool
 is_plain_rule d r = not (is_grouped (definition_of d r.code None))
@@ -83,7 +83,7 @@ not_true : (b : Bool) → not b ≡ true → b ≡ false
 not_true true e = absurd cc
 not_true false e = refl
 
-pub groups_plain : (d : List Definition) (rules : List Rule) (list : List Avp) → list_all (is_plain_rule d) rules ≡ true → groups rules (map (normal d 4) list) ≡ groups rules list
+pub groups_plain : (d : List Definition) (rules : List Rule) (list : List Avp) → list_all (is_plain_rule d) rules ≡ true → groups rules (map (canonical d 4) list) ≡ groups rules list
 groups_plain d [] list e = refl
 groups_plain d (r ∷ rules) list e =
     let h = both_true (is_plain_rule d r) (list_all (is_plain_rule d) rules) e in
@@ -119,7 +119,7 @@ avp code vendor m p octets = record { code = code; vendor = vendor; mandatory = 
 same_avp : (code : ℕ) (vendor : Option ℕ) (m p : Bool) (octets : List ℕ) (a : Avp) → code ≡ a.code → vendor ≡ a.vendor → m ≡ a.mandatory → p ≡ a.protected → octets ≡ a.octets → avp code vendor m p octets ≡ a
 same_avp code vendor m p octets a c v f g o = rw (c, v, f, g, o) refl
 
-octets_back : (d : List Definition) (code : ℕ) (a : Avp) → IsPlain d code → is_coded code a ≡ true → octets_avp code (octets_in a) ≡ normal d 4 a
+octets_back : (d : List Definition) (code : ℕ) (a : Avp) → IsPlain d code → is_coded code a ≡ true → octets_avp code (octets_in a) ≡ canonical d 4 a
 octets_back d code a plain e =
     same_avp code None a.mandatory a.protected a.octets a (sym (coded_code code a e)) (sym (coded_vendor code a e)) refl refl refl ∙ sym (plain_stays d code a plain e)
 
@@ -127,18 +127,18 @@ number_is : (octets : List ℕ) → length octets ≡ 4 → IsBytes octets → b
 number_is octets len fits =
     rw (eq-eqb (length octets) 4 len) (big_bytes_4 octets (omega arith) fits ∙ take_all 4 octets (omega arith))
 
-number_back : (d : List Definition) (event : Bool) (code : ℕ) (a : Avp) → IsPlain d code → IsNumber d code → is_coded code a ≡ true → Fit d event a → number_avp code (number_in a) ≡ normal d 4 a
+number_back : (d : List Definition) (event : Bool) (code : ℕ) (a : Avp) → IsPlain d code → IsNumber d code → is_coded code a ≡ true → Fit d event a → number_avp code (number_in a) ≡ canonical d 4 a
 number_back d event code a plain number e fit =
     same_avp code None a.mandatory a.protected (big_bytes 4 (number_of a.octets)) a (sym (coded_code code a e)) (sym (coded_vendor code a e)) refl refl
     (number_is a.octets (number_size d event code a e number fit.good) fit.bytes)
     ∙ sym (plain_stays d code a plain e)
 
-group_back : (d : List Definition) (code : ℕ) (a : Avp) → IsGroup d code → is_coded code a ≡ true → group_avp code (group_in d a) ≡ normal d 4 a
+group_back : (d : List Definition) (code : ℕ) (a : Avp) → IsGroup d code → is_coded code a ≡ true → group_avp code (group_in d a) ≡ canonical d 4 a
 group_back d code a group e =
-    let h = normal_head d 4 a in
-    same_avp code None a.mandatory a.protected (spelling (map (normal d 3) (avps_in a.octets).0)) (normal d 4 a)
+    let h = canonical_head d 4 a in
+    same_avp code None a.mandatory a.protected (encoding (map (canonical d 3) (avps_in a.octets).0)) (canonical d 4 a)
     (sym (h.code ∙ coded_code code a e)) (sym (h.vendor ∙ coded_vendor code a e)) (sym h.mandatory) (sym h.protected)
-    (sym (ap (λ (b : Avp). b.octets) (normal-group d 3 a (ap is_grouped (coded_definition d code a e) ∙ group))))
+    (sym (ap (λ (b : Avp). b.octets) (canonical-group d 3 a (ap is_grouped (coded_definition d code a e) ∙ group))))
 
 -- fields of one AVP, of one that may be there, of any number of AVPs
 abbrev Back : {T : Type 0} → (T → Avp) → (Avp → T) → (Avp → Avp) → List Avp → Type 0
@@ -160,96 +160,96 @@ each B F g (a ∷ xs) h =
 abbrev coded : ℕ → List Avp → List Avp
 coded code list = filter (is_coded code) list
 
-normals : (d : List Definition) (code : ℕ) (list : List Avp) → map (normal d 4) (coded code list) ≡ coded code (map (normal d 4) list)
-normals d code list = sym (filter-each (normal d 4) (is_coded code) list (λ a. normal_keeps d 4 a code))
+canonicals : (d : List Definition) (code : ℕ) (list : List Avp) → map (canonical d 4) (coded code list) ≡ coded code (map (canonical d 4) list)
+canonicals d code list = sym (filter-each (canonical d 4) (is_coded code) list (λ a. canonical_keeps d 4 a code))
 
-first_normals : (d : List Definition) (code : ℕ) (list : List Avp) → map (normal d 4) (take 1 (coded code list)) ≡ take 1 (coded code (map (normal d 4) list))
-first_normals d code list = sym (take-each (normal d 4) (coded code list)) ∙ ap (λ (l : List Avp). take 1 l) (normals d code list)
+first_canonicals : (d : List Definition) (code : ℕ) (list : List Avp) → map (canonical d 4) (take 1 (coded code list)) ≡ take 1 (coded code (map (canonical d 4) list))
+first_canonicals d code list = sym (take-each (canonical d 4) (coded code list)) ∙ ap (λ (l : List Avp). take 1 l) (canonicals d code list)
 
 -- the AVPs of a message, without faults
 pub record Source (d : List Definition) (event : Bool) (list : List Avp) : Type 0 where
   pub fits : All (Fit d event) list
 
-octets_all : (d : List Definition) (code : ℕ) (list : List Avp) → IsPlain d code → Back (octets_avp code) octets_in (normal d 4) (coded code list)
+octets_all : (d : List Definition) (code : ℕ) (list : List Avp) → IsPlain d code → Back (octets_avp code) octets_in (canonical d 4) (coded code list)
 octets_all d code list plain k x lt = octets_back d code (get_or (coded code list) k x) plain (filter_passes (is_coded code) list k x lt)
 
-numbers_all : (d : List Definition) (event : Bool) (code : ℕ) (list : List Avp) → Source d event list → IsPlain d code → IsNumber d code → Back (number_avp code) number_in (normal d 4) (coded code list)
+numbers_all : (d : List Definition) (event : Bool) (code : ℕ) (list : List Avp) → Source d event list → IsPlain d code → IsNumber d code → Back (number_avp code) number_in (canonical d 4) (coded code list)
 numbers_all d event code list source plain number k x lt =
     number_back d event code (get_or (coded code list) k x) plain number (filter_passes (is_coded code) list k x lt) (All-filter (is_coded code) (Fit d event) list source.fits k x lt)
 
-groups_all : (d : List Definition) (code : ℕ) (list : List Avp) → IsGroup d code → Back (group_avp code) (group_in d) (normal d 4) (coded code list)
+groups_all : (d : List Definition) (code : ℕ) (list : List Avp) → IsGroup d code → Back (group_avp code) (group_in d) (canonical d 4) (coded code list)
 groups_all d code list group k x lt = group_back d code (get_or (coded code list) k x) group (filter_passes (is_coded code) list k x lt)
 
 pub octets_one : (d : List Definition) (list : List Avp) (code : ℕ) → IsPlain d code → (length (take 1 (filter (is_coded code) list)) == 0) ≡ false
-    → octets_avp code (octets_in (get_or (take 1 (filter (is_coded code) list)) 0 no_avp)) ∷ [] ≡ take 1 (filter (is_coded code) (map (normal d 4) list))
-octets_one d list code plain there = one (octets_avp code) octets_in (normal d 4) (coded code list) (octets_all d code list plain) there ∙ first_normals d code list
+    → octets_avp code (octets_in (get_or (take 1 (filter (is_coded code) list)) 0 no_avp)) ∷ [] ≡ take 1 (filter (is_coded code) (map (canonical d 4) list))
+octets_one d list code plain there = one (octets_avp code) octets_in (canonical d 4) (coded code list) (octets_all d code list plain) there ∙ first_canonicals d code list
 
 pub octets_optional : (d : List Definition) (list : List Avp) (code : ℕ) → IsPlain d code
-    → option_to_list (option_map (octets_avp code) (option_map octets_in (slice_get (take 1 (filter (is_coded code) list)) 0))) ≡ take 1 (filter (is_coded code) (map (normal d 4) list))
-octets_optional d list code plain = optional (octets_avp code) octets_in (normal d 4) (coded code list) (octets_all d code list plain) ∙ first_normals d code list
+    → option_to_list (option_map (octets_avp code) (option_map octets_in (slice_get (take 1 (filter (is_coded code) list)) 0))) ≡ take 1 (filter (is_coded code) (map (canonical d 4) list))
+octets_optional d list code plain = optional (octets_avp code) octets_in (canonical d 4) (coded code list) (octets_all d code list plain) ∙ first_canonicals d code list
 
 pub octets_each : (d : List Definition) (list : List Avp) (code : ℕ) → IsPlain d code
-    → map (octets_avp code) (map octets_in (filter (is_coded code) list)) ≡ filter (is_coded code) (map (normal d 4) list)
-octets_each d list code plain = each (octets_avp code) octets_in (normal d 4) (coded code list) (octets_all d code list plain) ∙ normals d code list
+    → map (octets_avp code) (map octets_in (filter (is_coded code) list)) ≡ filter (is_coded code) (map (canonical d 4) list)
+octets_each d list code plain = each (octets_avp code) octets_in (canonical d 4) (coded code list) (octets_all d code list plain) ∙ canonicals d code list
 
 pub number_one : (d : List Definition) (event : Bool) (list : List Avp) (code : ℕ) → Source d event list → IsPlain d code → IsNumber d code → (length (take 1 (filter (is_coded code) list)) == 0) ≡ false
-    → number_avp code (number_in (get_or (take 1 (filter (is_coded code) list)) 0 no_avp)) ∷ [] ≡ take 1 (filter (is_coded code) (map (normal d 4) list))
+    → number_avp code (number_in (get_or (take 1 (filter (is_coded code) list)) 0 no_avp)) ∷ [] ≡ take 1 (filter (is_coded code) (map (canonical d 4) list))
 number_one d event list code source plain number there =
-    one (number_avp code) number_in (normal d 4) (coded code list) (numbers_all d event code list source plain number) there ∙ first_normals d code list
+    one (number_avp code) number_in (canonical d 4) (coded code list) (numbers_all d event code list source plain number) there ∙ first_canonicals d code list
 
 pub number_optional : (d : List Definition) (event : Bool) (list : List Avp) (code : ℕ) → Source d event list → IsPlain d code → IsNumber d code
-    → option_to_list (option_map (number_avp code) (option_map number_in (slice_get (take 1 (filter (is_coded code) list)) 0))) ≡ take 1 (filter (is_coded code) (map (normal d 4) list))
+    → option_to_list (option_map (number_avp code) (option_map number_in (slice_get (take 1 (filter (is_coded code) list)) 0))) ≡ take 1 (filter (is_coded code) (map (canonical d 4) list))
 number_optional d event list code source plain number =
-    optional (number_avp code) number_in (normal d 4) (coded code list) (numbers_all d event code list source plain number) ∙ first_normals d code list
+    optional (number_avp code) number_in (canonical d 4) (coded code list) (numbers_all d event code list source plain number) ∙ first_canonicals d code list
 
 pub number_each : (d : List Definition) (event : Bool) (list : List Avp) (code : ℕ) → Source d event list → IsPlain d code → IsNumber d code
-    → map (number_avp code) (map number_in (filter (is_coded code) list)) ≡ filter (is_coded code) (map (normal d 4) list)
+    → map (number_avp code) (map number_in (filter (is_coded code) list)) ≡ filter (is_coded code) (map (canonical d 4) list)
 number_each d event list code source plain number =
-    each (number_avp code) number_in (normal d 4) (coded code list) (numbers_all d event code list source plain number) ∙ normals d code list
+    each (number_avp code) number_in (canonical d 4) (coded code list) (numbers_all d event code list source plain number) ∙ canonicals d code list
 
 pub group_optional : (d : List Definition) (list : List Avp) (code : ℕ) → IsGroup d code
-    → option_to_list (option_map (group_avp code) (option_map (group_in d) (slice_get (take 1 (filter (is_coded code) list)) 0))) ≡ take 1 (filter (is_coded code) (map (normal d 4) list))
-group_optional d list code group = optional (group_avp code) (group_in d) (normal d 4) (coded code list) (groups_all d code list group) ∙ first_normals d code list
+    → option_to_list (option_map (group_avp code) (option_map (group_in d) (slice_get (take 1 (filter (is_coded code) list)) 0))) ≡ take 1 (filter (is_coded code) (map (canonical d 4) list))
+group_optional d list code group = optional (group_avp code) (group_in d) (canonical d 4) (coded code list) (groups_all d code list group) ∙ first_canonicals d code list
 
 pub group_each : (d : List Definition) (list : List Avp) (code : ℕ) → IsGroup d code
-    → map (group_avp code) (map (group_in d) (filter (is_coded code) list)) ≡ filter (is_coded code) (map (normal d 4) list)
-group_each d list code group = each (group_avp code) (group_in d) (normal d 4) (coded code list) (groups_all d code list group) ∙ normals d code list
+    → map (group_avp code) (map (group_in d) (filter (is_coded code) list)) ≡ filter (is_coded code) (map (canonical d 4) list)
+group_each d list code group = each (group_avp code) (group_in d) (canonical d 4) (coded code list) (groups_all d code list group) ∙ canonicals d code list
 
 -- the AVPs in a group are the same where it is read again
-inner : (d : List Definition) (octets : List ℕ) → IsBytes octets → length octets + 8 < 2 ^ 24 → map (normal d 3) (avps_in (spelling (map (normal d 3) (avps_in octets).0))).0 ≡ map (normal d 3) (avps_in octets).0
+inner : (d : List Definition) (octets : List ℕ) → IsBytes octets → length octets + 8 < 2 ^ 24 → map (canonical d 3) (avps_in (encoding (map (canonical d 3) (avps_in octets).0))).0 ≡ map (canonical d 3) (avps_in octets).0
 inner d octets fits short =
-    ap (λ (x : List Avp × List ℕ). map (normal d 3) x.0) (normal_inner d 3 octets fits short)
-    ∙ normals_again d 3 (avps_in octets).0 (avps_in-bytes octets fits) (avps_in-short octets fits)
+    ap (λ (x : List Avp × List ℕ). map (canonical d 3) x.0) (canonical_inner d 3 octets fits short)
+    ∙ canonicals_again d 3 (avps_in octets).0 (avps_in-bytes octets fits) (avps_in-short octets fits)
 
 short_data : (a : Avp) → length_of a < 2 ^ 24 → length a.octets + 8 < 2 ^ 24
 unfolding length_of
 short_data a h = omega arith
 
-group_again : (d : List Definition) (event : Bool) (code : ℕ) (a : Avp) → IsGroup d code → is_coded code a ≡ true → Fit d event a → group_in d (normal d 4 a) ≡ group_in d a
+group_again : (d : List Definition) (event : Bool) (code : ℕ) (a : Avp) → IsGroup d code → is_coded code a ≡ true → Fit d event a → group_in d (canonical d 4 a) ≡ group_in d a
 group_again d event code a group e fit =
-    let h = normal_head d 4 a in
-    let o : (normal d 4 a).octets ≡ spelling (map (normal d 3) (avps_in a.octets).0) = ap (λ (b : Avp). b.octets) (normal-group d 3 a (ap is_grouped (coded_definition d code a e) ∙ group)) in
+    let h = canonical_head d 4 a in
+    let o : (canonical d 4 a).octets ≡ encoding (map (canonical d 3) (avps_in a.octets).0) = ap (λ (b : Avp). b.octets) (canonical-group d 3 a (ap is_grouped (coded_definition d code a e) ∙ group)) in
     rw (h.mandatory, h.protected, o, inner d a.octets fit.bytes (short_data a fit.short)) refl
 
-again : (d : List Definition) (xs : List Avp) → All (λ a. group_in d (normal d 4 a) ≡ group_in d a) xs → map (group_in d) (map (normal d 4) xs) ≡ map (group_in d) xs
+again : (d : List Definition) (xs : List Avp) → All (λ a. group_in d (canonical d 4 a) ≡ group_in d a) xs → map (group_in d) (map (canonical d 4) xs) ≡ map (group_in d) xs
 again d [] h = refl
 again d (a ∷ xs) h =
-    rw (All-head (λ x. group_in d (normal d 4 x) ≡ group_in d x) a xs h) (ap (λ (l : List (TypedAvp (List Avp))). group_in d a ∷ l) (again d xs (All-tail (λ x. group_in d (normal d 4 x) ≡ group_in d x) a xs h)))
+    rw (All-head (λ x. group_in d (canonical d 4 x) ≡ group_in d x) a xs h) (ap (λ (l : List (TypedAvp (List Avp))). group_in d a ∷ l) (again d xs (All-tail (λ x. group_in d (canonical d 4 x) ≡ group_in d x) a xs h)))
 
-first_again : (d : List Definition) (xs : List Avp) → All (λ a. group_in d (normal d 4 a) ≡ group_in d a) xs → option_map (group_in d) (slice_get (take 1 (map (normal d 4) xs)) 0) ≡ option_map (group_in d) (slice_get (take 1 xs) 0)
+first_again : (d : List Definition) (xs : List Avp) → All (λ a. group_in d (canonical d 4 a) ≡ group_in d a) xs → option_map (group_in d) (slice_get (take 1 (map (canonical d 4) xs)) 0) ≡ option_map (group_in d) (slice_get (take 1 xs) 0)
 first_again d [] h = refl
-first_again d (a ∷ xs) h = rw (All-head (λ x. group_in d (normal d 4 x) ≡ group_in d x) a xs h) refl
+first_again d (a ∷ xs) h = rw (All-head (λ x. group_in d (canonical d 4 x) ≡ group_in d x) a xs h) refl
 
-coded_again : (d : List Definition) (event : Bool) (code : ℕ) (list : List Avp) → Source d event list → IsGroup d code → All (λ a. group_in d (normal d 4 a) ≡ group_in d a) (coded code list)
+coded_again : (d : List Definition) (event : Bool) (code : ℕ) (list : List Avp) → Source d event list → IsGroup d code → All (λ a. group_in d (canonical d 4 a) ≡ group_in d a) (coded code list)
 coded_again d event code list source group k x lt =
     group_again d event code (get_or (coded code list) k x) group (filter_passes (is_coded code) list k x lt) (All-filter (is_coded code) (Fit d event) list source.fits k x lt)
 
 pub groups_again : (d : List Definition) (event : Bool) (list : List Avp) (code : ℕ) → Source d event list → IsGroup d code
-    → map (group_in d) (filter (is_coded code) (map (normal d 4) list)) ≡ map (group_in d) (filter (is_coded code) list)
+    → map (group_in d) (filter (is_coded code) (map (canonical d 4) list)) ≡ map (group_in d) (filter (is_coded code) list)
 groups_again d event list code source group =
-    ap (λ (l : List Avp). map (group_in d) l) (sym (normals d code list)) ∙ again d (coded code list) (coded_again d event code list source group)
+    ap (λ (l : List Avp). map (group_in d) l) (sym (canonicals d code list)) ∙ again d (coded code list) (coded_again d event code list source group)
 
 pub group_first_again : (d : List Definition) (event : Bool) (list : List Avp) (code : ℕ) → Source d event list → IsGroup d code
-    → option_map (group_in d) (slice_get (take 1 (filter (is_coded code) (map (normal d 4) list))) 0) ≡ option_map (group_in d) (slice_get (take 1 (filter (is_coded code) list)) 0)
+    → option_map (group_in d) (slice_get (take 1 (filter (is_coded code) (map (canonical d 4) list))) 0) ≡ option_map (group_in d) (slice_get (take 1 (filter (is_coded code) list)) 0)
 group_first_again d event list code source group =
-    ap (λ (l : List Avp). option_map (group_in d) (slice_get (take 1 l) 0)) (sym (normals d code list)) ∙ first_again d (coded code list) (coded_again d event code list source group)
+    ap (λ (l : List Avp). option_map (group_in d) (slice_get (take 1 l) 0)) (sym (canonicals d code list)) ∙ first_again d (coded code list) (coded_again d event code list source group)

@@ -1,10 +1,10 @@
--- Each command: what its fields hold, written again, are the AVPs that its rules took, each in its one spelling; and of these
+-- Each command: what its fields hold, written again, are the AVPs that its rules took, each in its canonical encoding; and of these
 -- the same command is made.
 use Rattle.std.proofs.Common.{◌≡◌, ◌==◌, ◌&&◌, ℕ, zero, suc, ◌<◌, Bool, true, false, List, [], ◌∷◌, length, map, take, filter, get_or, Option, None, Some, refl, sym, ap, ◌∙◌, arith}
 use Rattle.dia_avp.specs.declared.avp.Avp.{Avp}
 use Rattle.dia_dict.specs.declared.definition.Definition.{Definition}
 use Rattle.dia_dict.specs.Dictionary.{known}
-use Rattle.dia_tree.specs.Normal.{normal}
+use Rattle.dia_tree.specs.Canonical.{canonical}
 use Rattle.dia_msg.specs.declared.command.Command.{Command}
 use Rattle.dia_msg.specs.declared.command.Command.TheVariants.{Cer, Cea, Dwr, Dwa, Dpr, Dpa, Rar, Raa, Ccr, Cca, ErrorAnswer}
 use Rattle.dia_msg.specs.declared.header.Header.{Header}
@@ -30,7 +30,7 @@ present (r ∷ rules) list h zero lt = (kept list r rules (is_missing list r) re
 present (r ∷ rules) list h (suc k) lt = present rules list (kept list r rules (is_missing list r) refl h).1 k (omega arith)
 
 cer_back : (x : List Definition) (e : Bool) (h : Header) (list rest : List Avp) → Source (known x) e list → missing (rules_of kinds.CapabilitiesExchangeRequest e) list ≡ []
-    → fields (made (known x) kinds.CapabilitiesExchangeRequest h (groups (rules_of kinds.CapabilitiesExchangeRequest e) list) rest) ≡ groups (rules_of kinds.CapabilitiesExchangeRequest e) (map (normal (known x) 4) list)
+    → fields (made (known x) kinds.CapabilitiesExchangeRequest h (groups (rules_of kinds.CapabilitiesExchangeRequest e) list) rest) ≡ groups (rules_of kinds.CapabilitiesExchangeRequest e) (map (canonical (known x) 4) list)
 cer_back x e h list rest s m =
     let d = known x in
     let there = present (rules_of kinds.CapabilitiesExchangeRequest e) list m in
@@ -42,7 +42,7 @@ cer_back x e h list rest s m =
     (both _ _ _ _ (number_each d e list 258 s refl refl) refl)))))
 
 cea_back : (x : List Definition) (e : Bool) (h : Header) (list rest : List Avp) → Source (known x) e list → missing (rules_of kinds.CapabilitiesExchangeAnswer e) list ≡ []
-    → fields (made (known x) kinds.CapabilitiesExchangeAnswer h (groups (rules_of kinds.CapabilitiesExchangeAnswer e) list) rest) ≡ groups (rules_of kinds.CapabilitiesExchangeAnswer e) (map (normal (known x) 4) list)
+    → fields (made (known x) kinds.CapabilitiesExchangeAnswer h (groups (rules_of kinds.CapabilitiesExchangeAnswer e) list) rest) ≡ groups (rules_of kinds.CapabilitiesExchangeAnswer e) (map (canonical (known x) 4) list)
 cea_back x e h list rest s m =
     let d = known x in
     let there = present (rules_of kinds.CapabilitiesExchangeAnswer e) list m in
@@ -55,7 +55,7 @@ cea_back x e h list rest s m =
     (both _ _ _ _ (number_each d e list 258 s refl refl) refl))))))
 
 dwr_back : (x : List Definition) (e : Bool) (h : Header) (list rest : List Avp) → Source (known x) e list → missing (rules_of kinds.DeviceWatchdogRequest e) list ≡ []
-    → fields (made (known x) kinds.DeviceWatchdogRequest h (groups (rules_of kinds.DeviceWatchdogRequest e) list) rest) ≡ groups (rules_of kinds.DeviceWatchdogRequest e) (map (normal (known x) 4) list)
+    → fields (made (known x) kinds.DeviceWatchdogRequest h (groups (rules_of kinds.DeviceWatchdogRequest e) list) rest) ≡ groups (rules_of kinds.DeviceWatchdogRequest e) (map (canonical (known x) 4) list)
 dwr_back x e h list rest s m =
     let d = known x in
     let there = present (rules_of kinds.DeviceWatchdogRequest e) list m in
@@ -63,7 +63,7 @@ dwr_back x e h list rest s m =
     (both _ _ _ _ (octets_one d list 296 refl (there 1 (omega arith))) refl)
 
 dwa_back : (x : List Definition) (e : Bool) (h : Header) (list rest : List Avp) → Source (known x) e list → missing (rules_of kinds.DeviceWatchdogAnswer e) list ≡ []
-    → fields (made (known x) kinds.DeviceWatchdogAnswer h (groups (rules_of kinds.DeviceWatchdogAnswer e) list) rest) ≡ groups (rules_of kinds.DeviceWatchdogAnswer e) (map (normal (known x) 4) list)
+    → fields (made (known x) kinds.DeviceWatchdogAnswer h (groups (rules_of kinds.DeviceWatchdogAnswer e) list) rest) ≡ groups (rules_of kinds.DeviceWatchdogAnswer e) (map (canonical (known x) 4) list)
 dwa_back x e h list rest s m =
     let d = known x in
     let there = present (rules_of kinds.DeviceWatchdogAnswer e) list m in
@@ -72,7 +72,7 @@ dwa_back x e h list rest s m =
     (both _ _ _ _ (octets_one d list 296 refl (there 2 (omega arith))) refl))
 
 dpr_back : (x : List Definition) (e : Bool) (h : Header) (list rest : List Avp) → Source (known x) e list → missing (rules_of kinds.DisconnectPeerRequest e) list ≡ []
-    → fields (made (known x) kinds.DisconnectPeerRequest h (groups (rules_of kinds.DisconnectPeerRequest e) list) rest) ≡ groups (rules_of kinds.DisconnectPeerRequest e) (map (normal (known x) 4) list)
+    → fields (made (known x) kinds.DisconnectPeerRequest h (groups (rules_of kinds.DisconnectPeerRequest e) list) rest) ≡ groups (rules_of kinds.DisconnectPeerRequest e) (map (canonical (known x) 4) list)
 dpr_back x e h list rest s m =
     let d = known x in
     let there = present (rules_of kinds.DisconnectPeerRequest e) list m in
@@ -81,7 +81,7 @@ dpr_back x e h list rest s m =
     (both _ _ _ _ (number_one d e list 273 s refl refl (there 2 (omega arith))) refl))
 
 dpa_back : (x : List Definition) (e : Bool) (h : Header) (list rest : List Avp) → Source (known x) e list → missing (rules_of kinds.DisconnectPeerAnswer e) list ≡ []
-    → fields (made (known x) kinds.DisconnectPeerAnswer h (groups (rules_of kinds.DisconnectPeerAnswer e) list) rest) ≡ groups (rules_of kinds.DisconnectPeerAnswer e) (map (normal (known x) 4) list)
+    → fields (made (known x) kinds.DisconnectPeerAnswer h (groups (rules_of kinds.DisconnectPeerAnswer e) list) rest) ≡ groups (rules_of kinds.DisconnectPeerAnswer e) (map (canonical (known x) 4) list)
 dpa_back x e h list rest s m =
     let d = known x in
     let there = present (rules_of kinds.DisconnectPeerAnswer e) list m in
@@ -90,7 +90,7 @@ dpa_back x e h list rest s m =
     (both _ _ _ _ (octets_one d list 296 refl (there 2 (omega arith))) refl))
 
 rar_back : (x : List Definition) (e : Bool) (h : Header) (list rest : List Avp) → Source (known x) e list → missing (rules_of kinds.ReAuthRequest e) list ≡ []
-    → fields (made (known x) kinds.ReAuthRequest h (groups (rules_of kinds.ReAuthRequest e) list) rest) ≡ groups (rules_of kinds.ReAuthRequest e) (map (normal (known x) 4) list)
+    → fields (made (known x) kinds.ReAuthRequest h (groups (rules_of kinds.ReAuthRequest e) list) rest) ≡ groups (rules_of kinds.ReAuthRequest e) (map (canonical (known x) 4) list)
 rar_back x e h list rest s m =
     let d = known x in
     let there = present (rules_of kinds.ReAuthRequest e) list m in
@@ -103,7 +103,7 @@ rar_back x e h list rest s m =
     (both _ _ _ _ (number_one d e list 285 s refl refl (there 6 (omega arith))) refl))))))
 
 raa_back : (x : List Definition) (e : Bool) (h : Header) (list rest : List Avp) → Source (known x) e list → missing (rules_of kinds.ReAuthAnswer e) list ≡ []
-    → fields (made (known x) kinds.ReAuthAnswer h (groups (rules_of kinds.ReAuthAnswer e) list) rest) ≡ groups (rules_of kinds.ReAuthAnswer e) (map (normal (known x) 4) list)
+    → fields (made (known x) kinds.ReAuthAnswer h (groups (rules_of kinds.ReAuthAnswer e) list) rest) ≡ groups (rules_of kinds.ReAuthAnswer e) (map (canonical (known x) 4) list)
 raa_back x e h list rest s m =
     let d = known x in
     let there = present (rules_of kinds.ReAuthAnswer e) list m in
@@ -113,7 +113,7 @@ raa_back x e h list rest s m =
     (both _ _ _ _ (octets_one d list 296 refl (there 3 (omega arith))) refl)))
 
 ccr_back : (x : List Definition) (e : Bool) (h : Header) (list rest : List Avp) → Source (known x) e list → missing (rules_of kinds.CreditControlRequest e) list ≡ []
-    → fields (made (known x) kinds.CreditControlRequest h (groups (rules_of kinds.CreditControlRequest e) list) rest) ≡ groups (rules_of kinds.CreditControlRequest e) (map (normal (known x) 4) list)
+    → fields (made (known x) kinds.CreditControlRequest h (groups (rules_of kinds.CreditControlRequest e) list) rest) ≡ groups (rules_of kinds.CreditControlRequest e) (map (canonical (known x) 4) list)
 ccr_back x e h list rest s m =
     let d = known x in
     let there = present (rules_of kinds.CreditControlRequest e) list m in
@@ -131,7 +131,7 @@ ccr_back x e h list rest s m =
     (both _ _ _ _ (group_each d list 446 refl) refl)))))))))))
 
 cca_back : (x : List Definition) (e : Bool) (h : Header) (list rest : List Avp) → Source (known x) e list → missing (rules_of kinds.CreditControlAnswer e) list ≡ []
-    → fields (made (known x) kinds.CreditControlAnswer h (groups (rules_of kinds.CreditControlAnswer e) list) rest) ≡ groups (rules_of kinds.CreditControlAnswer e) (map (normal (known x) 4) list)
+    → fields (made (known x) kinds.CreditControlAnswer h (groups (rules_of kinds.CreditControlAnswer e) list) rest) ≡ groups (rules_of kinds.CreditControlAnswer e) (map (canonical (known x) 4) list)
 cca_back x e h list rest s m =
     let d = known x in
     let there = present (rules_of kinds.CreditControlAnswer e) list m in
@@ -147,7 +147,7 @@ cca_back x e h list rest s m =
     (both _ _ _ _ (number_optional d e list 422 s refl refl) refl)))))))))
 
 error_back : (x : List Definition) (e : Bool) (h : Header) (list rest : List Avp) → Source (known x) e list → missing (rules_of kinds.ErrorAnswer e) list ≡ []
-    → fields (made (known x) kinds.ErrorAnswer h (groups (rules_of kinds.ErrorAnswer e) list) rest) ≡ groups (rules_of kinds.ErrorAnswer e) (map (normal (known x) 4) list)
+    → fields (made (known x) kinds.ErrorAnswer h (groups (rules_of kinds.ErrorAnswer e) list) rest) ≡ groups (rules_of kinds.ErrorAnswer e) (map (canonical (known x) 4) list)
 error_back x e h list rest s m =
     let d = known x in
     let there = present (rules_of kinds.ErrorAnswer e) list m in
@@ -159,7 +159,7 @@ error_back x e h list rest s m =
 
 -- the AVPs of the fields are those that the rules took
 pub fields_back : (kind : CommandKind) (x : List Definition) (e : Bool) (h : Header) (list rest : List Avp) → Source (known x) e list → missing (rules_of kind e) list ≡ []
-    → fields (made (known x) kind h (groups (rules_of kind e) list) rest) ≡ groups (rules_of kind e) (map (normal (known x) 4) list)
+    → fields (made (known x) kind h (groups (rules_of kind e) list) rest) ≡ groups (rules_of kind e) (map (canonical (known x) 4) list)
 fields_back kinds.CapabilitiesExchangeRequest x e h list rest s m = cer_back x e h list rest s m
 fields_back kinds.CapabilitiesExchangeAnswer x e h list rest s m = cea_back x e h list rest s m
 fields_back kinds.DeviceWatchdogRequest x e h list rest s m = dwr_back x e h list rest s m
@@ -172,9 +172,9 @@ fields_back kinds.CreditControlRequest x e h list rest s m = ccr_back x e h list
 fields_back kinds.CreditControlAnswer x e h list rest s m = cca_back x e h list rest s m
 fields_back kinds.ErrorAnswer x e h list rest s m = error_back x e h list rest s m
 
--- of the AVPs in their one spelling the same command is made
+-- of the AVPs in their canonical encoding the same command is made
 pub made_again : (kind : CommandKind) (x : List Definition) (e : Bool) (h : Header) (list rest : List Avp) → Source (known x) e list
-    → made (known x) kind h (groups (rules_of kind e) (map (normal (known x) 4) list)) rest ≡ made (known x) kind h (groups (rules_of kind e) list) rest
+    → made (known x) kind h (groups (rules_of kind e) (map (canonical (known x) 4) list)) rest ≡ made (known x) kind h (groups (rules_of kind e) list) rest
 made_again kinds.CapabilitiesExchangeRequest x e h list rest s = ap (λ (g : List (List Avp)). made (known x) kinds.CapabilitiesExchangeRequest h g rest) (groups_plain (known x) (rules_of kinds.CapabilitiesExchangeRequest e) list refl)
 made_again kinds.CapabilitiesExchangeAnswer x e h list rest s = ap (λ (g : List (List Avp)). made (known x) kinds.CapabilitiesExchangeAnswer h g rest) (groups_plain (known x) (rules_of kinds.CapabilitiesExchangeAnswer e) list refl)
 made_again kinds.DeviceWatchdogRequest x e h list rest s = ap (λ (g : List (List Avp)). made (known x) kinds.DeviceWatchdogRequest h g rest) (groups_plain (known x) (rules_of kinds.DeviceWatchdogRequest e) list refl)

@@ -7,5 +7,5 @@ pub mod FaultlessLaws
 pub mod ReadingLaws
 pub mod WriteLemmas
 pub mod AgainLaws
-pub mod SpellingFacts
+pub mod EncodingFacts
 pub mod StandardFacts

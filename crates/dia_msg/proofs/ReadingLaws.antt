@@ -10,7 +10,7 @@ use Rattle.dia_dict.specs.declared.definition.Definition.{Definition}
 use Rattle.dia_dict.specs.Dictionary.{known}
 use Rattle.dia_tree.specs.declared.fault.MsgFault.{MsgFault}
 use Rattle.dia_tree.specs.Faults.{group_faults, missing_fault}
-use Rattle.dia_tree.specs.Normal.{normal}
+use Rattle.dia_tree.specs.Canonical.{canonical}
 use Rattle.dia_tree.proofs.FaultLaws.{each_good}
 use Rattle.dia_msg.specs.declared.command.Command.{Command}
 use Rattle.dia_msg.specs.declared.fault.MsgError.{MsgError}
@@ -30,7 +30,7 @@ use Rattle.dia_msg.proofs.KindLemmas.{fields_back, kind_of-made}
 
 -- the command of a kind that a message means
 abbrev meaning : List Definition → List ℕ → CommandKind → Command
-meaning d octets kind = made d kind (header_in octets) (groups (rules_in octets) (whole_avps octets)) (map (normal d 4) (untaken (rules_in octets) (whole_avps octets)))
+meaning d octets kind = made d kind (header_in octets) (groups (rules_in octets) (whole_avps octets)) (map (canonical d 4) (untaken (rules_in octets) (whole_avps octets)))
 
 same_meaning : (d : List Definition) (octets : List ℕ) (x y : Command) → Means d octets x → Means d octets y → x ≡ y
 same_meaning d octets x y m n =
@@ -149,16 +149,16 @@ built_reading x octets command kind c fits check complete is =
     let list = whole_avps octets in
     let read = checked_kind d octets command kind check in
     let rules = rules_in-is octets kind read in
-    let rest = map (normal d 4) (untaken (rules_of kind (is_event octets)) list) in
+    let rest = map (canonical d 4) (untaken (rules_of kind (is_event octets)) list) in
     let own : kind_of c ≡ kind = ap kind_of is ∙ kind_of-made kind d h (groups (rules_of kind (is_event octets)) list) rest in
     let none : missing (rules_in octets) list ≡ [] = ap (λ (rs : List Rule). missing rs list) rules ∙ complete in (
       all_none (header_faults octets) (inner d octets) (gone d octets) check.sound check.good (ap (λ (rs : List Rule). map (λ r. missing_fault d r.code) rs) none),
       record {
         kind = read ∙ ap some_kind (sym own);
-        is_made = is ∙ ap (λ (rs : List Rule). made d kind h (groups rs list) (map (normal d 4) (untaken rs list))) (sym rules) ∙ ap (meaning d octets) (sym own);
+        is_made = is ∙ ap (λ (rs : List Rule). made d kind h (groups rs list) (map (canonical d 4) (untaken rs list))) (sym rules) ∙ ap (meaning d octets) (sym own);
         fields_are =
             ap fields is ∙ fields_back kind x (is_event octets) h list rest (source d octets fits check.good) complete
-            ∙ ap (λ (rs : List Rule). groups rs (map (normal d 4) list)) (sym rules);
+            ∙ ap (λ (rs : List Rule). groups rs (map (canonical d 4) list)) (sym rules);
       },
     )
 

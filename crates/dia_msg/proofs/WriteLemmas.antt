@@ -1,4 +1,4 @@
--- The length of a spelling, and that it is one message.
+-- The length of an encoding, and that it is one message.
 use Rattle.std.proofs.Common.{◌≡◌, ℕ, ◌+◌, ◌*◌, ◌/◌, ◌<◌, ◌≤◌, ◌^◌, List, [], ◌∷◌, ◌++◌, length, take, drop, get_or, refl, sym, ap, ◌∙◌, arith, append_assoc}
 use Rattle.std.specs.List.{flat_map}
 use Rattle.std.proofs.lemmas.List.{length-append, take_more, append-nil}
@@ -6,8 +6,8 @@ use Rattle.std.proofs.lemmas.List.Concat.{flat_map-append}
 use Rattle.std.proofs.lemmas.List.Folds.{length-flat_map-take}
 use Rattle.byteorder.specs.Numbers.{big_number-reads_back}
 use Rattle.dia_avp.specs.declared.avp.Avp.{Avp}
-use Rattle.dia_avp.specs.Spelling.{length_of, spelled, spelling}
-use Rattle.dia_avp.proofs.Spelled.{length_spelled}
+use Rattle.dia_avp.specs.Encoding.{length_of, encoded, encoding}
+use Rattle.dia_avp.proofs.Encoded.{length_encoded}
 use Rattle.dia_frame.proofs.LawLemmas.{first_frame}
 use Rattle.dia_msg.specs.declared.command.Command.{Command}
 use Rattle.dia_msg.specs.declared.fields.FieldView.{FieldView}
@@ -16,16 +16,16 @@ use Rattle.dia_msg.specs.Framing.{IsFirstFrame}
 use Rattle.dia_msg.specs.Header.{header_octets, IsWholeMessage}
 use Rattle.dia_msg.specs.Command.{header_of, avps_of}
 use Rattle.dia_msg.specs.Fields.{content_octets, item_avp, field_avps, fields_avps}
-use Rattle.dia_msg.specs.Spelling.{message_len, spell}
+use Rattle.dia_msg.specs.Encoding.{message_len, encode}
 
--- a spelling is no shorter than the AVP Length
-pub length_of-spelled : (a : Avp) → length_of a ≤ length (spelled a)
-length_of-spelled a = omega (arith, length_spelled a)
+-- an encoding is no shorter than the AVP Length
+pub length_of-encoded : (a : Avp) → length_of a ≤ length (encoded a)
+length_of-encoded a = omega (arith, length_encoded a)
 
 -- an AVP has 8 octets, its data, and padding to a multiple of 4
-pub length_item : (item : Item) → length (spelled (item_avp item)) ≡ (8 + length (content_octets item.content) + 3) / 4 * 4
+pub length_item : (item : Item) → length (encoded (item_avp item)) ≡ (8 + length (content_octets item.content) + 3) / 4 * 4
 unfolding length_of
-length_item item = length_spelled (item_avp item)
+length_item item = length_encoded (item_avp item)
 
 -- one piece more
 pub pieces-more : {X : Type 0} (f : X → List ℕ) (xs : List X) (i : ℕ) (x : X) → i < length xs → x ≡ get_or xs i x → flat_map f (take (i + 1) xs) ≡ flat_map f (take i xs) ++ f x
@@ -48,50 +48,50 @@ pub written-next : {X : Type 0} (f : X → List ℕ) (xs : List X) (i : ℕ) (x 
 written-next f xs i x start out new lt e is more =
     more ∙ ap (λ (l : List ℕ). l ++ f x) is ∙ append_assoc start (flat_map f (take i xs)) (f x) ∙ ap (λ (l : List ℕ). start ++ l) (sym (pieces-more f xs i x lt e))
 
--- the spelling of a field
-abbrev pub spelled_field : FieldView → List ℕ
-spelled_field field = spelling (field_avps field)
+-- the encoding of a field
+abbrev pub encoded_field : FieldView → List ℕ
+encoded_field field = encoding (field_avps field)
 
--- fields are spelled one after the other
-pub spelling_fields : (fields : List FieldView) → spelling (fields_avps fields) ≡ flat_map spelled_field fields
-spelling_fields [] = refl
-spelling_fields (f ∷ fields) =
-    flat_map-append spelled (field_avps f) (fields_avps fields) ∙ ap (λ (l : List ℕ). spelled_field f ++ l) (spelling_fields fields)
+-- fields are encoded one after the other
+pub encoding_fields : (fields : List FieldView) → encoding (fields_avps fields) ≡ flat_map encoded_field fields
+encoding_fields [] = refl
+encoding_fields (f ∷ fields) =
+    flat_map-append encoded (field_avps f) (fields_avps fields) ∙ ap (λ (l : List ℕ). encoded_field f ++ l) (encoding_fields fields)
 
 -- AVPs with their padding are a multiple of 4
-spelling-fours : (list : List Avp) → (k : ℕ) × (length (spelling list) ≡ k * 4)
-spelling-fours [] = (0, refl)
-spelling-fours (a ∷ list) =
-    let next = spelling-fours list in
-    let all : length (spelling (a ∷ list)) ≡ length (spelled a) + length (spelling list) = length-append (spelled a) (spelling list) in
-    ((length_of a + 3) / 4 + next.0, omega (arith, length_spelled a, next.1))
+encoding-fours : (list : List Avp) → (k : ℕ) × (length (encoding list) ≡ k * 4)
+encoding-fours [] = (0, refl)
+encoding-fours (a ∷ list) =
+    let next = encoding-fours list in
+    let all : length (encoding (a ∷ list)) ≡ length (encoded a) + length (encoding list) = length-append (encoded a) (encoding list) in
+    ((length_of a + 3) / 4 + next.0, omega (arith, length_encoded a, next.1))
 
-pub length-spell : (command : Command) → length (spell command) ≡ message_len command
-unfolding spell
-length-spell command = length-append (header_octets (header_of command) (message_len command)) (spelling (avps_of command))
+pub length-encode : (command : Command) → length (encode command) ≡ message_len command
+unfolding encode
+length-encode command = length-append (header_octets (header_of command) (message_len command)) (encoding (avps_of command))
 
--- AVPs are spelled one after the other
-pub length-parts : (list rest : List Avp) → length (spelling (list ++ rest)) ≡ length (spelling list) + length (spelling rest)
-length-parts list rest = ap length (flat_map-append spelled list rest) ∙ length-append (spelling list) (spelling rest)
+-- AVPs are encoded one after the other
+pub length-parts : (list rest : List Avp) → length (encoding (list ++ rest)) ≡ length (encoding list) + length (encoding rest)
+length-parts list rest = ap length (flat_map-append encoded list rest) ∙ length-append (encoding list) (encoding rest)
 
--- what a spelling is made of
-pub spell-parts : (command : Command) (out : List ℕ) (list rest : List Avp) → list ++ rest ≡ avps_of command → ((out ++ header_octets (header_of command) (message_len command)) ++ spelling list) ++ spelling rest ≡ out ++ spell command
-unfolding spell
-spell-parts command out list rest e =
+-- what an encoding is made of
+pub encode-parts : (command : Command) (out : List ℕ) (list rest : List Avp) → list ++ rest ≡ avps_of command → ((out ++ header_octets (header_of command) (message_len command)) ++ encoding list) ++ encoding rest ≡ out ++ encode command
+unfolding encode
+encode-parts command out list rest e =
     let front = header_octets (header_of command) (message_len command) in
-    append_assoc (out ++ front) (spelling list) (spelling rest)
-    ∙ append_assoc out front (spelling list ++ spelling rest)
-    ∙ ap (λ (l : List ℕ). out ++ (front ++ l)) (sym (flat_map-append spelled list rest) ∙ ap spelling e)
+    append_assoc (out ++ front) (encoding list) (encoding rest)
+    ∙ append_assoc out front (encoding list ++ encoding rest)
+    ∙ ap (λ (l : List ℕ). out ++ (front ++ l)) (sym (flat_map-append encoded list rest) ∙ ap encoding e)
 
--- a spelling is one message by its own header
-pub spell-whole : (command : Command) → message_len command < 2 ^ 24 → IsWholeMessage (spell command)
-unfolding spell
-spell-whole command short =
-    let len = length-spell command in
-    let fours = spelling-fours (avps_of command) in
+-- an encoding is one message by its own header
+pub encode-whole : (command : Command) → message_len command < 2 ^ 24 → IsWholeMessage (encode command)
+unfolding encode
+encode-whole command short =
+    let len = length-encode command in
+    let fours = encoding-fours (avps_of command) in
     record {
       version = refl;
-      length_is = big_number-reads_back 3 (message_len command) (drop 4 (spell command)) short ∙ sym len;
+      length_is = big_number-reads_back 3 (message_len command) (drop 4 (encode command)) short ∙ sym len;
       has_header = omega arith;
       aligned = omega (arith, fours.1);
     }
@@ -101,5 +101,5 @@ whole-first_frame : (octets : List ℕ) → IsWholeMessage octets → IsFirstFra
 whole-first_frame octets w limit after messages rest short frames =
     first_frame limit octets after messages rest (record { version = w.version; own = w.length_is; least = w.has_header; fours = w.aligned; most = short }) frames
 
-pub spell-first_frame : (command : Command) → message_len command < 2 ^ 24 → IsFirstFrame (spell command)
-spell-first_frame command short = whole-first_frame (spell command) (spell-whole command short)
+pub encode-first_frame : (command : Command) → message_len command < 2 ^ 24 → IsFirstFrame (encode command)
+encode-first_frame command short = whole-first_frame (encode command) (encode-whole command short)

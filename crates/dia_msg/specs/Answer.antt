@@ -1,7 +1,7 @@
 -- The answer that tells a fault (RFC 6733 sections 6.2, 7.1.3, 7.2 and 7.5).
 use Rattle.std.specs.Prelude.{ℕ, ◌/◌, ◌==◌, true, false, List, [], Option}
 use Rattle.std.specs.Option.{option_map}
-use Rattle.dia_avp.specs.Spelling.{spelled}
+use Rattle.dia_avp.specs.Encoding.{encoded}
 use Rattle.base_codes.specs.ResultCodes.{number_of}
 use Rattle.dia_msg.specs.declared.command.Command.{Command}
 use Rattle.dia_msg.specs.declared.command.Command.TheVariants.{ErrorAnswer}
@@ -25,7 +25,7 @@ answer_header request code = record {
   end_to_end = request.end_to_end;
 }
 
--- the answer of a node to a request with this header, of this session, for this fault; Failed-AVP holds the AVP's spelling
+-- the answer of a node to a request with this header, of this session, for this fault; Failed-AVP holds the AVP's encoding
 abbrev pub answer_to : Identity → Header → Option (List ℕ) → MsgFault → Command
 answer_to identity request session fault = ErrorAnswer (record {
   header = answer_header request (number_of fault.result);
@@ -33,6 +33,6 @@ answer_to identity request session fault = ErrorAnswer (record {
   origin_host = made_here identity.host;
   origin_realm = made_here identity.realm;
   result_code = made_here (number_of fault.result);
-  failed_avp = option_map (λ a. made_here (spelled a)) fault.failed;
+  failed_avp = option_map (λ a. made_here (encoded a)) fault.failed;
   rest = [];
 })

@@ -4,10 +4,10 @@ use Rattle.std.specs.List.{flat_map}
 use Rattle.std.specs.Option.{option_map, option_to_list}
 use Rattle.byteorder.specs.Endian.{big_bytes, big_number}
 use Rattle.dia_avp.specs.declared.avp.Avp.{Avp}
-use Rattle.dia_avp.specs.Spelling.{spelling}
+use Rattle.dia_avp.specs.Encoding.{encoding}
 use Rattle.dia_avp.specs.Reading.{avps_in}
 use Rattle.dia_dict.specs.declared.definition.Definition.{Definition}
-use Rattle.dia_tree.specs.Normal.{normal}
+use Rattle.dia_tree.specs.Canonical.{canonical}
 use Rattle.dia_msg.specs.declared.header.Header.{Header}
 use Rattle.dia_msg.specs.declared.rules.CommandKind.{CommandKind}
 use Rattle.dia_msg.specs.declared.rules.CommandKind.TheVariants as kinds
@@ -61,7 +61,7 @@ rest_of (ErrorAnswer c) = c.rest
 abbrev pub number_of : List ℕ → ℕ
 number_of octets = if length octets == 4 then big_number 4 octets else 0
 
--- an AVP as a field: its octets, the number that they are, the AVPs that they are, each in its one spelling
+-- an AVP as a field: its octets, the number that they are, the AVPs that they are, each in its canonical encoding
 abbrev pub octets_in : Avp → TypedAvp (List ℕ)
 octets_in a = record { mandatory = a.mandatory; protected = a.protected; value = a.octets }
 
@@ -69,9 +69,9 @@ abbrev pub number_in : Avp → TypedAvp ℕ
 number_in a = record { mandatory = a.mandatory; protected = a.protected; value = number_of a.octets }
 
 abbrev pub group_in : List Definition → Avp → TypedAvp (List Avp)
-group_in definitions a = record { mandatory = a.mandatory; protected = a.protected; value = map (normal definitions 3) (avps_in a.octets).0 }
+group_in definitions a = record { mandatory = a.mandatory; protected = a.protected; value = map (canonical definitions 3) (avps_in a.octets).0 }
 
--- a field as an AVP: its octets, its number in 4 octets, the spelling of its AVPs
+-- a field as an AVP: its octets, its number in 4 octets, the encoding of its AVPs
 abbrev pub octets_avp : ℕ → TypedAvp (List ℕ) → Avp
 octets_avp code field = record { code = code; vendor = None; mandatory = field.mandatory; protected = field.protected; octets = field.value }
 
@@ -79,7 +79,7 @@ abbrev pub number_avp : ℕ → TypedAvp ℕ → Avp
 number_avp code field = record { code = code; vendor = None; mandatory = field.mandatory; protected = field.protected; octets = big_bytes 4 field.value }
 
 abbrev pub group_avp : ℕ → TypedAvp (List Avp) → Avp
-group_avp code field = record { code = code; vendor = None; mandatory = field.mandatory; protected = field.protected; octets = spelling field.value }
+group_avp code field = record { code = code; vendor = None; mandatory = field.mandatory; protected = field.protected; octets = encoding field.value }
 
 -- what stands where an AVP is missing
 abbrev pub no_avp : Avp

@@ -3,7 +3,7 @@ use Rattle.std.specs.Prelude.{ℕ, List, map, Option, None}
 use Rattle.std.specs.List.{flat_map}
 use Rattle.byteorder.specs.Endian.{big_bytes}
 use Rattle.dia_avp.specs.declared.avp.Avp.{Avp}
-use Rattle.dia_avp.specs.Spelling.{spelling}
+use Rattle.dia_avp.specs.Encoding.{encoding}
 use Rattle.dia_msg.specs.declared.fields.FieldView.{FieldView}
 use Rattle.dia_msg.specs.declared.fields.Values.{Values}
 use Rattle.dia_msg.specs.declared.fields.Values.TheVariants.{Octets, Numbers, Groups}
@@ -26,11 +26,11 @@ field_avps field = avps_coded field.code field.values
 abbrev pub fields_avps : List FieldView → List Avp
 fields_avps list = flat_map field_avps list
 
--- the data of an AVP: octets, a number in 4 octets, the spelling of a group's AVPs
+-- the data of an AVP: octets, a number in 4 octets, the encoding of a group's AVPs
 abbrev pub content_octets : Content → List ℕ
 content_octets (contents.Octets octets) = octets.now
 content_octets (contents.Number n) = big_bytes 4 n
-content_octets (contents.Group list) = spelling list.now
+content_octets (contents.Group list) = encoding list.now
 
 -- an AVP that is to be written, as a value
 abbrev pub item_avp : Item → Avp

@@ -2,7 +2,7 @@ pub mod Header
 pub mod Rules
 pub mod Command
 pub mod Faults
-pub mod Spelling
+pub mod Encoding
 pub mod Reading
 pub mod Steps
 pub mod Framing

@@ -5,7 +5,7 @@ use Rattle.dia_avp.specs.declared.avp.AvpView.{AvpView}
 use Rattle.dia_avp.specs.View.{seen}
 use Rattle.dia_tree.specs.declared.fault.MsgFault.{MsgFault}
 use Rattle.dia_dict.specs.declared.definition.Definition.{Definition}
-use Rattle.dia_tree.specs.Normal.{normal}
+use Rattle.dia_tree.specs.Canonical.{canonical}
 use Rattle.dia_msg.specs.declared.command.Command.{Command}
 use Rattle.dia_msg.specs.declared.fault.MsgError.{MsgError}
 use Rattle.dia_msg.specs.declared.fault.MsgError.TheVariants as msg_errors
@@ -31,4 +31,4 @@ IsErrorOf f (msg_errors.Fault g) = g ≡ f
 -- the command of a kind with this header that is made of these AVPs
 abbrev pub made_by : List Definition → CommandKind → Header → Bool → List Avp → Command
 made_by definitions kind header event list =
-    made definitions kind header (groups (rules_of kind event) list) (map (normal definitions 4) (untaken (rules_of kind event) list))
+    made definitions kind header (groups (rules_of kind event) list) (map (canonical definitions 4) (untaken (rules_of kind event) list))

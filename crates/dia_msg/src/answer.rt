@@ -2,7 +2,7 @@
 
 ghost use Rattle.std.specs.Prelude.{◌≡◌, ◌≤◌, ◌^◌, ◌↔◌, IfOk, IsErrOf, IsSomeAnd};
 ghost use Rattle.std.specs.Option.{option_map, option_copied};
-ghost use Rattle.dia_avp.specs.Spelling.{length_of, spelled};
+ghost use Rattle.dia_avp.specs.Encoding.{length_of, encoded};
 ghost use Rattle.dia_msg.specs.Answer.{made_here, answer_header, answer_to};
 
 use crate::command::{Command, ErrorAnswer};
@@ -38,9 +38,9 @@ fn answer_header(request: &Header, code: u32) -> Header
     }
 }
 
-// The data of Failed-AVP: an AVP's spelling, with its padding.
+// The data of Failed-AVP: an AVP's encoding, with its padding.
 fn failed_value(alloc: Global, avp: &Avp) -> Result<Octets, WriteError>
-    ensures value { IfOk result (λ o. o ≡ spelled avp.now) }
+    ensures value { IfOk result (λ o. o ≡ encoded avp.now) }
     ensures too_long { IsErrOf result WriteError.LengthOver24Bits ↔ (2 ^ 24 ≤ length_of avp.now) }
 {
     let mut octets = Vec::new(alloc);
@@ -49,7 +49,7 @@ fn failed_value(alloc: Global, avp: &Avp) -> Result<Octets, WriteError>
 }
 
 fn failed_field(alloc: Global, failed: &Option<Avp>) -> Result<Option<TypedAvp<Octets>>, WriteError>
-    ensures value { IfOk result (λ f. f ≡ option_map (λ a. made_here (spelled a)) failed.now) }
+    ensures value { IfOk result (λ f. f ≡ option_map (λ a. made_here (encoded a)) failed.now) }
     ensures too_long { IsErrOf result WriteError.LengthOver24Bits ↔ IsSomeAnd failed.now (λ a. 2 ^ 24 ≤ length_of a) }
 {
     match failed {

@@ -2,7 +2,7 @@
 //! that no rule takes.
 
 ghost use Rattle.std.specs.Prelude.{◌≡◌, ◌<◌, ◌^◌, All, IfOk, false};
-ghost use Rattle.dia_avp.specs.Spelling.{length_of};
+ghost use Rattle.dia_avp.specs.Encoding.{length_of};
 ghost use Rattle.dia_dict.specs.Dictionary.{known};
 ghost use Rattle.dia_msg.specs.Steps.{seen_all, made_by};
 

@@ -31,7 +31,7 @@ pub(crate) struct FieldView<'a> {
     pub values: Values<'a>,
 }
 
-/// The data of an AVP, before it is spelled.
+/// The data of an AVP, before it is encoded.
 #[derive(Clone, Copy)]
 pub(crate) enum Content<'a> {
     Octets(&'a [u8]),

@@ -58,7 +58,7 @@ pub fn read_message(
     // A fault without a failed AVP is answered whatever the memory.
     ensures memory { IsErrOf result MsgError.NoMemory → MayNeedMemory (known dictionary.now) octets.now }
 
-    // The spelling of what was read is read as the same.
+    // The encoding of what was read is read as the same.
     ensures again { IfOk result (IsReadAgain (known dictionary.now)) }
 {
     reading_of(alloc, dictionary, octets)

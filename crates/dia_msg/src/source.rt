@@ -2,10 +2,10 @@
 
 ghost use Rattle.std.specs.Prelude.{◌≡◌, ◌<◌, ◌^◌, All, IfOk, map, filter, slice_get, position};
 ghost use Rattle.std.specs.Option.{option_map};
-ghost use Rattle.dia_avp.specs.Spelling.{length_of};
+ghost use Rattle.dia_avp.specs.Encoding.{length_of};
 ghost use Rattle.dia_avp.specs.View.{seen};
 ghost use Rattle.dia_dict.specs.Dictionary.{known};
-ghost use Rattle.dia_tree.specs.Normal.{normal};
+ghost use Rattle.dia_tree.specs.Canonical.{canonical};
 ghost use Rattle.dia_msg.specs.Rules.{is_for, taken, left_by, untaken};
 ghost use Rattle.dia_msg.specs.Command.{octets_in, number_in as number_field_in, group_in};
 ghost use Rattle.dia_msg.specs.Steps.{seen_all, one_taken};
@@ -16,7 +16,7 @@ use crate::rules::Rule;
 use crate::typed::{TypedAvp, TypedAvps};
 use dia_avp::{AvpList, AvpView, Octets};
 use dia_dict::Dictionary;
-use dia_tree::{group_list, normal_avp};
+use dia_tree::{group_list, canonical_avp};
 use std::alloc::{AllocError, Global};
 
 /// What stands for an AVP that is missing.
@@ -103,18 +103,18 @@ fn left_after<'a>(
     Ok(left)
 }
 
-// AVPs as they are kept, each in its one spelling.
-fn normal_list(
+// AVPs as they are kept, each in its canonical encoding.
+fn canonical_list(
     alloc: Global,
     dictionary: &Dictionary,
     avps: &[AvpView<'_>],
 ) -> Result<AvpList, AllocError>
     requires { All (λ v. length_of (seen v) < 2 ^ 24) avps.now }
-    ensures { IfOk result (λ list. list ≡ map (normal (known dictionary.now) 4) (seen_all avps.now)) }
+    ensures { IfOk result (λ list. list ≡ map (canonical (known dictionary.now) 4) (seen_all avps.now)) }
 {
     let mut list = AvpList::with_capacity(alloc, avps.len())?;
     for avp in avps {
-        list.push(normal_avp(alloc, dictionary, avp)?)?;
+        list.push(canonical_avp(alloc, dictionary, avp)?)?;
     }
     Ok(list)
 }
@@ -208,12 +208,12 @@ impl Source<'_> {
         Ok(fields)
     }
 
-    /// The AVPs that no rule takes, each in its one spelling.
+    /// The AVPs that no rule takes, each in its canonical encoding.
     pub fn rest(&self, rules: &[Rule]) -> Result<AvpList, AllocError>
         requires { All (λ a. length_of a < 2 ^ 24) (seen_all self.now.avps.now) }
-        ensures { IfOk result (λ list. list ≡ map (normal (known self.now.dictionary.now) 4) (untaken rules.now (seen_all self.now.avps.now))) }
+        ensures { IfOk result (λ list. list ≡ map (canonical (known self.now.dictionary.now) 4) (untaken rules.now (seen_all self.now.avps.now))) }
     {
         let left = left_after(self.alloc, self.avps, rules)?;
-        normal_list(self.alloc, self.dictionary, &left)
+        canonical_list(self.alloc, self.dictionary, &left)
     }
 }

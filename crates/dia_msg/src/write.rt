@@ -1,14 +1,14 @@
-//! The spelling of a command: how long it is, and its octets.
+//! The encoding of a command: how long it is, and its octets.
 
 ghost use Rattle.std.specs.Prelude.{◌≡◌, ◌+◌, ◌<◌, ◌≤◌, ◌^◌, ◌↔◌, ◌++◌, length, vec_len, vec_capacity, OnOk, OnErr, IfErr, IsErrOf};
 ghost use Rattle.std.specs.Option.{SomeIff};
 ghost use Rattle.dia_avp.specs.View.{seen};
-ghost use Rattle.dia_avp.specs.Spelling.{length_of, spelled, spelling};
+ghost use Rattle.dia_avp.specs.Encoding.{length_of, encoded, encoding};
 ghost use Rattle.dia_msg.specs.Header.{IsWholeMessage, header_octets};
 ghost use Rattle.dia_msg.specs.Framing.{IsFirstFrame};
 ghost use Rattle.dia_msg.specs.Command.{header_of, avps_of, rest_of};
 ghost use Rattle.dia_msg.specs.Fields.{content_octets, item_avp, field_avps, fields_avps};
-ghost use Rattle.dia_msg.specs.Spelling.{message_len, spell, IsTooLong};
+ghost use Rattle.dia_msg.specs.Encoding.{message_len, encode, IsTooLong};
 
 use crate::command::Command;
 use crate::fields::{Content, FieldView, Item, fields_of};
@@ -36,7 +36,7 @@ fn content_len(content: &Content<'_>) -> Option<usize>
     match content {
         Content::Octets(octets) => total(0, octets.len()),
         Content::Number(_) => Some(4),
-        Content::Group(list) => total(0, list.spelled_len()?),
+        Content::Group(list) => total(0, list.encoded_len()?),
     }
 }
 
@@ -44,7 +44,7 @@ fn content_len(content: &Content<'_>) -> Option<usize>
 #[tactic(auto, using(crate::proofs::WriteLemmas::length_item))]
 fn with_item(start: usize, item: &Item<'_>) -> Option<usize>
     requires { start < 2 ^ 24 }
-    ensures { let len = start + length (spelled (item_avp item.now)) in SomeIff result (len < 2 ^ 24) len }
+    ensures { let len = start + length (encoded (item_avp item.now)) in SomeIff result (len < 2 ^ 24) len }
 {
     let data = content_len(&item.content)?;
     total(start, (AVP_HEADER_LEN + data).div_ceil(4) * 4)
@@ -53,7 +53,7 @@ fn with_item(start: usize, item: &Item<'_>) -> Option<usize>
 // A length and the octets of a field, where 24 bits hold their sum.
 fn with_field(start: usize, field: &FieldView<'_>) -> Option<usize>
     requires { start < 2 ^ 24 }
-    ensures { let len = start + length (spelling (field_avps field.now)) in SomeIff result (len < 2 ^ 24) len }
+    ensures { let len = start + length (encoding (field_avps field.now)) in SomeIff result (len < 2 ^ 24) len }
 {
     let mut len = start;
     for place in 0..field.len() {
@@ -65,7 +65,7 @@ fn with_field(start: usize, field: &FieldView<'_>) -> Option<usize>
 // A length and the octets of fields, where 24 bits hold their sum.
 fn with_fields(start: usize, fields: &[FieldView<'_>]) -> Option<usize>
     requires { start < 2 ^ 24 }
-    ensures { let len = start + length (spelling (fields_avps fields.now)) in SomeIff result (len < 2 ^ 24) len }
+    ensures { let len = start + length (encoding (fields_avps fields.now)) in SomeIff result (len < 2 ^ 24) len }
 {
     let mut len = start;
     for field in fields {
@@ -76,10 +76,10 @@ fn with_fields(start: usize, fields: &[FieldView<'_>]) -> Option<usize>
 
 // How many octets the message has, where 24 bits hold the number.
 fn message_len(fields: &[FieldView<'_>], rest: &AvpList) -> Option<usize>
-    ensures { let len = 20 + length (spelling (fields_avps fields.now ++ rest.now)) in SomeIff result (len < 2 ^ 24) len }
+    ensures { let len = 20 + length (encoding (fields_avps fields.now ++ rest.now)) in SomeIff result (len < 2 ^ 24) len }
 {
     let len = with_fields(HEADER_LEN, fields)?;
-    total(len, rest.spelled_len()?)
+    total(len, rest.encoded_len()?)
 }
 
 fn view_of<'a>(item: &Item<'_>, octets: &'a [u8]) -> AvpView<'a>
@@ -98,8 +98,8 @@ fn view_of<'a>(item: &Item<'_>, octets: &'a [u8]) -> AvpView<'a>
 // Appends an AVP for which there is room.
 fn put_item(item: &Item<'_>, out: &mut Vec<u8>)
     requires short { length_of (item_avp item.now) < 2 ^ 24 }
-    requires room { vec_len out.old + length (spelled (item_avp item.now)) ≤ vec_capacity out.old }
-    ensures items { out.new.items ≡ out.old.items ++ spelled (item_avp item.now) }
+    requires room { vec_len out.old + length (encoded (item_avp item.now)) ≤ vec_capacity out.old }
+    ensures items { out.new.items ≡ out.old.items ++ encoded (item_avp item.now) }
     ensures room { vec_capacity out.old ≤ vec_capacity out.new }
 {
     match item.content {
@@ -115,9 +115,9 @@ fn put_item(item: &Item<'_>, out: &mut Vec<u8>)
 
 // Appends the AVPs of a field, for which there is room.
 fn put_field(field: &FieldView<'_>, out: &mut Vec<u8>)
-    requires short { length (spelling (field_avps field.now)) < 2 ^ 24 }
-    requires room { vec_len out.old + length (spelling (field_avps field.now)) ≤ vec_capacity out.old }
-    ensures items { out.new.items ≡ out.old.items ++ spelling (field_avps field.now) }
+    requires short { length (encoding (field_avps field.now)) < 2 ^ 24 }
+    requires room { vec_len out.old + length (encoding (field_avps field.now)) ≤ vec_capacity out.old }
+    ensures items { out.new.items ≡ out.old.items ++ encoding (field_avps field.now) }
     ensures room { vec_capacity out.old ≤ vec_capacity out.new }
 {
     for place in 0..field.len() {
@@ -127,9 +127,9 @@ fn put_field(field: &FieldView<'_>, out: &mut Vec<u8>)
 
 // Appends the AVPs of fields, for which there is room.
 fn put_fields(fields: &[FieldView<'_>], out: &mut Vec<u8>)
-    requires short { length (spelling (fields_avps fields.now)) < 2 ^ 24 }
-    requires room { vec_len out.old + length (spelling (fields_avps fields.now)) ≤ vec_capacity out.old }
-    ensures items { out.new.items ≡ out.old.items ++ spelling (fields_avps fields.now) }
+    requires short { length (encoding (fields_avps fields.now)) < 2 ^ 24 }
+    requires room { vec_len out.old + length (encoding (fields_avps fields.now)) ≤ vec_capacity out.old }
+    ensures items { out.new.items ≡ out.old.items ++ encoding (fields_avps fields.now) }
     ensures room { vec_capacity out.old ≤ vec_capacity out.new }
 {
     for field in fields {
@@ -148,10 +148,10 @@ fn put_header(header: &Header, len: usize, out: &mut Vec<u8>)
         .unwrap();
 }
 
-/// Appends the one spelling of a command (RFC 6733 sections 3 and 4): the AVPs of its fields in the order of its format,
+/// Appends the canonical encoding of a command (RFC 6733 sections 3 and 4): the AVPs of its fields in the order of its format,
 /// then `rest`. Reserved bits and padding are zero, and the length is computed. `out` grows by its own allocator, once.
 pub fn write_message(command: &Command, out: &mut Vec<u8>) -> Result<(), WriteError>
-    ensures ok { OnOk result (out.new.items ≡ out.old.items ++ spell command.now) }
+    ensures ok { OnOk result (out.new.items ≡ out.old.items ++ encode command.now) }
 
     // A length that 24 bits don't hold is refused, whatever the memory.
     ensures too_long { IsErrOf result WriteError.LengthOver24Bits ↔ IsTooLong command.now }
@@ -162,10 +162,10 @@ pub fn write_message(command: &Command, out: &mut Vec<u8>) -> Result<(), WriteEr
     ensures room { vec_capacity out.old ≤ vec_capacity out.new }
 
     // What was written is one message by its own header.
-    ensures message { OnOk result (IsWholeMessage (spell command.now)) }
+    ensures message { OnOk result (IsWholeMessage (encode command.now)) }
 
     // Within a framer's limit it is the first frame of itself, whatever comes behind it.
-    ensures frame { OnOk result (IsFirstFrame (spell command.now)) }
+    ensures frame { OnOk result (IsFirstFrame (encode command.now)) }
 {
     let fields = fields_of(command);
     let Some(len) = message_len(&fields, command.rest()) else {

@@ -1,5 +1,5 @@
 pub mod FaultLaws
 pub mod FaultLemmas
-pub mod NormalLaws
-pub mod NormalLemmas
+pub mod CanonicalLaws
+pub mod CanonicalLemmas
 pub mod StandardFacts

@@ -1,12 +1,12 @@
--- Faults and normal AVPs of octets typed by hand: the definitions are checked by examples.
+-- Faults and canonical AVPs of octets typed by hand: the definitions are checked by examples.
 use Rattle.std.proofs.Common.{◌≡◌, ℕ, true, false, List, [], ◌∷◌, None, Some, refl}
 use Rattle.dia_avp.specs.declared.avp.Avp.{Avp}
 use Rattle.dia_avp.specs.Reading.{vendor_at, item_at, avp_at, parted, avps_in}
-use Rattle.dia_avp.specs.Spelling.{length_of, spelled}
+use Rattle.dia_avp.specs.Encoding.{length_of, encoded}
 use Rattle.dia_dict.specs.Dictionary.{known}
 use Rattle.base_codes.specs.declared.result_code.ResultCode.TheVariants.{AvpUnsupported, InvalidAvpValue, UnableToComply, InvalidAvpLength}
 use Rattle.dia_tree.specs.Faults.{fault, group_faults}
-use Rattle.dia_tree.specs.Normal.{normal}
+use Rattle.dia_tree.specs.Canonical.{canonical}
 
 -- a Used-Service-Unit of a CC-Total-Octets whose length is 17 where 16 octets are left
 pub used : List ℕ
@@ -39,11 +39,11 @@ pub empty_too_deep : group_faults (known []) false 1 empty ≡ fault UnableToCom
 unfolding empty group_faults avps_in parted avp_at item_at vendor_at
 empty_too_deep = refl
 
--- a Subscription-Id whose Subscription-Id-Data has reserved flags and no padding, and its normal form
+-- a Subscription-Id whose Subscription-Id-Data has reserved flags and no padding, and its canonical form
 abbrev subscription : List ℕ → Avp
 subscription octets = record { code = 443; vendor = None; mandatory = true; protected = false; octets = octets }
 
-pub padding_written : normal (known []) 4 (subscription (0 ∷ 0 ∷ 1 ∷ 188 ∷ 95 ∷ 0 ∷ 0 ∷ 11 ∷ 49 ∷ 48 ∷ 48 ∷ []))
+pub padding_written : canonical (known []) 4 (subscription (0 ∷ 0 ∷ 1 ∷ 188 ∷ 95 ∷ 0 ∷ 0 ∷ 11 ∷ 49 ∷ 48 ∷ 48 ∷ []))
     ≡ subscription (0 ∷ 0 ∷ 1 ∷ 188 ∷ 64 ∷ 0 ∷ 0 ∷ 11 ∷ 49 ∷ 48 ∷ 48 ∷ 0 ∷ [])
-unfolding normal avps_in parted avp_at item_at vendor_at spelled length_of
+unfolding canonical avps_in parted avp_at item_at vendor_at encoded length_of
 padding_written = refl

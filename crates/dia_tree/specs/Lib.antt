@@ -1,4 +1,4 @@
 pub mod View
 pub mod Kind
 pub mod Faults
-pub mod Normal
+pub mod Canonical

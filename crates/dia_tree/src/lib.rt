@@ -1,5 +1,5 @@
 //! The AVPs of a message with all that their groups hold (RFC 6733 section 4.4): their first fault, and their one
-//! spelling at every level.
+//! encoding at every level.
 //!
 //! | File | What it does |
 //! |---|---|
@@ -7,17 +7,17 @@
 //! | `kind` | which AVPs are groups |
 //! | `cut`, `zeros` | the header of a broken AVP; faults whose failed AVP is a header and zeros |
 //! | `check` | the first fault of octets that are AVPs, without memory |
-//! | `normal` | AVPs with reserved bits and padding zero, groups too |
+//! | `canonical` | AVPs with reserved bits and padding zero, groups too |
 #![tactic(auto)]
 
 mod check;
 mod cut;
 mod fault;
 mod kind;
-mod normal;
+mod canonical;
 mod zeros;
 
 pub use check::first_fault;
 pub use fault::{FaultView, MsgFault};
-pub use normal::{group_list, normal_avp};
+pub use canonical::{group_list, canonical_avp};
 pub use zeros::missing_fault;

@@ -57,12 +57,12 @@ pub record AvpLines (octets lines : List ℕ) : Type 0 where
   pub no_more : NoAvp rest
   pub printed : lines ≡ flat_map avp_line avps
 
--- a command: its header, the AVPs of its spelling, and its spelling
-pub record MessageText (header : Header) (spelling lines : List ℕ) : Type 0 where
+-- a command: its header, the AVPs of its encoding, and its encoding
+pub record MessageText (header : Header) (encoding lines : List ℕ) : Type 0 where
   pub avp_lines : List ℕ
-  pub avps : AvpLines (drop 20 spelling) avp_lines
-  pub printed : lines ≡ header_line header ++ avp_lines ++ codes "octets " ++ encode_lower spelling ++ codes "\n"
+  pub avps : AvpLines (drop 20 encoding) avp_lines
+  pub printed : lines ≡ header_line header ++ avp_lines ++ codes "octets " ++ encode_lower encoding ++ codes "\n"
 
--- `fault 5005` and the failed AVP's spelling behind one blank, where there is one
+-- `fault 5005` and the failed AVP's encoding behind one blank, where there is one
 abbrev pub fault_line : ℕ → List ℕ → List ℕ
-fault_line number spelling = codes "fault " ++ decimal number ++ content_text spelling ++ codes "\n"
+fault_line number encoding = codes "fault " ++ decimal number ++ content_text encoding ++ codes "\n"

@@ -1,7 +1,7 @@
 -- What is printed of the octets of a message, and of messages in a row.
 use Rattle.std.specs.Prelude.{◌≡◌, ◌⊎◌, ℕ, ◌^◌, ◌≤◌, ◌||◌, Bool, true, false, List, [], ◌∷◌, ◌++◌, Option, Some, None, Result, Ok, Err}
 use Rattle.dia_avp.specs.declared.avp.Avp.{Avp}
-use Rattle.dia_avp.specs.Spelling.{length_of, spelled}
+use Rattle.dia_avp.specs.Encoding.{length_of, encoded}
 use Rattle.dia_dict.specs.Dictionary.{known}
 use Rattle.dia_dict.specs.declared.definition.Definition.{Definition}
 use Rattle.dia_msg.specs.declared.command.Command.{Command}
@@ -9,22 +9,22 @@ use Rattle.dia_tree.specs.declared.fault.MsgFault.{MsgFault}
 use Rattle.base_codes.specs.ResultCodes.{number_of}
 use Rattle.dia_msg.specs.Command.{header_of}
 use Rattle.dia_msg.specs.Reading.{IsReading}
-use Rattle.dia_msg.specs.Spelling.{IsTooLong, spell}
+use Rattle.dia_msg.specs.Encoding.{IsTooLong, encode}
 use Rattle.msg_text.specs.Lines.{MessageText, fault_line}
 
--- the octets that are printed of a command: its spelling, and none where 24 bits don't hold its length
-abbrev pub IsPrintedSpelling : Command → List ℕ → Type 0
-IsPrintedSpelling command octets = (octets ≡ spell command) ⊎ (IsTooLong command × (octets ≡ []))
+-- the octets that are printed of a command: its encoding, and none where 24 bits don't hold its length
+abbrev pub IsPrintedEncoding : Command → List ℕ → Type 0
+IsPrintedEncoding command octets = (octets ≡ encode command) ⊎ (IsTooLong command × (octets ≡ []))
 
 -- the octets that are printed of a failed AVP: likewise, and none where there is no failed AVP
 abbrev pub IsPrintedAvp : Option Avp → List ℕ → Type 0
 IsPrintedAvp None octets = octets ≡ []
-IsPrintedAvp (Some a) octets = (octets ≡ spelled a) ⊎ ((2 ^ 24 ≤ length_of a) × (octets ≡ []))
+IsPrintedAvp (Some a) octets = (octets ≡ encoded a) ⊎ ((2 ^ 24 ≤ length_of a) × (octets ≡ []))
 
 -- the lines of a command
 pub record CommandText (command : Command) (text : List ℕ) : Type 0 where
   pub octets : List ℕ
-  pub spelling : IsPrintedSpelling command octets
+  pub encoding : IsPrintedEncoding command octets
   pub lines : MessageText (header_of command) octets text
 
 -- the line of a fault

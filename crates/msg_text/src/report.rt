@@ -12,8 +12,8 @@ use std::alloc::{AllocError, Global};
 pub struct Report {
     alloc: Global,
     dictionary: Dictionary,
-    /// The spelling of the message that is being printed, and its lines.
-    spelling: Vec<u8>,
+    /// The encoding of the message that is being printed, and its lines.
+    encoding: Vec<u8>,
     lines: Vec<u8>,
     /// What is to be written out.
     out: Vec<u8>,
@@ -26,7 +26,7 @@ impl Drop for Report {
         let Report {
             alloc: _,
             dictionary,
-            spelling,
+            encoding,
             lines,
             out,
             refused: _,
@@ -45,7 +45,7 @@ impl Report {
         Ok(Report {
             alloc,
             dictionary: Dictionary::base(alloc)?,
-            spelling: Vec::new(alloc),
+            encoding: Vec::new(alloc),
             lines: Vec::new(alloc),
             out: Vec::new(alloc),
             refused: false,
@@ -110,13 +110,13 @@ impl Report {
         ensures ok { OnOk result (CommandText command.now self.new.lines.items) }
         ensures stays { Stays self.old self.new }
     {
-        self.spelling.clear();
+        self.encoding.clear();
         self.lines.clear();
-        match write_message(command, &mut self.spelling) {
+        match write_message(command, &mut self.encoding) {
             Err(WriteError::NoMemory) => Err(AllocError),
-            // Octets of at most 4,096 give no command so long that it has no spelling.
+            // Octets of at most 4,096 give no command so long that it has no encoding.
             Ok(()) | Err(WriteError::LengthOver24Bits) => {
-                put_message(&mut self.lines, command.header(), &self.spelling)
+                put_message(&mut self.lines, command.header(), &self.encoding)
             }
         }
     }
@@ -125,13 +125,13 @@ impl Report {
         ensures ok { OnOk result (FaultText fault.now self.new.lines.items) }
         ensures stays { Stays self.old self.new }
     {
-        self.spelling.clear();
+        self.encoding.clear();
         self.lines.clear();
         if let Some(avp) = &fault.failed {
-            if write_avp(&avp.view(), &mut self.spelling) == Err(WriteError::NoMemory) {
+            if write_avp(&avp.view(), &mut self.encoding) == Err(WriteError::NoMemory) {
                 return Err(AllocError);
             }
         }
-        put_fault(&mut self.lines, fault.result.number(), &self.spelling)
+        put_fault(&mut self.lines, fault.result.number(), &self.encoding)
     }
 }

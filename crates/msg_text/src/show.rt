@@ -98,18 +98,18 @@ fn put_avps(out: &mut Vec<u8>, octets: &[u8]) -> Result<(), AllocError>
     Ok(())
 }
 
-/// Puts a message: its header, and its AVPs in the order of its spelling, which comes last.
-pub fn put_message(out: &mut Vec<u8>, header: &Header, spelling: &[u8]) -> Result<(), AllocError>
-    ensures { OnOk result ((lines : List ℕ) × MessageText header.now spelling.now lines × (out.new.items ≡ out.old.items ++ lines)) }
+/// Puts a message: its header, and its AVPs in the order of its encoding, which comes last.
+pub fn put_message(out: &mut Vec<u8>, header: &Header, encoding: &[u8]) -> Result<(), AllocError>
+    ensures { OnOk result ((lines : List ℕ) × MessageText header.now encoding.now lines × (out.new.items ≡ out.old.items ++ lines)) }
 {
     put_header(out, header)?;
-    put_avps(out, &spelling[HEADER_LEN.min(spelling.len())..])?;
+    put_avps(out, &encoding[HEADER_LEN.min(encoding.len())..])?;
     out.extend_from_slice(b"octets ")?;
-    put_hex(out, spelling)?;
+    put_hex(out, encoding)?;
     out.extend_from_slice(b"\n")
 }
 
-/// Puts a message's fault: its Result-Code, and the spelling of the failed AVP, empty where there is none.
+/// Puts a message's fault: its Result-Code, and the encoding of the failed AVP, empty where there is none.
 pub fn put_fault(out: &mut Vec<u8>, number: u32, failed: &[u8]) -> Result<(), AllocError>
     ensures { OnOk result (out.new.items ≡ out.old.items ++ fault_line number failed.now) }
 {

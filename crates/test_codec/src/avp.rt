@@ -93,7 +93,7 @@ fn is_two(alloc: Global, octets: &[u8]) -> bool {
             list.len() == 2
                 && is_at(&list, 0, 264, b"a.example")
                 && is_at(&list, 1, 296, b"example")
-                && list.spelled_len() == Some(36)
+                && list.encoded_len() == Some(36)
                 && is_written(alloc, &list, &TWO)
         }
     }
@@ -559,13 +559,13 @@ const PUT: [u8; 101] = [
 ];
 
 #[test]
-#[tactic(auto, using(dia_avp::proofs::Spelled::length_spelled, dia_avp::proofs::Spelled::length_of_group, dia_avp::proofs::Spelled::length_spelled_group, dia_avp::proofs::Spelled::short_inner))]
+#[tactic(auto, using(dia_avp::proofs::Encoded::length_encoded, dia_avp::proofs::Encoded::length_of_group, dia_avp::proofs::Encoded::length_encoded_group, dia_avp::proofs::Encoded::short_inner))]
 fn avps_and_groups_are_put_where_there_is_room(rt: HostRuntime) -> Result<(), Fail> {
     let list = read_avps(rt.alloc(), &TWO, 1)?;
-    let len = list.spelled_len().ok_or("too long")?;
+    let len = list.encoded_len().ok_or("too long")?;
     assert!(rt; len == 36);
     let view = view_of(b"a.example");
-    let one = view.spelled_len();
+    let one = view.encoded_len();
     assert!(rt; one == 20);
     let mut out = Vec::new(rt.alloc());
     out.push(9)?;

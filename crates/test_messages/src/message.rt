@@ -155,31 +155,31 @@ const RAR: [u8; 2] = [1, 2];
 
 const CCR: [u8; 2] = [1, 0x10];
 
-/// Whether a command is spelled so.
-fn is_spelled(alloc: Global, command: &Command, octets: &[u8]) -> bool {
+/// Whether a command is encoded so.
+fn is_encoded(alloc: Global, command: &Command, octets: &[u8]) -> bool {
     let mut out = Vec::new(alloc);
     write_message(command, &mut out).is_ok() && out.as_slice() == octets
 }
 
-fn is_written(alloc: Global, command: &Command, kind: CommandKind, spelling: &[u8]) -> bool {
-    command.kind() == kind && is_spelled(alloc, command, spelling)
+fn is_written(alloc: Global, command: &Command, kind: CommandKind, encoding: &[u8]) -> bool {
+    command.kind() == kind && is_encoded(alloc, command, encoding)
 }
 
-/// Whether octets are read as a command of this kind that is spelled so.
+/// Whether octets are read as a command of this kind that is encoded so.
 fn reads_as(
     alloc: Global,
     dictionary: &Dictionary,
     octets: &[u8],
     kind: CommandKind,
-    spelling: &[u8],
+    encoding: &[u8],
 ) -> bool {
     match &read_message(alloc, dictionary, octets) {
-        Ok(command) => is_written(alloc, command, kind, spelling),
+        Ok(command) => is_written(alloc, command, kind, encoding),
         Err(_) => false,
     }
 }
 
-/// Whether a fault has this number and, spelled, this failed AVP.
+/// Whether a fault has this number and, encoded, this failed AVP.
 fn is_fault(alloc: Global, fault: &MsgFault, number: u32, failed: &[u8]) -> bool {
     let mut out = Vec::new(alloc);
     let is_written = match &fault.failed {
@@ -624,7 +624,7 @@ fn is_answered(
     octets: &[u8],
 ) -> bool {
     match &error_answer(alloc, identity, header, session, fault) {
-        Ok(answer) => is_spelled(alloc, answer, octets),
+        Ok(answer) => is_encoded(alloc, answer, octets),
         Err(_) => false,
     }
 }

@@ -1,6 +1,6 @@
 use dia_avp::{AvpView, WriteError, write_avp, write_avps};
 use dia_dict::{AvpKind, Dictionary};
-use dia_tree::{FaultView, MsgFault, first_fault, group_list, missing_fault, normal_avp};
+use dia_tree::{FaultView, MsgFault, first_fault, group_list, missing_fault, canonical_avp};
 use std::alloc::{AllocError, Global};
 use std::test::Fail;
 
@@ -80,7 +80,7 @@ fn nested(alloc: Global, inner: &[u8], levels: usize) -> Result<Vec<u8>, WriteEr
     Ok(octets)
 }
 
-/// Whether a fault has this number and, spelled, this failed AVP.
+/// Whether a fault has this number and, encoded, this failed AVP.
 fn is_told(alloc: Global, fault: &MsgFault, number: u32, failed: &[u8]) -> bool {
     let mut out = Vec::new(alloc);
     let is_written = match &fault.failed {
@@ -330,7 +330,7 @@ const ODD: [u8; 47] = [
     0, 0, 1, 0xbc, 0x5f, 0, 0, 11, 0x31, 0x30, 0x30,
 ];
 
-/// The same in its one spelling.
+/// The same in its canonical encoding.
 const EVEN: [u8; 40] = [
     0, 0, 1, 0xbb, 0x40, 0, 0, 40, //
     0, 0, 1, 0xbb, 0x60, 0, 0, 20, //
@@ -338,9 +338,9 @@ const EVEN: [u8; 40] = [
     0, 0, 1, 0xbc, 0x40, 0, 0, 11, 0x31, 0x30, 0x30, 0,
 ];
 
-/// The normal spelling of `ODD`.
-#[tactic(auto, unfolding(dia_avp::specs::Spelling::length_of))]
-fn normal_spelling(alloc: Global, dictionary: &Dictionary) -> Result<Vec<u8>, WriteError> {
+/// The canonical encoding of `ODD`.
+#[tactic(auto, unfolding(dia_avp::specs::Encoding::length_of))]
+fn canonical_encoding(alloc: Global, dictionary: &Dictionary) -> Result<Vec<u8>, WriteError> {
     let odd = AvpView {
         code: 443,
         vendor: None,
@@ -348,32 +348,32 @@ fn normal_spelling(alloc: Global, dictionary: &Dictionary) -> Result<Vec<u8>, Wr
         protected: false,
         octets: &ODD[8..],
     };
-    let normal = normal_avp(alloc, dictionary, &odd)?;
+    let canonical = canonical_avp(alloc, dictionary, &odd)?;
     let mut out = Vec::new(alloc);
-    write_avp(&normal.view(), &mut out)?;
+    write_avp(&canonical.view(), &mut out)?;
     Ok(out)
 }
 
-/// Whether a group holds so many AVPs, and these are spelled so.
+/// Whether a group holds so many AVPs, and these are encoded so.
 fn is_group_of(
     alloc: Global,
     dictionary: &Dictionary,
     octets: &[u8],
     count: usize,
-    spelling: &[u8],
+    encoding: &[u8],
 ) -> Result<bool, WriteError> {
     let list = group_list(alloc, dictionary, octets)?;
     let mut out = Vec::new(alloc);
     write_avps(&list, &mut out)?;
-    Ok(list.len() == count && out.as_slice() == spelling)
+    Ok(list.len() == count && out.as_slice() == encoding)
 }
 
 #[test]
 fn reserved_flags_and_padding_become_zero_at_every_level(rt: HostRuntime) -> Result<(), Fail> {
     let alloc = rt.alloc();
     let dictionary = Dictionary::base(alloc)?;
-    let normal = normal_spelling(alloc, &dictionary)?;
-    assert!(rt; normal.as_slice() == EVEN.as_slice());
+    let canonical = canonical_encoding(alloc, &dictionary)?;
+    assert!(rt; canonical.as_slice() == EVEN.as_slice());
     assert!(rt; is_group_of(alloc, &dictionary, &ODD[8..], 2, &EVEN[8..])?);
     Ok(())
 }

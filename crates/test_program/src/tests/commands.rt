@@ -94,7 +94,7 @@ dwr 0000270f3f00000b616263ff host realm | dwr host realm 0000270f2000000b6162630
 dwr 0000270f8000000d0000000061000000 host realm | dwr host realm 0000270f0000000961000000
 ";
 
-/// Groups are written in their one spelling.
+/// Groups are written in their canonical encoding.
 const GROUPS: &str = "\
 # Reserved bits and padding.
 dwr host realm 000001bb5f000020000001c25f00000c00000000000001bc7f00000b313030ff | dwr host realm 000001bb40000020000001c24000000c00000000000001bc6000000b31303000

@@ -114,9 +114,9 @@ pub(crate) fn refused(rt: &impl Abort, alloc: Global, rows: &str) -> Result<(), 
 }
 
 /// Whether a message is written as the other, and no fault is printed.
-fn is_written(alloc: Global, words: &str, spelled: &str) -> Result<bool, Fail> {
+fn is_written(alloc: Global, words: &str, encoded: &str) -> Result<bool, Fail> {
     let input = message(alloc, words)?;
-    let other = message(alloc, spelled)?;
+    let other = message(alloc, encoded)?;
     let wanted = format!(in alloc; "octets {other}\n")?;
     let (status, text) = read(alloc, input.as_str())?;
     Ok(text.as_str().ends_with(wanted.as_str()) && status == 0)
@@ -128,8 +128,8 @@ pub(crate) fn written(rt: &impl Abort, alloc: Global, rows: &str) -> Result<(), 
         if is_no_row(row) {
             continue;
         }
-        let (words, spelled) = row.split_once(" | ").ok_or("a row of two")?;
-        let is_written = is_written(alloc, words, spelled)?;
+        let (words, encoded) = row.split_once(" | ").ok_or("a row of two")?;
+        let is_written = is_written(alloc, words, encoded)?;
         assert!(rt; is_written, "of {words}");
     }
     Ok(())

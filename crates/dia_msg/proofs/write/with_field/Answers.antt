@@ -1,6 +1,6 @@
 use Rattle.std.proofs.Common.{sym, arith}
 use Rattle.std.proofs.lemmas.Option.{get_or_from_slice_get}
-use Rattle.dia_avp.specs.Spelling.{spelled}
+use Rattle.dia_avp.specs.Encoding.{encoded}
 use Rattle.dia_msg.specs.Fields.{field_avps, item_avp}
 use Rattle.dia_msg.proofs.WriteLemmas.{length-pieces-next, length-pieces-more}
 use Rattle.dia_msg.proofs.write.with_field.Goals as goal
@@ -11,7 +11,7 @@ returns-in_err-len c =
     let avps = field_avps c.args.field.now in
     let a = item_avp c.at.result in
     let is = sym (get_or_from_slice_get avps c.loop-place.place a a c.at.ensures) in
-    let next = length-pieces-next spelled avps c.loop-place.place a (omega arith) is in
+    let next = length-pieces-next encoded avps c.loop-place.place a (omega arith) is in
     rw c.from_residual.ensures (λ lt. c.in_err-len.ensures (omega arith))
 
 pub loop-place-preserved : goal.loop-place-preserved
@@ -19,5 +19,5 @@ loop-place-preserved c =
     let avps = field_avps c.args.field.now in
     let a = item_avp c.at.result in
     let is = sym (get_or_from_slice_get avps c.loop-place.place a a c.at.ensures) in
-    let more = length-pieces-more spelled avps c.loop-place.place a (omega arith) is in
+    let more = length-pieces-more encoded avps c.loop-place.place a (omega arith) is in
     record { is = omega arith; fits = omega arith }

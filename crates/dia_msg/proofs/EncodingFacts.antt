@@ -1,14 +1,14 @@
--- Messages spelled octet by octet, of each command: the definitions are checked by examples.
+-- Messages encoded octet by octet, of each command: the definitions are checked by examples.
 use Rattle.std.proofs.Common.{◌≡◌, ℕ, true, false, List, [], ◌∷◌, ◌++◌, None, Some, refl}
 use Rattle.std.specs.Prelude.{codes}
 use Rattle.dia_avp.specs.declared.avp.Avp.{Avp}
-use Rattle.dia_avp.specs.Spelling.{length_of, spelled}
+use Rattle.dia_avp.specs.Encoding.{length_of, encoded}
 use Rattle.base_codes.specs.declared.result_code.ResultCode.TheVariants.{CommandUnsupported, MissingAvp}
 use Rattle.dia_msg.specs.declared.command.Command.{Command}
 use Rattle.dia_msg.specs.declared.command.Command.TheVariants.{Cer, Cea, Dwr, Dwa, Dpr, Dpa, Rar, Raa, Ccr, Cca}
 use Rattle.dia_msg.specs.declared.typed.Identity.{Identity}
 use Rattle.dia_msg.specs.Answer.{made_here, answer_to}
-use Rattle.dia_msg.specs.Spelling.{spell}
+use Rattle.dia_msg.specs.Encoding.{encode}
 
 -- an AVP in a group, with flag M
 abbrev avp : ℕ → List ℕ → Avp
@@ -39,9 +39,9 @@ capabilities_request_octets =
     ++ (0 ∷ 0 ∷ 1 ∷ 2 ∷ 64 ∷ 0 ∷ 0 ∷ 12 ∷ 0 ∷ 0 ∷ 0 ∷ 4 ∷ [])
     ++ (0 ∷ 0 ∷ 1 ∷ 2 ∷ 64 ∷ 0 ∷ 0 ∷ 12 ∷ 0 ∷ 0 ∷ 0 ∷ 4 ∷ [])
 
-pub capabilities_request_spelled : spell capabilities_request ≡ capabilities_request_octets
-unfolding capabilities_request capabilities_request_octets spell spelled length_of
-capabilities_request_spelled = refl
+pub capabilities_request_encoded : encode capabilities_request ≡ capabilities_request_octets
+unfolding capabilities_request capabilities_request_octets encode encoded length_of
+capabilities_request_encoded = refl
 
 -- a Capabilities-Exchange-Answer
 pub capabilities_answer : Command
@@ -68,9 +68,9 @@ capabilities_answer_octets =
     ++ (0 ∷ 0 ∷ 1 ∷ 13 ∷ 0 ∷ 0 ∷ 0 ∷ 14 ∷ 100 ∷ 98 ∷ 101 ∷ 110 ∷ 99 ∷ 104 ∷ 0 ∷ 0 ∷ [])
     ++ (0 ∷ 0 ∷ 1 ∷ 2 ∷ 64 ∷ 0 ∷ 0 ∷ 12 ∷ 0 ∷ 0 ∷ 0 ∷ 4 ∷ [])
 
-pub capabilities_answer_spelled : spell capabilities_answer ≡ capabilities_answer_octets
-unfolding capabilities_answer capabilities_answer_octets spell spelled length_of
-capabilities_answer_spelled = refl
+pub capabilities_answer_encoded : encode capabilities_answer ≡ capabilities_answer_octets
+unfolding capabilities_answer capabilities_answer_octets encode encoded length_of
+capabilities_answer_encoded = refl
 
 -- a Device-Watchdog-Request
 pub watchdog_request : Command
@@ -87,9 +87,9 @@ watchdog_request_octets =
     ++ (0 ∷ 0 ∷ 1 ∷ 8 ∷ 64 ∷ 0 ∷ 0 ∷ 17 ∷ 97 ∷ 46 ∷ 101 ∷ 120 ∷ 97 ∷ 109 ∷ 112 ∷ 108 ∷ 101 ∷ 0 ∷ 0 ∷ 0 ∷ [])
     ++ (0 ∷ 0 ∷ 1 ∷ 40 ∷ 64 ∷ 0 ∷ 0 ∷ 15 ∷ 101 ∷ 120 ∷ 97 ∷ 109 ∷ 112 ∷ 108 ∷ 101 ∷ 0 ∷ [])
 
-pub watchdog_request_spelled : spell watchdog_request ≡ watchdog_request_octets
-unfolding watchdog_request watchdog_request_octets spell spelled length_of
-watchdog_request_spelled = refl
+pub watchdog_request_encoded : encode watchdog_request ≡ watchdog_request_octets
+unfolding watchdog_request watchdog_request_octets encode encoded length_of
+watchdog_request_encoded = refl
 
 -- a Device-Watchdog-Answer
 pub watchdog_answer : Command
@@ -108,9 +108,9 @@ watchdog_answer_octets =
     ++ (0 ∷ 0 ∷ 1 ∷ 8 ∷ 64 ∷ 0 ∷ 0 ∷ 17 ∷ 115 ∷ 46 ∷ 101 ∷ 120 ∷ 97 ∷ 109 ∷ 112 ∷ 108 ∷ 101 ∷ 0 ∷ 0 ∷ 0 ∷ [])
     ++ (0 ∷ 0 ∷ 1 ∷ 40 ∷ 64 ∷ 0 ∷ 0 ∷ 15 ∷ 101 ∷ 120 ∷ 97 ∷ 109 ∷ 112 ∷ 108 ∷ 101 ∷ 0 ∷ [])
 
-pub watchdog_answer_spelled : spell watchdog_answer ≡ watchdog_answer_octets
-unfolding watchdog_answer watchdog_answer_octets spell spelled length_of
-watchdog_answer_spelled = refl
+pub watchdog_answer_encoded : encode watchdog_answer ≡ watchdog_answer_octets
+unfolding watchdog_answer watchdog_answer_octets encode encoded length_of
+watchdog_answer_encoded = refl
 
 -- a Disconnect-Peer-Request
 pub disconnect_request : Command
@@ -129,9 +129,9 @@ disconnect_request_octets =
     ++ (0 ∷ 0 ∷ 1 ∷ 40 ∷ 64 ∷ 0 ∷ 0 ∷ 15 ∷ 101 ∷ 120 ∷ 97 ∷ 109 ∷ 112 ∷ 108 ∷ 101 ∷ 0 ∷ [])
     ++ (0 ∷ 0 ∷ 1 ∷ 17 ∷ 64 ∷ 0 ∷ 0 ∷ 12 ∷ 0 ∷ 0 ∷ 0 ∷ 0 ∷ [])
 
-pub disconnect_request_spelled : spell disconnect_request ≡ disconnect_request_octets
-unfolding disconnect_request disconnect_request_octets spell spelled length_of
-disconnect_request_spelled = refl
+pub disconnect_request_encoded : encode disconnect_request ≡ disconnect_request_octets
+unfolding disconnect_request disconnect_request_octets encode encoded length_of
+disconnect_request_encoded = refl
 
 -- a Disconnect-Peer-Answer
 pub disconnect_answer : Command
@@ -150,9 +150,9 @@ disconnect_answer_octets =
     ++ (0 ∷ 0 ∷ 1 ∷ 8 ∷ 64 ∷ 0 ∷ 0 ∷ 17 ∷ 115 ∷ 46 ∷ 101 ∷ 120 ∷ 97 ∷ 109 ∷ 112 ∷ 108 ∷ 101 ∷ 0 ∷ 0 ∷ 0 ∷ [])
     ++ (0 ∷ 0 ∷ 1 ∷ 40 ∷ 64 ∷ 0 ∷ 0 ∷ 15 ∷ 101 ∷ 120 ∷ 97 ∷ 109 ∷ 112 ∷ 108 ∷ 101 ∷ 0 ∷ [])
 
-pub disconnect_answer_spelled : spell disconnect_answer ≡ disconnect_answer_octets
-unfolding disconnect_answer disconnect_answer_octets spell spelled length_of
-disconnect_answer_spelled = refl
+pub disconnect_answer_encoded : encode disconnect_answer ≡ disconnect_answer_octets
+unfolding disconnect_answer disconnect_answer_octets encode encoded length_of
+disconnect_answer_encoded = refl
 
 -- a Re-Auth-Request
 pub re_auth_request : Command
@@ -179,9 +179,9 @@ re_auth_request_octets =
     ++ (0 ∷ 0 ∷ 1 ∷ 2 ∷ 64 ∷ 0 ∷ 0 ∷ 12 ∷ 0 ∷ 0 ∷ 0 ∷ 4 ∷ [])
     ++ (0 ∷ 0 ∷ 1 ∷ 29 ∷ 64 ∷ 0 ∷ 0 ∷ 12 ∷ 0 ∷ 0 ∷ 0 ∷ 0 ∷ [])
 
-pub re_auth_request_spelled : spell re_auth_request ≡ re_auth_request_octets
-unfolding re_auth_request re_auth_request_octets spell spelled length_of
-re_auth_request_spelled = refl
+pub re_auth_request_encoded : encode re_auth_request ≡ re_auth_request_octets
+unfolding re_auth_request re_auth_request_octets encode encoded length_of
+re_auth_request_encoded = refl
 
 -- a Re-Auth-Answer
 pub re_auth_answer : Command
@@ -202,9 +202,9 @@ re_auth_answer_octets =
     ++ (0 ∷ 0 ∷ 1 ∷ 8 ∷ 64 ∷ 0 ∷ 0 ∷ 17 ∷ 99 ∷ 46 ∷ 101 ∷ 120 ∷ 97 ∷ 109 ∷ 112 ∷ 108 ∷ 101 ∷ 0 ∷ 0 ∷ 0 ∷ [])
     ++ (0 ∷ 0 ∷ 1 ∷ 40 ∷ 64 ∷ 0 ∷ 0 ∷ 15 ∷ 101 ∷ 120 ∷ 97 ∷ 109 ∷ 112 ∷ 108 ∷ 101 ∷ 0 ∷ [])
 
-pub re_auth_answer_spelled : spell re_auth_answer ≡ re_auth_answer_octets
-unfolding re_auth_answer re_auth_answer_octets spell spelled length_of
-re_auth_answer_spelled = refl
+pub re_auth_answer_encoded : encode re_auth_answer ≡ re_auth_answer_octets
+unfolding re_auth_answer re_auth_answer_octets encode encoded length_of
+re_auth_answer_encoded = refl
 
 -- a Credit-Control-Request of an event, with all its fields
 pub credit_request : Command
@@ -243,9 +243,9 @@ credit_request_octets =
     ++ (0 ∷ 0 ∷ 1 ∷ 190 ∷ 64 ∷ 0 ∷ 0 ∷ 20 ∷ 0 ∷ 0 ∷ 1 ∷ 164 ∷ 64 ∷ 0 ∷ 0 ∷ 12 ∷ 0 ∷ 0 ∷ 0 ∷ 30 ∷ [])
     ++ (0 ∷ 0 ∷ 1 ∷ 190 ∷ 64 ∷ 0 ∷ 0 ∷ 56 ∷ 0 ∷ 0 ∷ 1 ∷ 165 ∷ 64 ∷ 0 ∷ 0 ∷ 16 ∷ 0 ∷ 0 ∷ 0 ∷ 0 ∷ 0 ∷ 0 ∷ 3 ∷ 232 ∷ 0 ∷ 0 ∷ 1 ∷ 156 ∷ 64 ∷ 0 ∷ 0 ∷ 16 ∷ 0 ∷ 0 ∷ 0 ∷ 0 ∷ 0 ∷ 0 ∷ 1 ∷ 144 ∷ 0 ∷ 0 ∷ 1 ∷ 158 ∷ 64 ∷ 0 ∷ 0 ∷ 16 ∷ 0 ∷ 0 ∷ 0 ∷ 0 ∷ 0 ∷ 0 ∷ 2 ∷ 88 ∷ [])
 
-pub credit_request_spelled : spell credit_request ≡ credit_request_octets
-unfolding credit_request credit_request_octets spell spelled length_of
-credit_request_spelled = refl
+pub credit_request_encoded : encode credit_request ≡ credit_request_octets
+unfolding credit_request credit_request_octets encode encoded length_of
+credit_request_encoded = refl
 
 -- a Credit-Control-Answer with all its fields
 pub credit_answer : Command
@@ -278,9 +278,9 @@ credit_answer_octets =
     ++ (0 ∷ 0 ∷ 1 ∷ 174 ∷ 64 ∷ 0 ∷ 0 ∷ 20 ∷ 0 ∷ 0 ∷ 1 ∷ 193 ∷ 64 ∷ 0 ∷ 0 ∷ 12 ∷ 0 ∷ 0 ∷ 0 ∷ 0 ∷ [])
     ++ (0 ∷ 0 ∷ 1 ∷ 166 ∷ 64 ∷ 0 ∷ 0 ∷ 12 ∷ 0 ∷ 0 ∷ 0 ∷ 0 ∷ [])
 
-pub credit_answer_spelled : spell credit_answer ≡ credit_answer_octets
-unfolding credit_answer credit_answer_octets spell spelled length_of
-credit_answer_spelled = refl
+pub credit_answer_encoded : encode credit_answer ≡ credit_answer_octets
+unfolding credit_answer credit_answer_octets encode encoded length_of
+credit_answer_encoded = refl
 
 -- who answers
 pub server : Identity
@@ -299,9 +299,9 @@ missing_context_octets =
     ++ (0 ∷ 0 ∷ 1 ∷ 12 ∷ 64 ∷ 0 ∷ 0 ∷ 12 ∷ 0 ∷ 0 ∷ 19 ∷ 141 ∷ [])
     ++ (0 ∷ 0 ∷ 1 ∷ 23 ∷ 64 ∷ 0 ∷ 0 ∷ 16 ∷ 0 ∷ 0 ∷ 1 ∷ 205 ∷ 64 ∷ 0 ∷ 0 ∷ 8 ∷ [])
 
-pub missing_context_spelled : spell missing_context_answer ≡ missing_context_octets
-unfolding server missing_context_answer missing_context_octets spell spelled length_of
-missing_context_spelled = refl
+pub missing_context_encoded : encode missing_context_answer ≡ missing_context_octets
+unfolding server missing_context_answer missing_context_octets encode encoded length_of
+missing_context_encoded = refl
 
 -- an unknown command is answered 3001 with flag E, without Failed-AVP
 pub unknown_command_answer : Command
@@ -314,6 +314,6 @@ unknown_command_octets =
     ++ (0 ∷ 0 ∷ 1 ∷ 40 ∷ 64 ∷ 0 ∷ 0 ∷ 15 ∷ 101 ∷ 120 ∷ 97 ∷ 109 ∷ 112 ∷ 108 ∷ 101 ∷ 0 ∷ [])
     ++ (0 ∷ 0 ∷ 1 ∷ 12 ∷ 64 ∷ 0 ∷ 0 ∷ 12 ∷ 0 ∷ 0 ∷ 11 ∷ 185 ∷ [])
 
-pub unknown_command_spelled : spell unknown_command_answer ≡ unknown_command_octets
-unfolding server unknown_command_answer unknown_command_octets spell spelled length_of
-unknown_command_spelled = refl
+pub unknown_command_encoded : encode unknown_command_answer ≡ unknown_command_octets
+unfolding server unknown_command_answer unknown_command_octets encode encoded length_of
+unknown_command_encoded = refl

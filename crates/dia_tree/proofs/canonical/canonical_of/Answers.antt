@@ -1,9 +1,9 @@
 use Rattle.std.proofs.Common.{refl}
 use Rattle.dia_avp.specs.View.{seen}
 use Rattle.dia_dict.specs.Dictionary.{known}
-use Rattle.dia_tree.proofs.NormalLaws.{short_octets}
-use Rattle.dia_tree.proofs.NormalLemmas.{group_below}
-use Rattle.dia_tree.proofs.normal.normal_of.Goals as goal
+use Rattle.dia_tree.proofs.CanonicalLaws.{short_octets}
+use Rattle.dia_tree.proofs.CanonicalLemmas.{group_below}
+use Rattle.dia_tree.proofs.canonical.canonical_of.Goals as goal
 
 pub group_octets-requires : goal.group_octets-requires
 group_octets-requires c = short_octets (seen c.args.avp.now) c.requires

@@ -32,19 +32,19 @@ length_of a = 8 + length (vendor_id a.vendor) + length a.octets
 abbrev pub header : ℕ → ℕ → ℕ → List ℕ
 header code flags len = big_bytes 4 code ++ flags ∷ big_bytes 3 len
 
--- the one spelling of an AVP: header, Vendor-ID, data, and zeros up to a multiple of 4
-unfoldable pub spelled : Avp → List ℕ
-spelled a =
+-- the canonical encoding of an AVP: header, Vendor-ID, data, and zeros up to a multiple of 4
+unfoldable pub encoded : Avp → List ℕ
+encoded a =
     header a.code (flags_of (has_vendor a.vendor) a.mandatory a.protected) (length_of a)
     ++ vendor_id a.vendor ++ a.octets ++ replicate (padded (length_of a) - length_of a) 0
 
--- the spellings of the AVPs, one after the other
-abbrev pub spelling : List Avp → List ℕ
-spelling list = flat_map spelled list
+-- the encodings of the AVPs, one after the other
+abbrev pub encoding : List Avp → List ℕ
+encoding list = flat_map encoded list
 
 -- the AVP without vendor whose data are these AVPs (RFC 6733 section 4.4)
 abbrev pub group_avp : ℕ → Bool → Bool → List Avp → Avp
-group_avp code mandatory protected list = record { code = code; vendor = None; mandatory = mandatory; protected = protected; octets = spelling list }
+group_avp code mandatory protected list = record { code = code; vendor = None; mandatory = mandatory; protected = protected; octets = encoding list }
 
 -- some AVP is too long for 24 bits of length
 abbrev pub HasLong : List Avp → Type 0
