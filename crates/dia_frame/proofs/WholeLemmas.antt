@@ -1,10 +1,11 @@
 -- `whole_len` finds a message at the front, and each message that is there.
-use Rattle.std.proofs.Common.{◌≡◌, ℕ, suc, ◌+◌, ◌≤◌, ◌%◌, Bool, true, false, ltb, eqb, not, List, [], ◌∷◌, ◌++◌, length, take, drop, get_or, Some, None, cond, refl, sym, ap, subst, ◌∙◌, arith}
+use Rattle.std.proofs.Common.{◌≡◌, ℕ, suc, ◌+◌, ◌≤◌, ◌%◌, Bool, true, false, ltb, eqb, not, List, [], ◌∷◌, ◌++◌, length, take, drop, get_or, Option, Some, None, cond, refl, sym, ap, subst, ◌∙◌, arith}
 use Rattle.std.specs.Prelude.{is_some, ◌||◌}
 use Rattle.std.proofs.lemmas.Bool.{le-ltb, ltb-false, not-false, eq-eqb, eqb-true}
 use Rattle.std.proofs.lemmas.List.{length-append, length-take-le, get_or-take, get_or-drop, get_or_append_left, take_at, drop_at}
 use Rattle.byteorder.specs.Endian.{big_number}
-use Rattle.dia_frame.specs.declared.fault.FrameFault.TheVariants.{Version, Length}
+use Rattle.dia_frame.specs.declared.fault.FrameFault.{FrameFault}
+use Rattle.dia_frame.specs.declared.fault.FrameFault.TheVariants.{Version, Length, Broken}
 use Rattle.dia_frame.specs.Frames.{IsMessage, message_length, is_bad_length, fault_of}
 use Rattle.dia_frame.specs.Whole.{whole_len}
 
@@ -110,6 +111,25 @@ none_whole limit octets e m after h q =
     let a = whole_again limit m after h in
     let b : whole_len limit (m ++ after) ≡ None = ap (whole_len limit) (sym q) ∙ e in
     cc
+
+second_true : (a : Bool) (o : Option ℕ) → cond (a || true) None o ≡ None
+second_true true o = refl
+second_true false o = refl
+
+not_broken : (a b c : Bool) → cond a (Some Version) (cond b None (cond c (Some Length) None)) ≡ Some Broken → ⊥
+not_broken true b c e = absurd cc
+not_broken false true c e = absurd cc
+not_broken false false true e = absurd cc
+not_broken false false false e = absurd cc
+
+-- No octets show that the stream is broken already.
+pub shows_version_or_length : (limit : ℕ) (octets : List ℕ) → fault_of limit octets ≡ Some Broken → ⊥
+shows_version_or_length limit [] e = absurd cc
+shows_version_or_length limit (v ∷ octets) e = not_broken (not (eqb v 1)) (ltb (length octets) 3) (is_bad_length limit (big_number 3 octets)) e
+
+-- Where a fault is shown, no message is found.
+pub no_len : (limit : ℕ) (octets : List ℕ) (fault : FrameFault) → fault_of limit octets ≡ Some fault → whole_len limit octets ≡ None
+no_len limit octets fault e = rw e (second_true (ltb (length octets) 4) (cond (ltb (length octets) (message_length octets)) None (Some (message_length octets))))
 
 -- Two messages at the front of one stream are one.
 pub same_message : (limit : ℕ) (m n x y : List ℕ) → IsMessage limit m → IsMessage limit n → m ++ x ≡ n ++ y → (m ≡ n) × (x ≡ y)

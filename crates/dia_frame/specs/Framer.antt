@@ -1,5 +1,5 @@
 -- What a Framer holds, and what a feed does to it.
-use Rattle.std.specs.Prelude.{◌≡◌, ℕ, Bool, true, false, List, ◌++◌, length, Option, Some, None, is_some, Result, Ok, Err}
+use Rattle.std.specs.Prelude.{◌≡◌, ◌⊎◌, ℕ, Bool, true, false, List, [], ◌++◌, length, Option, Some, None, is_some, Result, Ok, Err}
 use Rattle.dia_frame.specs.declared.fault.FrameFault.{FrameFault}
 use Rattle.dia_frame.specs.declared.fault.FrameFault.TheVariants.{Version, Length, Broken}
 use Rattle.dia_frame.specs.declared.fault.FeedError.{FeedError}
@@ -13,13 +13,20 @@ pub record FramerState : Type 0 where
   pub rest : List ℕ
   pub broken : Bool
 
--- A piece was taken: the frames that it completes wait behind the others, and the fault is what the new rest shows.
+-- what is kept of the octets behind the whole messages: all of them, and none where they show a fault
+abbrev pub kept : Option FrameFault → List ℕ → List ℕ
+kept None left = left
+kept (Some fault) left = []
+
+-- A piece was taken: the frames that it completes wait behind the others, and the fault is what is left behind them shows.
 pub record Takes (old : FramerState) (piece : List ℕ) (new : FramerState) (fault : Option FrameFault) : Type 0 where
   pub came : List (List ℕ)
+  pub left : List ℕ
   pub limit : new.limit ≡ old.limit
   pub waiting : new.waiting ≡ old.waiting ++ came
-  pub frames : Frames (old.rest ++ piece) old.limit came new.rest
-  pub shown : fault_of old.limit new.rest ≡ fault
+  pub frames : Frames (old.rest ++ piece) old.limit came left
+  pub shown : fault_of old.limit left ≡ fault
+  pub rest : new.rest ≡ kept fault left
   pub broken : new.broken ≡ is_some fault
 
 -- what a feed does, by its answer: after a fault nothing is taken, and nothing is where memory ran out
@@ -30,18 +37,29 @@ Feeds old piece (Err (Fault Length)) new = (old.broken ≡ false) × Takes old p
 Feeds old piece (Err (Fault Broken)) new = (old.broken ≡ true) × (new ≡ old)
 Feeds old piece (Err NoMemory) new = (old.broken ≡ false) × (new ≡ old)
 
--- What was handed out and what waits are the stream's messages, the rest is its rest, and that shows whether a fault was found.
-pub record Holds (state : FramerState) (limit : ℕ) (handed : List (List ℕ)) (stream : List ℕ) : Type 0 where
+-- a feed may need memory only where the piece completes a message or no fault shows
+abbrev pub MayNeedMemory : FramerState → List ℕ → Type 0
+MayNeedMemory old piece =
+    (came : List (List ℕ)) (left : List ℕ) → Frames (old.rest ++ piece) old.limit came left
+    → (came ≡ [] → ⊥) ⊎ (fault_of old.limit left ≡ None)
+
+-- What was handed out and what waits are the stream's messages, and the octets behind them show this fault or none.
+pub record Shows (state : FramerState) (limit : ℕ) (handed : List (List ℕ)) (stream : List ℕ) (fault : Option FrameFault) : Type 0 where
+  pub left : List ℕ
   pub same_limit : state.limit ≡ limit
-  pub frames : Frames stream limit (handed ++ state.waiting) state.rest
-  pub broken : state.broken ≡ is_some (fault_of limit state.rest)
+  pub frames : Frames stream limit (handed ++ state.waiting) left
+  pub shown : fault_of limit left ≡ fault
+  pub rest : state.rest ≡ kept fault left
+  pub broken : state.broken ≡ is_some fault
+
+-- it holds the frames of a stream, of which this was handed out
+abbrev pub Holds : FramerState → ℕ → List (List ℕ) → List ℕ → Type 0
+Holds state limit handed stream = (fault : Option FrameFault) × Shows state limit handed stream fault
 
 -- The same of the longer stream once a piece was taken: the answer is the fault of the stream, if it has one.
 abbrev pub HoldsNext : FramerState → ℕ → List (List ℕ) → List ℕ → Result ℕ FeedError → Type 0
-HoldsNext new limit handed stream (Ok count) = Holds new limit handed stream × (fault_of limit new.rest ≡ None)
-HoldsNext new limit handed stream (Err (Fault Version)) =
-    Holds new limit handed stream × (fault_of limit new.rest ≡ Some Version)
-HoldsNext new limit handed stream (Err (Fault Length)) =
-    Holds new limit handed stream × (fault_of limit new.rest ≡ Some Length)
+HoldsNext new limit handed stream (Ok count) = Shows new limit handed stream None
+HoldsNext new limit handed stream (Err (Fault Version)) = Shows new limit handed stream (Some Version)
+HoldsNext new limit handed stream (Err (Fault Length)) = Shows new limit handed stream (Some Length)
 HoldsNext new limit handed stream (Err (Fault Broken)) = Unit {0}
 HoldsNext new limit handed stream (Err NoMemory) = Unit {0}

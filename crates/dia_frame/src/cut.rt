@@ -1,6 +1,6 @@
 //! The whole messages at the front of octets.
 
-ghost use Rattle.std.specs.Prelude.{◌≡◌, ◌≤◌, [], ◌∷◌, ◌++◌, drop, vec_len, Option, Some, None, IfOk, OnOk, OnErr};
+ghost use Rattle.std.specs.Prelude.{◌≡◌, ◌≤◌, [], ◌∷◌, ◌++◌, drop, vec_len, Option, Some, None, slice_get, IfOk, OnOk, OnErr};
 ghost use Rattle.dia_frame.specs.Frames.{fault_of, is_bad_length};
 ghost use Rattle.dia_frame.specs.Whole.{whole_len, Cuts};
 
@@ -36,6 +36,34 @@ pub(crate) fn fault_of(limit: usize, octets: &[u8]) -> Option<FrameFault>
             None
         }
     }
+}
+
+// The octet at a place of two pieces joined.
+fn octet_at(front: &[u8], back: &[u8], place: usize) -> Option<u8>
+    ensures { result ≡ slice_get (front.now ++ back.now) place }
+{
+    if place < front.len() {
+        return Some(front[place]);
+    }
+    back.get(place - front.len()).copied()
+}
+
+/// The fault that the first four octets of two pieces joined show, or those of them that are there.
+pub(crate) fn fault_across(limit: usize, front: &[u8], back: &[u8]) -> Option<FrameFault>
+    ensures { result ≡ fault_of limit (front.now ++ back.now) }
+{
+    if octet_at(front, back, 0)? != VERSION {
+        return Some(FrameFault::Version);
+    }
+    let octets = [
+        octet_at(front, back, 1)?,
+        octet_at(front, back, 2)?,
+        octet_at(front, back, 3)?,
+    ];
+    if is_bad_length(limit, BigEndian::read_u24(&octets) as usize) {
+        return Some(FrameFault::Length);
+    }
+    None
 }
 
 /// The length of the message at the front, where all of it is there.

@@ -1,8 +1,8 @@
 //! The Framer: octets in, frames out.
 
-ghost use Rattle.std.specs.Prelude.{◌≡◌, ◌∷◌, [], ◌++◌, length, List, ℕ, MatchOption, IfOk, IfSome, false};
+ghost use Rattle.std.specs.Prelude.{◌≡◌, ◌∷◌, [], ◌++◌, length, List, ℕ, MatchOption, IfOk, IfSome, IsErrOf, None, true, false};
 
-use crate::cut::{cut_frames, drop_front, fault_of};
+use crate::cut::{cut_frames, drop_front, fault_across, fault_of};
 use crate::fault::{FeedError, FrameFault};
 use base_list::Octets;
 use std::alloc::{AllocError, Global};
@@ -31,12 +31,13 @@ impl Model for Framer {
 }
 
 impl Framer {
-    ghost use Rattle.dia_frame.specs.Framer.{Feeds, Holds, HoldsNext};
+    ghost use Rattle.dia_frame.specs.Framer.{Feeds, Holds, HoldsNext, MayNeedMemory, Shows};
+    ghost use Rattle.dia_frame.specs.declared.fault.FeedError.{FeedError};
 
     /// A Framer for messages of at most `limit` octets. Takes no memory yet.
     pub fn new(alloc: Global, limit: usize) -> Framer
         ensures value { result ≡ record { limit = limit; waiting = []; rest = []; broken = false } }
-        ensures start { Holds result limit [] [] }
+        ensures start { Shows result limit [] [] None }
     {
         Framer {
             alloc,
@@ -48,7 +49,9 @@ impl Framer {
     }
 
     /// Takes the next piece of the stream, and says how many frames wait. A faulty header is found
-    /// with the octet that shows it: the first for the version, the fourth for the length.
+    /// with the octet that shows it: the first for the version, the fourth for the length. No octet
+    /// from that header on is kept, and where the piece completes no message before it no memory is
+    /// asked for.
     ///
     /// The time of all feeds together is in proportion to the octets fed, however small the pieces.
     pub fn feed(&mut self, piece: &[u8]) -> Result<usize, FeedError>
@@ -58,15 +61,32 @@ impl Framer {
         // However the stream was cut: what was handed out, what waits and the rest are its frames.
         ensures joined { (limit : ℕ) (handed : List (List ℕ)) (stream : List ℕ) → Holds self.old limit handed stream
             → HoldsNext self.new limit handed (stream ++ piece.now) result }
+
+        // A fault is told whatever the memory, unless there are frames to keep.
+        ensures memory { IsErrOf result FeedError.NoMemory → MayNeedMemory self.old piece.now }
     {
         self.take(piece)
     }
 
+    // Takes no more octets of the stream, because of this fault.
+    fn break_off(&mut self, fault: FrameFault) -> FeedError
+        ensures is { result ≡ FeedError.Fault fault }
+        ensures broken { self.new ≡ record self.old { rest = []; broken = true } }
+    {
+        self.rest.clear();
+        self.broken = true;
+        FeedError::Fault(fault)
+    }
+
     fn take(&mut self, piece: &[u8]) -> Result<usize, FeedError>
-        ensures { Feeds self.old piece.now result self.new }
+        ensures feeds { Feeds self.old piece.now result self.new }
+        ensures memory { IsErrOf result FeedError.NoMemory → MayNeedMemory self.old piece.now }
     {
         if self.broken {
             return Err(FeedError::Fault(FrameFault::Broken));
+        }
+        if let Some(fault) = fault_across(self.limit, &self.rest, piece) {
+            return Err(self.break_off(fault));
         }
         let held = self.rest.len();
         self.rest.extend_from_slice(piece)?;
@@ -79,10 +99,7 @@ impl Framer {
         }
         match fault_of(self.limit, &self.rest) {
             None => Ok(self.waiting.len()),
-            Some(fault) => {
-                self.broken = true;
-                Err(FeedError::Fault(fault))
-            }
+            Some(fault) => Err(self.break_off(fault)),
         }
     }
 
@@ -97,7 +114,7 @@ impl Framer {
         self.waiting.pop_front()
     }
 
-    /// The octets behind the last whole message, and no others. Takes no memory.
+    /// The octets behind the last whole message, none after a fault. Takes no memory.
     pub fn rest(&self) -> &[u8]
         ensures { result.now ≡ self.now.rest }
     {
