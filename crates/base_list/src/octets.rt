@@ -1,12 +1,16 @@
-ghost use Rattle.std.specs.Prelude.{◌≡◌, ◌==◌, length, IfOk};
+ghost use Rattle.std.specs.Prelude.{◌≡◌, ◌==◌, ◌≤◌, length, IsOk, IfOk};
 
+use smallvec::SmallVec;
 use std::alloc::{AllocError, Global};
 use std::marker::Model;
+
+/// How many octets a value keeps in itself; more take memory.
+const INLINE: usize = 32;
 
 /// The octets of a value. A contract sees them as the list of their numbers.
 #[derive(Debug, Drop)]
 pub struct Octets {
-    octets: Vec<u8>,
+    octets: SmallVec<u8, INLINE>,
 }
 
 impl Model for Octets {
@@ -22,15 +26,18 @@ impl Octets {
     pub fn new(octets: Vec<u8>) -> Octets
         ensures { result ≡ octets.items }
     {
-        Octets { octets }
+        Octets {
+            octets: SmallVec::from_vec(octets),
+        }
     }
 
-    /// A copy of a slice.
+    /// A copy of a slice. Up to 32 octets take no memory.
     pub fn from_slice(alloc: Global, octets: &[u8]) -> Result<Octets, AllocError>
-        ensures { IfOk result (λ o. o ≡ octets.now) }
+        ensures copy { IfOk result (λ o. o ≡ octets.now) }
+        ensures short { length octets.now ≤ 32 → IsOk result }
     {
         Ok(Octets {
-            octets: Vec::from_slice(alloc, octets)?,
+            octets: SmallVec::from_slice(alloc, octets)?,
         })
     }
 
@@ -39,13 +46,6 @@ impl Octets {
         ensures { result.now ≡ self.now }
     {
         self.octets.as_slice()
-    }
-
-    /// The vector that holds the octets. Takes no memory.
-    pub fn into_vec(self) -> Vec<u8>
-        ensures { result.items ≡ self }
-    {
-        self.octets
     }
 
     /// How many octets there are.
@@ -64,7 +64,8 @@ impl Octets {
 
     /// The same octets in memory of their own.
     pub fn copy(&self, alloc: Global) -> Result<Octets, AllocError>
-        ensures { IfOk result (λ o. o ≡ self.now) }
+        ensures copy { IfOk result (λ o. o ≡ self.now) }
+        ensures short { length self.now ≤ 32 → IsOk result }
     {
         Octets::from_slice(alloc, self.as_slice())
     }

@@ -1,4 +1,4 @@
-ghost use Rattle.std.specs.Prelude.{◌≡◌, IfOk};
+ghost use Rattle.std.specs.Prelude.{◌≡◌, ◌≤◌, length, IfOk, IsOk};
 ghost use Rattle.dia_avp.specs.View.{seen};
 
 use base_list::Octets;
@@ -41,9 +41,10 @@ impl Avp {
 }
 
 impl<'a> AvpView<'a> {
-    /// The AVP with a copy of its data.
+    /// The AVP with a copy of its data. Up to 32 octets take no memory.
     pub fn to_avp(&self, alloc: Global) -> Result<Avp, AllocError>
-        ensures { IfOk result (λ a. a ≡ seen self.now) }
+        ensures copy { IfOk result (λ a. a ≡ seen self.now) }
+        ensures short { length self.now.octets.now ≤ 32 → IsOk result }
     {
         Ok(Avp {
             code: self.code,

@@ -22,7 +22,7 @@ const BROKEN: Result<usize, FeedError> = Err(FeedError::Fault(FrameFault::Broken
 fn gives(framer: &mut Framer, message: &[u8]) -> bool {
     match framer.next_frame() {
         None => false,
-        Some(frame) => frame.as_slice() == message && frame.into_vec().as_slice() == message,
+        Some(frame) => frame.as_slice() == message,
     }
 }
 

@@ -4,7 +4,7 @@ use Rattle.dia_avp.proofs.reading.list_of.Goals as goal
 
 pub loop-avp-preserved : goal.loop-avp-preserved
 loop-avp-preserved c =
-    rw (c.in_ok-push.ensures.ok, c.in_ok-to_avp.ensures)
+    rw (c.in_ok-push.ensures.ok, c.in_ok-to_avp.ensures.copy)
     (Halfway-more c.args.octets.now c.loop-avp.list c.loop-avp.rest.now (seen c.in-Ok.avp) c.in-Ok.after.now c.loop-avp.invariant c.in-Ok.ensures.avp)
 
 pub returns : goal.returns
