@@ -1,19 +1,19 @@
 -- The faults of octets, and of a message's AVPs, are one list: what `group_faults` gives (takes), and nothing else (again).
-use Rattle.std.proofs.Common.{◌≡◌, ℕ, zero, suc, ◌+◌, Bool, true, false, ◌&&◌, List, [], ◌∷◌, ◌++◌, Option, None, Some, All, refl, sym, ap, subst, ◌∙◌, if◌then◌else◌, inl}
-use Rattle.std.specs.Prelude.{nat_le, slice_get, map}
+use Rattle.std.proofs.Common.{◌≡◌, ℕ, zero, suc, ◌+◌, Bool, true, false, ◌&&◌, List, [], ◌∷◌, ◌++◌, Option, None, Some, All, refl, sym, ap, subst, ◌∙◌, if◌then◌else◌}
+use Rattle.std.specs.Prelude.{nat_le, slice_get}
 use Rattle.std.proofs.lemmas.List.Elements.{All-head, All-tail}
 use Rattle.dia_avp.specs.declared.avp.Avp.{Avp}
-use Rattle.dia_avp.specs.Avps.{AvpsThen, IsLeftOver, Avps}
+use Rattle.dia_avp.specs.Avps.{AvpsThen, Avps}
 use Rattle.dia_avp.specs.Reading.{avps_in}
 use Rattle.dia_avp.proofs.Bytes.{IsBytes}
-use Rattle.dia_avp.proofs.PartLaws.{HasBytes, avps_in-whole, avps_in-only, avps_in-bytes, avps_in-all}
+use Rattle.dia_avp.proofs.PartLaws.{HasBytes, avps_in-whole, avps_in-only, avps_in-bytes}
 use Rattle.dia_dict.specs.declared.definition.AvpKind.{AvpKind}
 use Rattle.dia_dict.specs.declared.definition.Definition.{Definition}
 use Rattle.dia_dict.specs.Dictionary.{definition_of}
 use Rattle.dia_tree.specs.declared.fault.MsgFault.{MsgFault}
 use Rattle.base_codes.specs.declared.result_code.ResultCode.TheVariants.{UnableToComply}
 use Rattle.dia_tree.specs.Kind.{is_group, is_grouped}
-use Rattle.dia_tree.specs.Faults.{fault, typed_faults, faults_by, avp_faults, place_faults, list_faults, left_faults, group_faults, AreFaults, HasFaults, has_event_type, IsEvent, HasMessageFaults}
+use Rattle.dia_tree.specs.Faults.{fault, typed_faults, faults_by, place_faults, list_faults, left_faults, group_faults, AreFaults, HasFaults, has_event_type, IsEvent, HasMessageFaults}
 use Rattle.dia_tree.proofs.FaultLaws.{group_faults-parts, group_faults-none}
 
 -- of what groups hold, only what this AVP holds counts
@@ -48,8 +48,7 @@ pub HasFaults-takes : (definitions : List Definition) (event : Bool) (room : ℕ
 unfolding HasFaults
 HasFaults-takes definitions event zero octets fits = group_faults-none definitions event octets
 HasFaults-takes definitions event (suc n) octets fits =
-    let w = avps_in-whole octets fits in
-    (
+    let w = avps_in-whole octets fits in (
       (avps_in octets).0,
       (avps_in octets).1,
       list_faults (group_faults definitions event n) definitions event 0 (avps_in octets).0,

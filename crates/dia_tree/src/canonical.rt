@@ -81,8 +81,7 @@ fn canonical_of(
 // What octets are.
 fn octets_are_bytes(octets: &[u8])
     ensures { (i : ℕ) → slice_index octets.now i < 256 }
-{
-}
+{}
 
 /// An AVP of a message, as it is written: the data of a group, and of the groups in it down to four levels, is the one
 /// encoding of its AVPs (RFC 6733 section 4.1). What stands in a group behind a broken AVP is left out.

@@ -150,20 +150,20 @@ fn listed<'a>(
     ensures fault { option_map seen_fault result ≡ slice_get (group_faults (known dictionary.now) (is_event event.now) 5 octets.now) 0 }
     ensures avps { result ≡ None → avps_in octets.now ≡ (map seen avps.new, []) }
 {
-    let mut rest = octets;
-    while !rest.is_empty() {
-        let Ok((avp, after)) = first_avp(rest) else {
-            return Some(broken_fault(dictionary, rest));
+    let mut left = octets;
+    while !left.is_empty() {
+        let Ok((avp, after)) = first_avp(left) else {
+            return Some(broken_fault(dictionary, left));
         };
         if avps.len() == MAX_AVPS {
             return Some(TOO_MUCH);
         }
-        let first = avp_fault(dictionary, event, LEVELS - 1, &avp);
-        if first.is_some() {
-            return first;
+        let found = avp_fault(dictionary, event, LEVELS - 1, &avp);
+        if found.is_some() {
+            return found;
         }
         avps.push(avp);
-        rest = after;
+        left = after;
     }
     None
 }

@@ -11,15 +11,15 @@
 //! | `canonical` | AVPs with reserved bits and padding zero, groups too |
 #![tactic(auto)]
 
+mod canonical;
 mod check;
 mod cut;
 mod event;
 mod fault;
 mod kind;
-mod canonical;
 mod zeros;
 
+pub use canonical::{canonical_avp, group_list};
 pub use check::{first_fault, survey};
 pub use fault::{FaultView, MsgFault};
-pub use canonical::{group_list, canonical_avp};
 pub use zeros::missing_fault;

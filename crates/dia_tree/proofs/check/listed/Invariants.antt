@@ -5,8 +5,8 @@ use Rattle.dia_tree.proofs.FaultLemmas.{Listed}
 use Rattle.dia_tree.proofs.check.listed.Given as goal
 
 -- the AVPs of all are those listed and those of the rest, and the faults are those of the rest
-abbrev pub invariant-loop-rest : goal.invariant-loop-rest
-invariant-loop-rest l = Listed (known l.dictionary) (is_event l.event) 5 l.octets l.avps l.rest
+abbrev pub invariant-loop-left : goal.invariant-loop-left
+invariant-loop-left l = Listed (known l.dictionary) (is_event l.event) 5 l.octets l.avps l.left
 
-abbrev pub decreases-loop-rest : goal.decreases-loop-rest
-decreases-loop-rest l = length l.rest
+abbrev pub decreases-loop-left : goal.decreases-loop-left
+decreases-loop-left l = length l.left

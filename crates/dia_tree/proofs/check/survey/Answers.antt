@@ -1,5 +1,4 @@
 use Rattle.std.specs.Option.{option_map}
-use Rattle.dia_avp.specs.View.{seen}
 use Rattle.dia_avp.proofs.Bytes.{IsBytes-fits}
 use Rattle.dia_dict.specs.Dictionary.{known}
 use Rattle.dia_tree.specs.View.{seen_fault, is_event}
