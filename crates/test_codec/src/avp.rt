@@ -432,7 +432,7 @@ fn is_group_of(alloc: Global, avp: &Avp, depth: u8, size: Result<usize, FieldFau
 }
 
 /// How many AVPs there are, one after the other.
-fn count_of(avps: AvpsIn<'_>) -> usize {
+fn avps_in(avps: AvpsIn<'_>) -> usize {
     let mut left = avps;
     let mut count = 0;
     while count < 1_000 && left.next().is_some() {
@@ -444,7 +444,7 @@ fn count_of(avps: AvpsIn<'_>) -> usize {
 /// Whether a view's data are a group of so many AVPs, or have this fault.
 fn is_group_in(view: &AvpView<'_>, depth: u8, size: Result<usize, FieldFault>) -> bool {
     match view.as_group(depth) {
-        Ok(avps) => size == Ok(count_of(avps)),
+        Ok(avps) => size == Ok(avps_in(avps)),
         Err(fault) => size == Err(fault),
     }
 }

@@ -152,7 +152,7 @@ fn refuses_what_is_taken(dictionary: &mut Dictionary) -> bool {
             return false;
         }
     }
-    dictionary.at(56).is_none()
+    dictionary.at(57).is_none()
         && dictionary.by_name("Another").is_none()
         && dictionary.find(9999, None).is_none()
         && is_of(dictionary.find(278, None), AvpKind::Unsigned32)
@@ -168,30 +168,32 @@ fn a_definition_is_added_last_where_code_and_name_are_free(rt: HostRuntime) -> R
     Ok(())
 }
 
-/// Adds 1000 to 1200.
-fn add_201(alloc: Global, dictionary: &mut Dictionary) -> Result<(), Fail> {
-    for code in 1000..1201u32 {
+/// Adds 1000 to 1199.
+fn add_200(alloc: Global, dictionary: &mut Dictionary) -> Result<(), Fail> {
+    for code in 1000..1200u32 {
         let name = format!(in alloc; "Test-{code}")?;
         dictionary.add(code, None, name.as_str(), AvpKind::Grouped)?;
     }
     Ok(())
 }
 
-/// Whether a dictionary has 256 definitions, 1200 the last, and takes no more.
+/// Whether a dictionary has 256 definitions, 1199 the last, and takes no more.
 fn is_full(dictionary: &mut Dictionary) -> bool {
     let full = dictionary.add(1201, None, "Test-1201", AvpKind::Grouped);
-    let taken = dictionary.add(1200, None, "Test-1201", AvpKind::Grouped);
+    let taken = dictionary.add(1199, None, "Test-1201", AvpKind::Grouped);
     full == Err(AddError::Fault(AddFault::Full))
         && taken == Err(AddError::Fault(AddFault::Taken))
-        && is_named(dictionary.at(255), 1200, None, "Test-1200")
+        && is_named(dictionary.at(255), 1199, None, "Test-1199")
         && dictionary.at(256).is_none()
         && dictionary.find(1201, None).is_none()
+        && is_of(dictionary.find(1, None), AvpKind::Utf8String)
+        && is_of(dictionary.find(1025, None), AvpKind::Grouped)
 }
 
 #[test]
 fn a_dictionary_has_256_definitions_at_most(rt: HostRuntime) -> Result<(), Fail> {
     let mut dictionary = Dictionary::base(rt.alloc())?;
-    add_201(rt.alloc(), &mut dictionary)?;
+    add_200(rt.alloc(), &mut dictionary)?;
     assert!(rt; is_full(&mut dictionary));
     Ok(())
 }
