@@ -16,7 +16,7 @@ pub struct Avp {
 }
 
 /// An AVP whose data lies where it was read. Takes no memory.
-#[derive(Clone, Copy, Debug)]
+#[derive(Clone, Copy, Debug, Default)]
 pub struct AvpView<'a> {
     pub code: u32,
     pub vendor: Option<u32>,

@@ -1,5 +1,8 @@
 -- The first fault of octets, while their AVPs are looked at one after the other.
-use Rattle.std.proofs.Common.{◌≡◌, ℕ, zero, suc, ◌+◌, ◌-◌, ◌<◌, ◌≤◌, Bool, List, [], ◌∷◌, ◌++◌, length, refl, sym, ◌∙◌, arith, append_assoc, true, false}
+use Rattle.std.proofs.Common.{◌≡◌, ℕ, zero, suc, ◌+◌, ◌-◌, ◌<◌, ◌≤◌, Bool, List, [], ◌∷◌, ◌++◌, length, map, refl, sym, ◌∙◌, arith, append_assoc, true, false}
+use Rattle.std.proofs.lemmas.List.{length_push, append-nil, map-append}
+use Rattle.dia_avp.specs.declared.avp.AvpView.{AvpView}
+use Rattle.dia_avp.specs.View.{seen}
 use Rattle.std.specs.Prelude.{slice_get, Option, Some, None, is_some}
 use Rattle.std.specs.Option.{option_map}
 use Rattle.std.proofs.lemmas.Bool.{lt-leb}
@@ -103,3 +106,24 @@ by_group inside definitions event a d e group = rw (← e, group) refl
 pub by_data : (inside : List ℕ → List MsgFault) (definitions : List Definition) (event : Bool) (a : Avp) (d : Definition) → Some d ≡ definition_of definitions a.code a.vendor → is_group d.kind ≡ false
     → avp_faults inside definitions event a ≡ data_faults (data_fault d.kind a.octets) (least_size d.kind) event a
 by_data inside definitions event a d e plain = rw (← e, plain) refl
+
+-- what a list of AVPs that was read so far has to do with all octets
+pub record Listed (definitions : List Definition) (event : Bool) (room : ℕ) (octets : List ℕ) (views : List AvpView) (rest : List ℕ) : Type 0 where
+  pub faults : SoFar definitions event room octets (length views) rest
+  pub parts : avps_in octets ≡ (map seen views ++ (avps_in rest).0, (avps_in rest).1)
+
+pub Listed-start : (definitions : List Definition) (event : Bool) (room : ℕ) (octets : List ℕ) (views : List AvpView) → views ≡ [] → 0 < room → Listed definitions event room octets views octets
+Listed-start definitions event room octets views none lt = rw none (record { faults = SoFar-start definitions event room octets lt; parts = refl })
+
+pub Listed-more : (definitions : List Definition) (event : Bool) (room : ℕ) (octets : List ℕ) (views : List AvpView) (rest : List ℕ) (a : AvpView) (next : List ℕ) (first : Option FaultView) → Listed definitions event room octets views rest → IsNext rest (seen a) next
+    → length views < 128 → option_map seen_fault first ≡ slice_get (avp_faults (inside_of definitions event room) definitions event (seen a)) 0 → is_some first ≡ false → Listed definitions event room octets (views ++ a ∷ []) next
+Listed-more definitions event room octets views rest a next first l e lt is none =
+    let more = SoFar-more definitions event room octets (length views) rest (seen a) next first l.faults e lt is none in
+    record {
+      faults = rw (length_push views a) more;
+      parts = l.parts ∙ rw (e, map-append seen views (a ∷ []), append_assoc (map seen views) (seen a ∷ []) (avps_in next).0) refl;
+    }
+
+pub Listed-end : (definitions : List Definition) (event : Bool) (room : ℕ) (octets : List ℕ) (views : List AvpView) (rest : List ℕ) → Listed definitions event room octets views rest → length rest ≡ 0 → avps_in octets ≡ (map seen views, [])
+Listed-end definitions event room octets views [] l e = l.parts ∙ rw (avps_in-nil, append-nil (map seen views)) refl
+Listed-end definitions event room octets views (x ∷ rest) l e = absurd (omega arith)

@@ -1,4 +1,4 @@
-pub mod View
 pub mod Kind
 pub mod Faults
+pub mod View
 pub mod Canonical

@@ -1,12 +1,12 @@
 //! AVPs in their canonical encoding at every level: reserved bits and padding are zero, and the last padding is there.
 
-ghost use Rattle.std.specs.Prelude.{◌≡◌, ◌+◌, ◌<◌, ◌^◌, true, false, length, map, IfOk, IsTrue};
+ghost use Rattle.std.specs.Prelude.{◌≡◌, ◌+◌, ◌<◌, ◌^◌, true, false, ℕ, slice_index, length, map, IfOk, IsTrue};
 ghost use Rattle.dia_avp.specs.View.{seen};
 ghost use Rattle.dia_avp.specs.Reading.{avps_in};
 ghost use Rattle.dia_avp.specs.Encoding.{length_of, encoding};
 ghost use Rattle.dia_dict.specs.Dictionary.{known, definition_of};
 ghost use Rattle.dia_tree.specs.Kind.{is_grouped as is_grouped_by};
-ghost use Rattle.dia_tree.specs.Canonical.{canonical as canonical_form};
+ghost use Rattle.dia_tree.specs.Canonical.{canonical as canonical_form, IsCanonical, AreCanonical};
 
 use crate::kind::is_grouped;
 use dia_avp::{Avp, AvpList, AvpView, MAX_DEPTH, Octets, first_avp, put_avp};
@@ -78,6 +78,11 @@ fn canonical_of(
     })
 }
 
+// What octets are.
+fn octets_are_bytes(octets: &[u8])
+    ensures { (i : ℕ) → slice_index octets.now i < 256 }
+{}
+
 /// An AVP of a message, as it is written: the data of a group, and of the groups in it down to four levels, is the one
 /// encoding of its AVPs (RFC 6733 section 4.1). What stands in a group behind a broken AVP is left out.
 pub fn canonical_avp(
@@ -86,17 +91,14 @@ pub fn canonical_avp(
     avp: &AvpView<'_>,
 ) -> Result<Avp, AllocError>
     requires { length_of (seen avp.now) < 2 ^ 24 }
-    ensures { IfOk result (λ a. a ≡ canonical_form (known dictionary.now) 4 (seen avp.now)) }
+    ensures canonical { IfOk result (IsCanonical (known dictionary.now) 4 (seen avp.now)) }
+    ensures is { IfOk result (λ a. a ≡ canonical_form (known dictionary.now) 4 (seen avp.now)) }
 {
+    octets_are_bytes(avp.octets);
     canonical_of(alloc, dictionary, MAX_DEPTH, avp)
 }
 
-/// The AVPs of a message's group, as they are written, up to the first broken one.
-pub fn group_list(
-    alloc: Global,
-    dictionary: &Dictionary,
-    octets: &[u8],
-) -> Result<AvpList, AllocError>
+fn list_of(alloc: Global, dictionary: &Dictionary, octets: &[u8]) -> Result<AvpList, AllocError>
     ensures { IfOk result (λ list. list ≡ map (canonical_form (known dictionary.now) 3) (avps_in octets.now).0) }
 {
     let mut list = AvpList::new(alloc);
@@ -106,4 +108,16 @@ pub fn group_list(
         rest = after;
     }
     Ok(list)
+}
+
+/// The AVPs of a message's group, as they are written, up to the first broken one.
+pub fn group_list(
+    alloc: Global,
+    dictionary: &Dictionary,
+    octets: &[u8],
+) -> Result<AvpList, AllocError>
+    ensures canonical { IfOk result (AreCanonical (known dictionary.now) 3 octets.now) }
+    ensures is { IfOk result (λ list. list ≡ map (canonical_form (known dictionary.now) 3) (avps_in octets.now).0) }
+{
+    list_of(alloc, dictionary, octets)
 }

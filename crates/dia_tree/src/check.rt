@@ -1,18 +1,23 @@
-//! The first fault of octets that are AVPs.
+//! The first fault of octets that are AVPs, and where they lie.
 
-ghost use Rattle.std.specs.Prelude.{◌≡◌, Some, slice_get};
+ghost use Rattle.std.specs.Prelude.{◌≡◌, [], Some, None, List, map, slice_get};
 ghost use Rattle.std.specs.Option.{option_map};
 ghost use Rattle.dia_avp.specs.View.{seen};
+ghost use Rattle.dia_avp.specs.Avps.{Avps};
+ghost use Rattle.dia_avp.specs.Reading.{avps_in};
 ghost use Rattle.dia_dict.specs.Dictionary.{known};
 ghost use Rattle.dia_dict.specs.Kind.{least_size, data_fault as fault_of_data};
-ghost use Rattle.dia_tree.specs.View.{seen_fault};
-ghost use Rattle.dia_tree.specs.Faults.{fault, is_bad_value as has_bad_value, unknown_faults, own_faults, data_faults, group_faults};
+ghost use Rattle.dia_tree.specs.declared.fault.MsgFault.{MsgFault as Fault};
+ghost use Rattle.dia_tree.specs.View.{seen_fault, is_event};
+ghost use Rattle.dia_tree.specs.Faults.{fault, is_bad_value as has_bad_value, unknown_faults, own_faults, data_faults, avp_faults, group_faults, HasMessageFaults};
 
 use crate::cut::number_at;
+use crate::event::Event;
 use crate::fault::FaultView;
 use crate::kind::is_group;
 use crate::zeros::{broken_fault, zeros};
 use base_codes::ResultCode;
+use base_fixed::FixedList;
 use dia_avp::{AvpView, FieldFault, MAX_AVPS, first_avp};
 use dia_dict::{AvpKind, Dictionary};
 
@@ -35,19 +40,19 @@ fn bad_value<'a>(avp: &AvpView<'a>) -> FaultView<'a>
 }
 
 // Whether the value of an AVP without vendor is none that credit control knows.
-fn is_bad_value(event: bool, code: u32, octets: &[u8]) -> bool
-    ensures { result ≡ has_bad_value event code octets.now }
+fn is_bad_value(event: &Event<'_>, code: u32, octets: &[u8]) -> bool
+    ensures { result ≡ has_bad_value (is_event event.now) code octets.now }
 {
     match code {
         263 => octets.is_empty() || octets.len() > 255,
         416 => number_at(octets, 0) == 0 || number_at(octets, 0) > 4,
-        436 => event && number_at(octets, 0) > 3,
+        436 => number_at(octets, 0) > 3 && event.is_event(),
         _ => false,
     }
 }
 
-fn own_fault<'a>(event: bool, avp: &AvpView<'a>) -> Option<FaultView<'a>>
-    ensures { option_map seen_fault result ≡ slice_get (own_faults event (seen avp.now)) 0 }
+fn own_fault<'a>(event: &Event<'_>, avp: &AvpView<'a>) -> Option<FaultView<'a>>
+    ensures { option_map seen_fault result ≡ slice_get (own_faults (is_event event.now) (seen avp.now)) 0 }
 {
     if avp.vendor.is_none() && is_bad_value(event, avp.code, avp.octets) {
         return Some(bad_value(avp));
@@ -56,9 +61,9 @@ fn own_fault<'a>(event: bool, avp: &AvpView<'a>) -> Option<FaultView<'a>>
 }
 
 // What is wrong with the data of an AVP by its type, and then by its value.
-fn data_fault<'a>(kind: AvpKind, event: bool, avp: &AvpView<'a>) -> Option<FaultView<'a>>
+fn data_fault<'a>(kind: AvpKind, event: &Event<'_>, avp: &AvpView<'a>) -> Option<FaultView<'a>>
     ensures { let a = seen avp.now in
-        option_map seen_fault result ≡ slice_get (data_faults (fault_of_data kind a.octets) (least_size kind) event a) 0 }
+        option_map seen_fault result ≡ slice_get (data_faults (fault_of_data kind a.octets) (least_size kind) (is_event event.now) a) 0 }
 {
     match kind.typed(avp) {
         Ok(_) => own_fault(event, avp),
@@ -82,14 +87,35 @@ fn unknown_fault<'a>(avp: &AvpView<'a>) -> Option<FaultView<'a>>
     })
 }
 
+// The first fault of an AVP with so many levels open to what it holds.
+#[cycle(fault)]
+fn avp_fault<'a>(
+    dictionary: &Dictionary,
+    event: &Event<'_>,
+    room: u8,
+    avp: &AvpView<'a>,
+) -> Option<FaultView<'a>>
+    ensures { let d = known dictionary.now in
+        option_map seen_fault result ≡ slice_get (avp_faults (group_faults d (is_event event.now) room) d (is_event event.now) (seen avp.now)) 0 }
+{
+    match dictionary.find(avp.code, avp.vendor) {
+        None => unknown_fault(avp),
+        Some(definition) if is_group(definition.kind) => {
+            fault_in(dictionary, event, room, avp.octets)
+        }
+        Some(definition) => data_fault(definition.kind, event, avp),
+    }
+}
+
 // The first fault of octets with so many levels open to them.
+#[cycle(fault)]
 fn fault_in<'a>(
     dictionary: &Dictionary,
-    event: bool,
+    event: &Event<'_>,
     room: u8,
     octets: &'a [u8],
 ) -> Option<FaultView<'a>>
-    ensures { option_map seen_fault result ≡ slice_get (group_faults (known dictionary.now) event room octets.now) 0 }
+    ensures { option_map seen_fault result ≡ slice_get (group_faults (known dictionary.now) (is_event event.now) room octets.now) 0 }
 {
     if room == 0 {
         return Some(TOO_MUCH);
@@ -103,13 +129,7 @@ fn fault_in<'a>(
         if count == MAX_AVPS {
             return Some(TOO_MUCH);
         }
-        let first = match dictionary.find(avp.code, avp.vendor) {
-            None => unknown_fault(&avp),
-            Some(definition) if is_group(definition.kind) => {
-                fault_in(dictionary, event, room - 1, avp.octets)
-            }
-            Some(definition) => data_fault(definition.kind, event, &avp),
-        };
+        let first = avp_fault(dictionary, event, room - 1, &avp);
         if first.is_some() {
             return first;
         }
@@ -119,8 +139,53 @@ fn fault_in<'a>(
     None
 }
 
-/// The first fault of octets that are a message's AVPs, in order of place, those inside a group before the next AVP's
-/// (RFC 6733 section 7.1.5); `event` says whether the message is an EVENT request (RFC 8506 section 8.3). Takes no memory.
+// The first fault of a message's octets, and without one its AVPs.
+fn listed<'a>(
+    dictionary: &Dictionary,
+    event: &Event<'_>,
+    octets: &'a [u8],
+    avps: &mut FixedList<AvpView<'a>, MAX_AVPS>,
+) -> Option<FaultView<'a>>
+    requires { avps.old ≡ [] }
+    ensures fault { option_map seen_fault result ≡ slice_get (group_faults (known dictionary.now) (is_event event.now) 5 octets.now) 0 }
+    ensures avps { result ≡ None → avps_in octets.now ≡ (map seen avps.new, []) }
+{
+    let mut left = octets;
+    while !left.is_empty() {
+        let Ok((avp, after)) = first_avp(left) else {
+            return Some(broken_fault(dictionary, left));
+        };
+        if avps.len() == MAX_AVPS {
+            return Some(TOO_MUCH);
+        }
+        let found = avp_fault(dictionary, event, LEVELS - 1, &avp);
+        if found.is_some() {
+            return found;
+        }
+        avps.push(avp);
+        left = after;
+    }
+    None
+}
+
+/// The first fault of the AVPs of a message, in order of place, those inside a group before the next AVP's (RFC 6733
+/// section 7.1.5). Where there is none, `avps`, which comes empty, has each of them where it lies; else it has some of them.
+/// `credit` says whether the message is a Credit-Control-Request: only in one whose first CC-Request-Type is EVENT_REQUEST
+/// is Requested-Action looked at (RFC 8506 section 8.41). Takes no memory.
+pub fn survey<'a>(
+    dictionary: &Dictionary,
+    credit: bool,
+    octets: &'a [u8],
+    avps: &mut FixedList<AvpView<'a>, MAX_AVPS>,
+) -> Option<FaultView<'a>>
+    requires { avps.old ≡ [] }
+    ensures fault { (faults : List Fault) × HasMessageFaults (known dictionary.now) credit octets.now faults × (option_map seen_fault result ≡ slice_get faults 0) }
+    ensures avps { result ≡ None → Avps octets.now (map seen avps.new) }
+{
+    listed(dictionary, &Event::of(credit, octets), octets, avps)
+}
+
+/// The first fault of octets that are a message's AVPs; `event` says whether the message is an EVENT request. Takes no memory.
 pub fn first_fault<'a>(
     dictionary: &Dictionary,
     event: bool,
@@ -128,5 +193,5 @@ pub fn first_fault<'a>(
 ) -> Option<FaultView<'a>>
     ensures { option_map seen_fault result ≡ slice_get (group_faults (known dictionary.now) event 5 octets.now) 0 }
 {
-    fault_in(dictionary, event, LEVELS, octets)
+    fault_in(dictionary, &Event::Known(event), LEVELS, octets)
 }

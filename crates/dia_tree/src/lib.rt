@@ -6,18 +6,20 @@
 //! | `fault` | a fault with its failed AVP |
 //! | `kind` | which AVPs are groups |
 //! | `cut`, `zeros` | the header of a broken AVP; faults whose failed AVP is a header and zeros |
-//! | `check` | the first fault of octets that are AVPs, without memory |
+//! | `event` | whether a message is an EVENT request |
+//! | `check` | the first fault of octets that are AVPs and where they lie, without memory |
 //! | `canonical` | AVPs with reserved bits and padding zero, groups too |
 #![tactic(auto)]
 
+mod canonical;
 mod check;
 mod cut;
+mod event;
 mod fault;
 mod kind;
-mod canonical;
 mod zeros;
 
-pub use check::first_fault;
+pub use canonical::{canonical_avp, group_list};
+pub use check::{first_fault, survey};
 pub use fault::{FaultView, MsgFault};
-pub use canonical::{group_list, canonical_avp};
 pub use zeros::missing_fault;

@@ -1,6 +1,7 @@
-use Rattle.dia_avp.specs.View.{seen}
-use Rattle.dia_tree.proofs.CanonicalLemmas.{short_first}
+use Rattle.dia_avp.proofs.Bytes.{IsBytes-fits}
+use Rattle.dia_dict.specs.Dictionary.{known}
+use Rattle.dia_tree.proofs.CanonicalRelation.{listed_canonical}
 use Rattle.dia_tree.proofs.canonical.group_list.Goals as goal
 
-pub canonical_of-requires : goal.canonical_of-requires
-canonical_of-requires c = short_first c.loop-avp.rest.now (seen c.in-Ok.avp) c.in-Ok.after.now c.in-Ok.ensures.avp
+pub returns-clause-canonical : goal.returns-clause-canonical
+returns-clause-canonical c = listed_canonical (known c.args.dictionary.now) 3 c.args.octets.now c.list_of.result (IsBytes-fits _ c.type_inv.octets) c.list_of.ensures

@@ -2,7 +2,7 @@ use Rattle.std.proofs.Common.{◌≡◌, ◌++◌, length, map}
 use Rattle.dia_avp.specs.Reading.{avps_in}
 use Rattle.dia_dict.specs.Dictionary.{known}
 use Rattle.dia_tree.specs.Canonical.{canonical}
-use Rattle.dia_tree.proofs.canonical.group_list.Given as goal
+use Rattle.dia_tree.proofs.canonical.list_of.Given as goal
 
 -- what is listed, and then the canonical AVPs of the rest
 abbrev pub invariant-loop-avp : goal.invariant-loop-avp

@@ -1,0 +1,58 @@
+//! Whether a message is an EVENT request of credit control (RFC 8506 section 8.3).
+
+ghost use Rattle.std.specs.Prelude.{◌≡◌, ◌&&◌};
+ghost use Rattle.dia_avp.specs.Reading.{avps_in};
+ghost use Rattle.dia_tree.specs.View.{is_event};
+ghost use Rattle.dia_tree.specs.Faults.{has_event_type as has_type_4};
+
+use crate::cut::number_at;
+use dia_avp::first_avp;
+
+/// The AVP Code of CC-Request-Type.
+const CC_REQUEST_TYPE: u32 = 416;
+
+/// The CC-Request-Type of a request that opens no session.
+const EVENT_REQUEST: u32 = 4;
+
+/// Whether a message is an EVENT request: known, or said by the first CC-Request-Type of its AVPs.
+#[derive(Clone, Copy)]
+pub(crate) enum Event<'a> {
+    Known(bool),
+    Of(&'a [u8]),
+}
+
+fn has_event_type(octets: &[u8]) -> bool
+    ensures { result ≡ has_type_4 (avps_in octets.now).0 }
+{
+    let mut rest = octets;
+    while let Ok((avp, after)) = first_avp(rest) {
+        if avp.code == CC_REQUEST_TYPE && avp.vendor.is_none() {
+            return avp.octets.len() == 4 && number_at(avp.octets, 0) == EVENT_REQUEST;
+        }
+        rest = after;
+    }
+    false
+}
+
+impl<'a> Event<'a> {
+    /// What is known of a message, a Credit-Control-Request or not, of these AVPs.
+    pub fn of(credit: bool, octets: &'a [u8]) -> Event<'a>
+        ensures { is_event result ≡ (credit && has_type_4 (avps_in octets.now).0) }
+    {
+        if credit {
+            Event::Of(octets)
+        } else {
+            Event::Known(false)
+        }
+    }
+
+    /// Whether the message is one. AVPs are looked through for it.
+    pub fn is_event(&self) -> bool
+        ensures { result ≡ is_event self.now }
+    {
+        match *self {
+            Event::Known(event) => event,
+            Event::Of(octets) => has_event_type(octets),
+        }
+    }
+}
