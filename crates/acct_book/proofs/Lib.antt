@@ -1,8 +1,11 @@
 pub mod OwnSums
-pub mod ReservedSums
+pub mod LeftSums
 pub mod Pushed
 pub mod Opened
 pub mod Step
+pub mod StoredLemmas
+pub mod BackLemmas
 pub mod LedgerLemmas
+pub mod TakenBack
 pub mod ReservedLaw
 pub mod NeverOver

@@ -8,11 +8,11 @@ use Rattle.acct_book.specs.declared.op.Outcome.{Outcome}
 use Rattle.acct_book.specs.declared.op.Outcome.TheVariants.{Refused}
 use Rattle.acct_book.specs.declared.op.Booked.{Booked}
 use Rattle.acct_book.specs.declared.answer.Totals.{Totals}
-use Rattle.acct_book.specs.Sums.{reserved, debited, unpaid, account_of, amount_of}
+use Rattle.acct_book.specs.Sums.{reserved, left_where, debited, unpaid, account_of, amount_of}
 use Rattle.acct_book.specs.Book.{Opened, Book, given_of, sums_of, totals_of, outcome_of, outcome_at, own_of, free_of}
 use Rattle.acct_book.specs.Laws.{EachAfter, AnsweredNeverOver}
 use Rattle.acct_book.specs.Ledger.{IsSummedFor}
-use Rattle.acct_book.proofs.ReservedSums.{eq_from}
+use Rattle.acct_book.proofs.LeftSums.{eq_from}
 use Rattle.acct_book.proofs.Pushed.{entry, limit_of}
 use Rattle.acct_book.proofs.Step.{outcome_at-moved, IsSummedFor-own, IsSummedFor-other}
 use Rattle.acct_book.proofs.LedgerLemmas.{own_of-le}
@@ -22,7 +22,7 @@ module _ (accounts : List Opened) (k given : ℕ) (open_at : given_of accounts k
   book past = record { accounts = accounts; journal = past }
 
   at_start : IsSummedFor k (sums_of given k []) []
-  unfolding reserved debited unpaid
+  unfolding left_where debited unpaid
   at_start = record { sums = refl; within = omega arith; refunds = omega arith }
 
   -- the outcome that is allowed on the account

@@ -1,19 +1,15 @@
 -- What one more entry does to the sums of an account.
-use Rattle.std.proofs.Common.{◌≡◌, ◌≢◌, ◌≤◌, ℕ, ◌+◌, ◌-◌, List, [], ◌∷◌, ◌++◌, Bool, true, false, true≢false, refl, sym, ◌∙◌, subst, arith}
-use Rattle.std.specs.Prelude.{◌==◌, if◌then◌else◌, sum_by}
-use Rattle.std.proofs.lemmas.Bool.Decides.{Decides-eqb}
+use Rattle.std.proofs.Common.{◌≡◌, ◌≤◌, ℕ, ◌+◌, ◌-◌, List, [], ◌∷◌, ◌++◌, Bool, true, false, refl, ◌∙◌, ap, arith}
+use Rattle.std.specs.Prelude.{◌==◌, ◌&&◌, if◌then◌else◌, sum_by}
 use Rattle.std.proofs.lemmas.List.Sums.{sum_by-append}
 use Rattle.acct_book.specs.declared.op.Op.{Op}
 use Rattle.acct_book.specs.declared.op.Op.TheVariants.{Reserve, Debit, Release, Charge, Refund}
 use Rattle.acct_book.specs.declared.op.Outcome.{Outcome}
-use Rattle.acct_book.specs.declared.op.Outcome.TheVariants.{Refused}
 use Rattle.acct_book.specs.declared.op.Booked.{Booked}
-use Rattle.acct_book.specs.Sums.{own, reserved, debited, unpaid, account_of, amount_of, unpaid_of, paid_by, refunded_by, unpaid_by, is_same}
+use Rattle.acct_book.specs.Sums.{own, own_all, reserved, debited, unpaid, account_of, amount_of, unpaid_of, paid_by, refunded_by, unpaid_by, is_same}
 use Rattle.acct_book.specs.Book.{own_of}
-use Rattle.acct_book.specs.Kept.{held_after, reserved_after, debited_after, unpaid_after}
-use Rattle.acct_book.specs.Ledger.{is_on}
-use Rattle.acct_book.proofs.OwnSums.{own-own_by, own-push_end, own-push_more}
-use Rattle.acct_book.proofs.ReservedSums.{eq_from, reserved-push_more, reserved-push_other, reserved-push_end}
+use Rattle.acct_book.specs.Kept.{reserved_after, debited_after, unpaid_after}
+use Rattle.acct_book.proofs.LeftSums.{IsAt, and_parts, own-left, left_where-in, left_where-out, left_where-le}
 
 abbrev pub entry : Op → Outcome → Booked
 entry op o = record { op = op; outcome = o }
@@ -21,43 +17,34 @@ entry op o = record { op = op; outcome = o }
 -- a reservation is part of what is reserved on its account
 pub own-le-reserved : (a s g : ℕ) (xs : List Booked) → own a s g xs ≤ reserved a xs
 own-le-reserved a s g xs =
-    let e = reserved-push_end a s g xs (entry (Release a s g) Refused) (λ t u v. refl) refl in
-    rw own-own_by (omega (arith, e))
+    rw (own-left a s g xs) (left_where-le (is_same a s g) (λ t u v. t == a) (λ t u v h. (and_parts (t == a) ((u == s) && (v == g)) h).0) xs)
 
-apart : (a t : ℕ) → (t == a) ≡ false → a ≢ t
-apart a t h e = true≢false (sym ((Decides-eqb t a).1 (sym e)) ∙ h)
+-- and of what is reserved in its session
+pub own-le-own_all : (a s g : ℕ) (xs : List Booked) → own a s g xs ≤ own_all a s xs
+own-le-own_all a s g xs =
+    rw (own-left a s g xs) (left_where-le (is_same a s g) (λ t u v. (t == a) && (u == s)) (λ t u v h.
+    let p = and_parts (t == a) ((u == s) && (v == g)) h in
+    ap (λ b. b && (u == s)) p.0 ∙ (and_parts (u == s) (v == g) p.1).0) xs)
+
+-- what is reserved in a session is part of what is reserved on its account
+pub own_all-le-reserved : (a s : ℕ) (xs : List Booked) → own_all a s xs ≤ reserved a xs
+own_all-le-reserved a s xs = left_where-le (λ t u v. (t == a) && (u == s)) (λ t u v. t == a) (λ t u v h. (and_parts (t == a) (u == s) h).0) xs
 
 -- what is reserved, after one more entry
 pub reserved-push : (k : ℕ) (xs : List Booked) (op : Op) (o : Outcome)
     → reserved k (xs ++ entry op o ∷ []) ≡ (if account_of op == k then reserved_after (reserved k xs) (own_of op xs) op o else reserved k xs)
-reserved-push k xs (Reserve a s g n) o = by (a == k) (reserved-push_more k xs (entry (Reserve a s g n) o) (λ t u v. refl))
+reserved-push k xs op o = by (account_of op == k) refl
   where
-    by : (c : Bool) → reserved k (xs ++ entry (Reserve a s g n) o ∷ []) ≡ reserved k xs + (if c then amount_of o else 0)
-        → reserved k (xs ++ entry (Reserve a s g n) o ∷ []) ≡ (if c then reserved k xs + amount_of o else reserved k xs)
-    by true h = h
-    by false h = omega (arith, h)
-reserved-push k xs (Debit a s g n) o = by (a == k) refl
-  where
-    by : (c : Bool) → (a == k) ≡ c → reserved k (xs ++ entry (Debit a s g n) o ∷ []) ≡ (if c then reserved k xs - own a s g xs else reserved k xs)
-    by true e = subst (λ x. reserved x (xs ++ entry (Debit a s g n) o ∷ []) ≡ reserved x xs - own a s g xs) (eq_from a k e)
-        (rw (own-own_by a s g xs) (omega (arith, reserved-push_end a s g xs (entry (Debit a s g n) o) (λ t u v. refl) refl)))
-    by false e = reserved-push_other k a s g xs (entry (Debit a s g n) o) (apart k a e) (λ t u v. refl) refl
-reserved-push k xs (Release a s g) o = by (a == k) refl
-  where
-    by : (c : Bool) → (a == k) ≡ c → reserved k (xs ++ entry (Release a s g) o ∷ []) ≡ (if c then reserved k xs - own a s g xs else reserved k xs)
-    by true e = subst (λ x. reserved x (xs ++ entry (Release a s g) o ∷ []) ≡ reserved x xs - own a s g xs) (eq_from a k e)
-        (rw (own-own_by a s g xs) (omega (arith, reserved-push_end a s g xs (entry (Release a s g) o) (λ t u v. refl) refl)))
-    by false e = reserved-push_other k a s g xs (entry (Release a s g) o) (apart k a e) (λ t u v. refl) refl
-reserved-push k xs (Charge a n) o = by (a == k) (reserved-push_more k xs (entry (Charge a n) o) (λ t u v. refl))
-  where
-    by : (c : Bool) → reserved k (xs ++ entry (Charge a n) o ∷ []) ≡ reserved k xs + 0 → reserved k (xs ++ entry (Charge a n) o ∷ []) ≡ (if c then reserved k xs else reserved k xs)
-    by true h = omega (arith, h)
-    by false h = omega (arith, h)
-reserved-push k xs (Refund a n) o = by (a == k) (reserved-push_more k xs (entry (Refund a n) o) (λ t u v. refl))
-  where
-    by : (c : Bool) → reserved k (xs ++ entry (Refund a n) o ∷ []) ≡ reserved k xs + 0 → reserved k (xs ++ entry (Refund a n) o ∷ []) ≡ (if c then reserved k xs else reserved k xs)
-    by true h = omega (arith, h)
-    by false h = omega (arith, h)
+    at : (op : Op) (c : Bool) → (account_of op == k) ≡ c → IsAt (λ t u v. t == k) op c
+    at (Reserve a s g n) c e = e
+    at (Debit a s g n) c e = e
+    at (Release a s) c e = λ g. e
+    at (Charge a n) c e = tt
+    at (Refund a n) c e = tt
+
+    by : (c : Bool) → (account_of op == k) ≡ c → reserved k (xs ++ entry op o ∷ []) ≡ (if c then reserved_after (reserved k xs) (own_of op xs) op o else reserved k xs)
+    by true e = left_where-in (λ t u v. t == k) xs o op (at op true e)
+    by false e = left_where-out (λ t u v. t == k) xs o op (at op false e)
 
 -- a sum over the journal, after one more entry
 pub sum-push : (f : Booked → ℕ) (xs : List Booked) (b : Booked) → sum_by f (xs ++ b ∷ []) ≡ sum_by f xs + f b
@@ -67,7 +54,7 @@ sum-push f xs b = sum_by-append f xs (b ∷ []) ∙ omega arith
 abbrev pub limit_of : ℕ → ℕ → ℕ → Op → ℕ
 limit_of free held debited (Reserve a s g n) = free
 limit_of free held debited (Debit a s g n) = held + free
-limit_of free held debited (Release a s g) = held
+limit_of free held debited (Release a s) = held
 limit_of free held debited (Charge a n) = free
 limit_of free held debited (Refund a n) = debited
 
@@ -90,7 +77,7 @@ module _ (k : ℕ) (xs : List Booked) (refunds : sum_by (refunded_by k) xs ≤ s
           by : (c : Bool) → sum_by (paid_by k) xs + (if c then amount_of o else 0) - (sum_by (refunded_by k) xs + 0) ≡ (if c then sum_by (paid_by k) xs - sum_by (refunded_by k) xs + amount_of o else sum_by (paid_by k) xs - sum_by (refunded_by k) xs)
           by true = omega arith
           by false = omega arith
-      at (Release a s g) few = by (a == k)
+      at (Release a s) few = by (a == k)
         where
           by : (c : Bool) → sum_by (paid_by k) xs + 0 - (sum_by (refunded_by k) xs + 0) ≡ (if c then sum_by (paid_by k) xs - sum_by (refunded_by k) xs else sum_by (paid_by k) xs - sum_by (refunded_by k) xs)
           by true = omega arith
@@ -115,7 +102,7 @@ module _ (k : ℕ) (xs : List Booked) (refunds : sum_by (refunded_by k) xs ≤ s
           → sum_by (refunded_by k) xs + refunded_by k (entry op o) ≤ sum_by (paid_by k) xs + paid_by k (entry op o)
       at (Reserve a s g n) few = omega arith
       at (Debit a s g n) few = omega arith
-      at (Release a s g) few = omega arith
+      at (Release a s) few = omega arith
       at (Charge a n) few = omega arith
       at (Refund a n) few = by (a == k) few
         where
@@ -139,7 +126,7 @@ unpaid-push k xs op o = sum-push (unpaid_by k) xs (entry op o) ∙ at op
         by : (c : Bool) → sum_by (unpaid_by k) xs + (if c then unpaid_of o else 0) ≡ (if c then sum_by (unpaid_by k) xs + unpaid_of o else sum_by (unpaid_by k) xs)
         by true = refl
         by false = omega arith
-    at (Release a s g) = same (a == k)
+    at (Release a s) = same (a == k)
       where
         same : (c : Bool) → sum_by (unpaid_by k) xs + 0 ≡ (if c then sum_by (unpaid_by k) xs else sum_by (unpaid_by k) xs)
         same true = omega arith
@@ -154,27 +141,3 @@ unpaid-push k xs op o = sum-push (unpaid_by k) xs (entry op o) ∙ at op
         same : (c : Bool) → sum_by (unpaid_by k) xs + 0 ≡ (if c then sum_by (unpaid_by k) xs else sum_by (unpaid_by k) xs)
         same true = omega arith
         same false = omega arith
-
--- a reservation, after one more entry: what the operation leaves of it, where it is on it
-pub own-push : (a s g : ℕ) (xs : List Booked) (op : Op) (o : Outcome)
-    → own a s g (xs ++ entry op o ∷ []) ≡ (if is_on op (record { account = a; session = s; group = g }) then held_after (own a s g xs) op o else own a s g xs)
-own-push a s g xs (Reserve t u v n) o = by (is_same a s g t u v) (own-push_more a s g xs (entry (Reserve t u v n) o) refl)
-  where
-    by : (c : Bool) → own a s g (xs ++ entry (Reserve t u v n) o ∷ []) ≡ own a s g xs + (if c then amount_of o else 0)
-        → own a s g (xs ++ entry (Reserve t u v n) o ∷ []) ≡ (if c then own a s g xs + amount_of o else own a s g xs)
-    by true h = h
-    by false h = omega (arith, h)
-own-push a s g xs (Debit t u v n) o = by (is_same a s g t u v) (own-push_end a s g xs (entry (Debit t u v n) o)) (own-push_more a s g xs (entry (Debit t u v n) o))
-  where
-    by : (c : Bool) → (c ≡ true → own a s g (xs ++ entry (Debit t u v n) o ∷ []) ≡ 0) → (c ≡ false → own a s g (xs ++ entry (Debit t u v n) o ∷ []) ≡ own a s g xs + 0)
-        → own a s g (xs ++ entry (Debit t u v n) o ∷ []) ≡ (if c then 0 else own a s g xs)
-    by true h k = h refl
-    by false h k = omega (arith, k refl)
-own-push a s g xs (Release t u v) o = by (is_same a s g t u v) (own-push_end a s g xs (entry (Release t u v) o)) (own-push_more a s g xs (entry (Release t u v) o))
-  where
-    by : (c : Bool) → (c ≡ true → own a s g (xs ++ entry (Release t u v) o ∷ []) ≡ 0) → (c ≡ false → own a s g (xs ++ entry (Release t u v) o ∷ []) ≡ own a s g xs + 0)
-        → own a s g (xs ++ entry (Release t u v) o ∷ []) ≡ (if c then 0 else own a s g xs)
-    by true h k = h refl
-    by false h k = omega (arith, k refl)
-own-push a s g xs (Charge t n) o = own-push_more a s g xs (entry (Charge t n) o) refl ∙ omega arith
-own-push a s g xs (Refund t n) o = own-push_more a s g xs (entry (Refund t n) o) refl ∙ omega arith

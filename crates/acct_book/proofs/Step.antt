@@ -30,7 +30,7 @@ moved_if n f false h = omega arith
 pub outcome_at-moved : (t : Totals) (held : ℕ) (op : Op) → amount_of (outcome_at t held op) ≤ limit_of (free_of t) held t.debited op
 outcome_at-moved t held (Reserve a s g n) = moved_if n (free_of t) (nat_le n (free_of t)) refl
 outcome_at-moved t held (Debit a s g n) = omega arith
-outcome_at-moved t held (Release a s g) = omega arith
+outcome_at-moved t held (Release a s) = omega arith
 outcome_at-moved t held (Charge a n) = moved_if n (free_of t) (nat_le n (free_of t)) refl
 outcome_at-moved t held (Refund a n) = omega arith
 
@@ -43,14 +43,14 @@ totals_after-within : (t : Totals) (held : ℕ) (op : Op) (o : Outcome) → held
     → reserved_after t.reserved held op o + debited_after t.debited op o ≤ t.given
 totals_after-within t held (Reserve a s g n) o part within few = omega arith
 totals_after-within t held (Debit a s g n) o part within few = omega arith
-totals_after-within t held (Release a s g) o part within few = omega arith
+totals_after-within t held (Release a s) o part within few = omega arith
 totals_after-within t held (Charge a n) o part within few = omega arith
 totals_after-within t held (Refund a n) o part within few = omega arith
 
 unpaid_after-le : (unpaid : ℕ) (op : Op) (o : Outcome) → unpaid_of o ≤ 2 ^ 64 → unpaid_after unpaid op o ≤ unpaid + 2 ^ 64
 unpaid_after-le unpaid (Reserve a s g n) o h = omega arith
 unpaid_after-le unpaid (Debit a s g n) o h = omega arith
-unpaid_after-le unpaid (Release a s g) o h = omega arith
+unpaid_after-le unpaid (Release a s) o h = omega arith
 unpaid_after-le unpaid (Charge a n) o h = omega arith
 unpaid_after-le unpaid (Refund a n) o h = omega arith
 

@@ -1,5 +1,5 @@
 -- The book: its accounts and its journal, and what these two allow.
-use Rattle.std.specs.Prelude.{◌≤◌, ℕ, ◌+◌, ◌-◌, min, List, [], ◌∷◌, ◌++◌, ◌==◌, Bool, false, nat_le, nat_lt, ◌&&◌, ◌||◌, if◌then◌else◌, find, Option, None, Some, IfSome, is_some, length}
+use Rattle.std.specs.Prelude.{◌≤◌, ℕ, ◌+◌, ◌-◌, min, List, [], ◌∷◌, ◌++◌, take, ◌==◌, Bool, false, nat_le, nat_lt, ◌&&◌, ◌||◌, if◌then◌else◌, find, Option, None, Some, IfSome, is_some, length}
 use Rattle.std.specs.Option.{option_map, option_map_or}
 use Rattle.base_codes.specs.declared.result_code.ResultCode.{ResultCode}
 use Rattle.base_codes.specs.declared.result_code.ResultCode.TheVariants.{Success, CreditLimitReached, UserUnknown}
@@ -14,7 +14,7 @@ use Rattle.acct_book.specs.declared.answer.Totals.{Totals}
 use Rattle.acct_book.specs.declared.error.OpenError.{OpenError}
 use Rattle.acct_book.specs.declared.error.OpenError.TheVariants.{NoMemory, TooLarge, Add}
 use Rattle.acct_book.specs.declared.limit.TheConstants.{MAX_ACCOUNTS, MAX_GIVEN}
-use Rattle.acct_book.specs.Sums.{own, reserved, debited, unpaid, account_of}
+use Rattle.acct_book.specs.Sums.{own, own_all, reserved, debited, unpaid, account_of}
 
 -- an account and the units that it was opened with
 pub record Opened : Type 0 where
@@ -81,19 +81,18 @@ abbrev pub quote_of : Book → ℕ → ℕ → ℕ → ℕ → ℕ → Quote
 quote_of book account session group used want =
     option_map_or (λ t. quote_at t (own account session group book.journal) used want) (totals_of book account) unknown
 
--- the reservation that the operation is on, if it is on one
+-- the reservation that the operation is on, or those of all groups where it is on a session
 abbrev pub own_of : Op → List Booked → ℕ
 own_of (Reserve a s g n) journal = own a s g journal
 own_of (Debit a s g n) journal = own a s g journal
-own_of (Release a s g) journal = own a s g journal
-own_of (Charge a n) journal = 0
-own_of (Refund a n) journal = 0
+own_of (Release a s) journal = own_all a s journal
+own_of op journal = 0
 
 -- the outcome of an operation on an account with these totals and this reservation
 abbrev pub outcome_at : Totals → ℕ → Op → Outcome
 outcome_at t own (Reserve a s g n) = if nat_le n (free_of t) then Done n 0 else Refused
 outcome_at t own (Debit a s g used) = Done (pay_of t own used) (used - pay_of t own used)
-outcome_at t own (Release a s g) = Done own 0
+outcome_at t own (Release a s) = Done own 0
 outcome_at t own (Charge a n) = if nat_le n (free_of t) then Done n 0 else Refused
 outcome_at t own (Refund a n) = Done (min n t.debited) 0
 
@@ -109,6 +108,14 @@ booked_of book op = record { op = op; outcome = outcome_of book op }
 -- the book after one more operation
 abbrev pub after : Book → Op → Book
 after book op = record { accounts = book.accounts; journal = book.journal ++ booked_of book op ∷ [] }
+
+-- the journal without its last entry
+abbrev pub without_last : List Booked → List Booked
+without_last journal = take (length journal - 1) journal
+
+-- the book before the last operation
+abbrev pub taken_back : Book → Book
+taken_back book = record { accounts = book.accounts; journal = without_last book.journal }
 
 -- the book with one more account
 abbrev pub opened : Book → ℕ → ℕ → Book
@@ -135,3 +142,14 @@ number_of NoMemory = 4
 -- of no account is more reserved and debited than was given
 abbrev pub NeverOver : Book → Type 0
 NeverOver book = (account : ℕ) → IfSome (totals_of book account) (λ t. t.reserved + t.debited ≤ t.given)
+
+-- a page: its number among so many, its book, and how many operations it can book without memory
+pub record Paged : Type 0 where
+  pub number : ℕ
+  pub pages : ℕ
+  pub book : Book
+  pub room : ℕ
+
+-- the page with another book and room
+abbrev pub with_book : Paged → Book → ℕ → Paged
+with_book page book room = record { number = page.number; pages = page.pages; book = book; room = room }

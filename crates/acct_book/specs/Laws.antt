@@ -2,9 +2,11 @@
 use Rattle.std.specs.Prelude.{◌≡◌, ℕ, List, [], ◌∷◌, ◌++◌, ◌==◌, Bool, not, ◌&&◌, if◌then◌else◌, sum_by, filter, Option, None, Some}
 use Rattle.std.specs.List.{filter_map}
 use Rattle.acct_book.specs.declared.op.Op.{Op}
-use Rattle.acct_book.specs.declared.op.Op.TheVariants.{Reserve, Debit, Release, Charge, Refund}
+use Rattle.acct_book.specs.declared.op.Op.TheVariants.{Reserve}
 use Rattle.acct_book.specs.declared.op.Booked.{Booked}
-use Rattle.acct_book.specs.Sums.{own, reserved}
+use Rattle.acct_book.specs.declared.holder.Holder.{Holder}
+use Rattle.acct_book.specs.Sums.{own, own_all, reserved}
+use Rattle.acct_book.specs.Stored.{holder_eq}
 use Rattle.acct_book.specs.Book.{Opened, outcome_of, NeverOver}
 
 -- the fact holds of each item and those before it
@@ -23,32 +25,30 @@ AnsweredNeverOver =
     (accounts : List Opened) (journal : List Booked) → IsAnswered accounts journal
     → NeverOver (record { accounts = accounts; journal = journal })
 
--- the session and group of a Reserve on the account
-abbrev pub pair_of : ℕ → Booked → Option (ℕ × ℕ)
-pair_of account b = of b.op
+-- whose reservation a Reserve adds to, where it passes the test
+abbrev pub holder_where : (ℕ → ℕ → ℕ → Bool) → Booked → Option Holder
+holder_where test b = of b.op
   where
-    of : Op → Option (ℕ × ℕ)
-    of (Reserve a s g n) = if a == account then Some (s, g) else None
-    of (Debit a s g n) = None
-    of (Release a s g) = None
-    of (Charge a n) = None
-    of (Refund a n) = None
+    of : Op → Option Holder
+    of (Reserve a s g n) = if test a s g then Some (record { account = a; session = s; group = g }) else None
+    of op = None
 
--- the two pairs are one
-abbrev pub is_pair : ℕ × ℕ → ℕ × ℕ → Bool
-is_pair p q = (p.0 == q.0) && (p.1 == q.1)
-
--- the pairs, each once, where it stands first
-abbrev pub distinct : List (ℕ × ℕ) → List (ℕ × ℕ)
+-- the holders, each once, where it stands first
+abbrev pub distinct : List Holder → List Holder
 distinct [] = []
-distinct (p ∷ ps) = p ∷ filter (λ q. not (is_pair p q)) (distinct ps)
+distinct (h ∷ hs) = h ∷ filter (λ k. not (holder_eq h k)) (distinct hs)
 
--- the sessions and groups for which units of the account were ever asked, each once
-abbrev pub pairs_of : ℕ → List Booked → List (ℕ × ℕ)
-pairs_of account journal = distinct (filter_map (pair_of account) journal)
+-- the sum of the reservations that pass the test, over all for whom units were ever asked, each once
+abbrev pub sum_of_own : (ℕ → ℕ → ℕ → Bool) → List Booked → ℕ
+sum_of_own test journal =
+    sum_by (λ (h : Holder). own h.account h.session h.group journal) (distinct (filter_map (holder_where test) journal))
 
 -- what is reserved on an account is the sum of the reservations over all sessions and groups
 abbrev pub ReservedIsSumOfOwn : Type 0
-ReservedIsSumOfOwn =
-    (account : ℕ) (journal : List Booked)
-    → reserved account journal ≡ sum_by (λ p. own account p.0 p.1 journal) (pairs_of account journal)
+ReservedIsSumOfOwn = (account : ℕ) (journal : List Booked) → reserved account journal ≡ sum_of_own (λ a s g. a == account) journal
+
+-- what is reserved in a session is the sum of its reservations over all groups
+abbrev pub SessionIsSumOfOwn : Type 0
+SessionIsSumOfOwn =
+    (account session : ℕ) (journal : List Booked)
+    → own_all account session journal ≡ sum_of_own (λ a s g. (a == account) && (s == session)) journal

@@ -11,7 +11,7 @@ use Rattle.acct_book.specs.declared.op.Booked.{Booked}
 abbrev pub account_of : Op → ℕ
 account_of (Reserve a s g n) = a
 account_of (Debit a s g n) = a
-account_of (Release a s g) = a
+account_of (Release a s) = a
 account_of (Charge a n) = a
 account_of (Refund a n) = a
 
@@ -29,75 +29,59 @@ unpaid_of Refused = 0
 abbrev pub is_same : ℕ → ℕ → ℕ → ℕ → ℕ → ℕ → Bool
 is_same account session group a s g = (a == account) && ((s == session) && (g == group))
 
--- whether the operation ends the reservation: a Debit or a Release of this account, session and group
+-- whether the operation ends the reservation: a Debit of this account, session and group, or a Release of this account and session
 abbrev pub ends : ℕ → ℕ → ℕ → Op → Bool
-ends account session group (Reserve a s g n) = false
 ends account session group (Debit a s g n) = is_same account session group a s g
-ends account session group (Release a s g) = is_same account session group a s g
-ends account session group (Charge a n) = false
-ends account session group (Refund a n) = false
+ends account session group (Release a s) = (a == account) && (s == session)
+ends account session group op = false
 
--- what was reserved by a Reserve of this account, session and group
-abbrev pub reserved_for : ℕ → ℕ → ℕ → Booked → ℕ
-reserved_for account session group b = of b.op
+-- what was reserved by a Reserve whose account, session and group pass the test
+abbrev pub reserved_where : (ℕ → ℕ → ℕ → Bool) → Booked → ℕ
+reserved_where test b = of b.op
   where
     of : Op → ℕ
-    of (Reserve a s g n) = if is_same account session group a s g then amount_of b.outcome else 0
-    of (Debit a s g n) = 0
-    of (Release a s g) = 0
-    of (Charge a n) = 0
-    of (Refund a n) = 0
+    of (Reserve a s g n) = if test a s g then amount_of b.outcome else 0
+    of op = 0
 
--- a reservation: the sum of the Reserve amounts of this account, session and group after their last Debit or Release
+-- a reservation: the sum of the Reserve amounts of this account, session and group after the last Debit or Release that ends it
 unfoldable pub own : ℕ → ℕ → ℕ → List Booked → ℕ
 own account session group journal =
-    sum_by (reserved_for account session group) (after_last (λ b. ends account session group b.op) journal)
+    sum_by (reserved_where (is_same account session group)) (after_last (λ b. ends account session group b.op) journal)
 
--- whether a later Debit or Release of the same account, session and group ends what the operation reserved
+-- whether a later Debit or Release ends what the operation reserved
 abbrev pub is_ended : Op → List Booked → Bool
 is_ended (Reserve a s g n) later = list_any (λ b. ends a s g b.op) later
-is_ended (Debit a s g n) later = false
-is_ended (Release a s g) later = false
-is_ended (Charge a n) later = false
-is_ended (Refund a n) later = false
+is_ended op later = false
 
--- what was reserved by a Reserve on the account, for whatever session and group
-abbrev pub reserved_by : ℕ → Booked → ℕ
-reserved_by account b = of b.op
-  where
-    of : Op → ℕ
-    of (Reserve a s g n) = if a == account then amount_of b.outcome else 0
-    of (Debit a s g n) = 0
-    of (Release a s g) = 0
-    of (Charge a n) = 0
-    of (Refund a n) = 0
+-- the reservations that pass the test: the Reserve amounts that no later Debit or Release ends
+unfoldable pub left_where : (ℕ → ℕ → ℕ → Bool) → List Booked → ℕ
+left_where test [] = 0
+left_where test (b ∷ later) = (if is_ended b.op later then 0 else reserved_where test b) + left_where test later
 
--- all reservations on the account: the Reserve amounts that no later Debit or Release of their session and group ends
-unfoldable pub reserved : ℕ → List Booked → ℕ
-reserved account [] = 0
-reserved account (b ∷ later) = (if is_ended b.op later then 0 else reserved_by account b) + reserved account later
+-- all reservations on the account
+abbrev pub reserved : ℕ → List Booked → ℕ
+reserved account journal = left_where (λ a s g. a == account) journal
+
+-- all reservations of the session, whatever their group
+abbrev pub own_all : ℕ → ℕ → List Booked → ℕ
+own_all account session journal = left_where (λ a s g. (a == account) && (s == session)) journal
 
 -- what was paid by a Debit or a Charge of the account
 abbrev pub paid_by : ℕ → Booked → ℕ
 paid_by account b = of b.op
   where
     of : Op → ℕ
-    of (Reserve a s g n) = 0
     of (Debit a s g n) = if a == account then amount_of b.outcome else 0
-    of (Release a s g) = 0
     of (Charge a n) = if a == account then amount_of b.outcome else 0
-    of (Refund a n) = 0
+    of op = 0
 
 -- what was given back by a Refund of the account
 abbrev pub refunded_by : ℕ → Booked → ℕ
 refunded_by account b = of b.op
   where
     of : Op → ℕ
-    of (Reserve a s g n) = 0
-    of (Debit a s g n) = 0
-    of (Release a s g) = 0
-    of (Charge a n) = 0
     of (Refund a n) = if a == account then amount_of b.outcome else 0
+    of op = 0
 
 -- the sum of the account's Debit and Charge amounts less its Refund amounts
 unfoldable pub debited : ℕ → List Booked → ℕ
@@ -108,11 +92,8 @@ abbrev pub unpaid_by : ℕ → Booked → ℕ
 unpaid_by account b = of b.op
   where
     of : Op → ℕ
-    of (Reserve a s g n) = 0
     of (Debit a s g n) = if a == account then unpaid_of b.outcome else 0
-    of (Release a s g) = 0
-    of (Charge a n) = 0
-    of (Refund a n) = 0
+    of op = 0
 
 -- the sum of the second amounts of the account's Debits
 unfoldable pub unpaid : ℕ → List Booked → ℕ

@@ -1,7 +1,4 @@
 //! Whose reservation an operation is on.
-ghost use Rattle.std.specs.Prelude.{◌≡◌};
-
-use crate::op::Op;
 
 /// Who holds a reservation: a session and group, on an account.
 #[derive(Clone, Copy, Debug, PartialEq, Eq, Hash)]
@@ -11,36 +8,24 @@ pub(crate) struct Holder {
     pub(crate) group: u64,
 }
 
-impl Holder {
-    ghost use Rattle.acct_book.specs.Kept.{holder_of};
+/// A session on an account, with all its groups.
+#[derive(Clone, Copy, Debug, PartialEq, Eq, Hash)]
+pub(crate) struct Session {
+    pub(crate) account: u64,
+    pub(crate) session: u64,
+}
 
-    /// Whose reservation the operation is on. A Charge and a Refund are on none.
-    pub(crate) fn of(op: &Op) -> Option<Holder>
-        ensures { result ≡ holder_of op.now }
+impl Holder {
+    ghost use Rattle.std.specs.Prelude.{◌≡◌};
+    ghost use Rattle.acct_book.specs.Stored.{session_of};
+
+    /// The session, with all its groups.
+    pub(crate) fn session(&self) -> Session
+        ensures { result ≡ session_of self.now }
     {
-        match *op {
-            Op::Reserve {
-                account,
-                session,
-                group,
-                ..
-            }
-            | Op::Debit {
-                account,
-                session,
-                group,
-                ..
-            }
-            | Op::Release {
-                account,
-                session,
-                group,
-            } => Some(Holder {
-                account,
-                session,
-                group,
-            }),
-            Op::Charge { .. } | Op::Refund { .. } => None,
+        Session {
+            account: self.account,
+            session: self.session,
         }
     }
 }

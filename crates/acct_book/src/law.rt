@@ -1,5 +1,5 @@
 //! Laws of the book, over every journal: what no single call says.
-ghost use Rattle.acct_book.specs.Laws.{AnsweredNeverOver, ReservedIsSumOfOwn};
+ghost use Rattle.acct_book.specs.Laws.{AnsweredNeverOver, ReservedIsSumOfOwn, SessionIsSumOfOwn};
 
 /// Where each outcome of a journal is the one that the book allows after those before it, no more is reserved and debited of an
 /// account than was given.
@@ -10,4 +10,9 @@ pub fn answered_is_never_over()
 /// What is reserved on an account is the sum of its reservations over all sessions and groups.
 pub fn reserved_is_sum_of_own()
     ensures { ReservedIsSumOfOwn }
+{}
+
+/// What is reserved in a session, which a Release ends, is the sum of its reservations over all groups.
+pub fn session_is_sum_of_own()
+    ensures { SessionIsSumOfOwn }
 {}

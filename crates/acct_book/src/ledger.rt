@@ -1,16 +1,16 @@
 //! What a page keeps beside its journal, so that no answer has to read the journal.
-ghost use Rattle.std.specs.Prelude.{◌≡◌, ◌≤◌, ◌<◌, ◌+◌, ◌^◌, ℕ, ◌⊎◌, false, if◌then◌else◌};
-ghost use Rattle.std.specs.Prelude.{[], length, fold, count_by, nat_eq, vec_len};
-ghost use Rattle.std.specs.Prelude.{OnOk, OnErr, IfErr, IsSome, IsTrue};
-ghost use Rattle.indexmap.specs.IndexMap.{spare, get};
+ghost use Rattle.std.specs.Prelude.{◌≡◌, ◌≤◌, ◌<◌, ◌+◌, ◌-◌, ◌^◌, ℕ};
+ghost use Rattle.std.specs.Prelude.{[], length, fold, nat_eq};
+ghost use Rattle.std.specs.Prelude.{OnOk, OnErr, IfErr};
+ghost use Rattle.indexmap.specs.IndexMap.{get};
 ghost use Rattle.acct_book.specs.Book.{refusal_at};
 
 use crate::answer::Totals;
 use crate::error::{NoMemory, OpenError};
-use crate::holder::Holder;
+use crate::holder::{Holder, Session};
+use crate::holds::{Before, Holds};
 use crate::limit::{MAX_ACCOUNTS, MAX_GIVEN};
 use crate::op::{Booked, Op, Outcome};
-use crate::settle::held_then;
 use base_list::AddFault;
 use indexmap::IndexMap;
 use std::alloc::Global;
@@ -30,31 +30,47 @@ fn refusal(is_open: bool, given: u64, accounts: usize) -> Option<OpenError>
     }
 }
 
-/// The running totals by account, in the order of opening, the reservations, and the journal.
-#[derive(Drop)]
+/// The running totals by account, in the order of opening, the reservations, and the journal with what its operations wrote over.
 pub(crate) struct Ledger {
     pub(crate) accounts: IndexMap<u64, Totals>,
-    pub(crate) reservations: IndexMap<Holder, u64>,
+    pub(crate) holds: Holds,
     pub(crate) journal: Vec<Booked>,
+    pub(crate) befores: Vec<Option<Before>>,
+    // So many operations can be booked without memory.
+    pub(crate) room: usize,
+}
+
+impl Drop for Ledger {
+    fn drop(self) {
+        let Ledger {
+            accounts: _,
+            holds: _,
+            journal: _,
+            befores: _,
+            room: _,
+        } = self;
+    }
 }
 
 impl Ledger {
-    ghost use Rattle.acct_book.specs.declared.holder.Holder.{Holder};
-    ghost use Rattle.acct_book.specs.Book.{after, outcome_of, outcome_at, opened, refusal_of};
+    ghost use Rattle.acct_book.specs.Book.{after, outcome_of, outcome_at, opened, refusal_of, taken_back};
     ghost use Rattle.acct_book.specs.Sums.{account_of, unpaid_of};
-    ghost use Rattle.acct_book.specs.Kept.{IsSound, holder_of, is_reserve};
-    ghost use Rattle.acct_book.specs.Ledger.{held, held_on, is_on, holder_eq, book_of};
-    ghost use Rattle.acct_book.specs.Ledger.{IsKept, HasRoom, Settles};
+    ghost use Rattle.acct_book.specs.Kept.{IsSound, IsLeft};
+    ghost use Rattle.acct_book.specs.Stored.{stored_of, undone, CanCarryOut, IsPlaced};
+    ghost use Rattle.acct_book.specs.Ledger.{held_on, book_of, kept, IsKept, IsMarked, HasRoom, Settles, Unsettles};
 
     /// A ledger without accounts, which has taken no memory yet.
     pub(crate) fn new(alloc: Global) -> Ledger
         ensures book { book_of result ≡ record { accounts = []; journal = [] } }
+        ensures room { result.room ≡ 0 }
         ensures kept { IsKept result }
     {
         Ledger {
             accounts: IndexMap::new(alloc),
-            reservations: IndexMap::new(alloc),
+            holds: Holds::new(alloc),
             journal: Vec::new(alloc),
+            befores: Vec::new(alloc),
+            room: 0,
         }
     }
 
@@ -79,6 +95,7 @@ impl Ledger {
         requires fresh { get nat_eq self.old.accounts account ≡ None }
         requires small { given ≤ MAX_GIVEN }
         ensures ok { OnOk result (book_of self.new ≡ opened (book_of self.old) account given) }
+        ensures room { self.new.room ≡ self.old.room }
         ensures kept { IsKept self.old → IsKept self.new }
         ensures err { OnErr result (book_of self.new ≡ book_of self.old) }
         ensures fault { IfErr result (λ e. e ≡ OpenError.NoMemory) }
@@ -93,125 +110,137 @@ impl Ledger {
         Ok(())
     }
 
-    /// What is reserved for a holder.
-    pub(crate) fn held_by(&self, holder: Holder) -> u64
-        ensures { result ≡ held self.now.reservations holder }
-    {
-        self.reservations.get(&holder).copied().unwrap_or(0)
-    }
-
-    // Writes a holder's reservation. One that ends keeps its place, so that only a Reserve takes room.
-    fn hold(&mut self, holder: Holder, amount: u64)
-        requires { (0 < spare self.old.reservations) ⊎ (amount ≡ 0) }
-        ensures held { (other : Holder) → held self.new.reservations other
-            ≡ (if holder_eq holder other then amount else held self.old.reservations other) }
-        ensures accounts { self.new.accounts ≡ self.old.accounts }
-        ensures journal { self.new.journal ≡ self.old.journal }
-        ensures room { spare self.old.reservations ≤ spare self.new.reservations + 1 }
-        ensures same_room { amount ≡ 0 → spare self.old.reservations ≤ spare self.new.reservations }
-    {
-        if amount > 0 {
-            self.reservations.insert(holder, amount).unwrap();
-        } else if let Some(held) = self.reservations.get_mut(&holder) {
-            *held = 0;
-        }
-    }
-
-    /// Makes room for so many more entries of the journal and reservations.
-    pub(crate) fn make_room(&mut self, entries: usize, reservations: usize) -> Result<(), NoMemory>
-        ensures room { OnOk result (HasRoom self.new entries reservations) }
+    /// Makes room for so many more operations.
+    pub(crate) fn make_room(&mut self, n: usize) -> Result<(), NoMemory>
+        ensures ok { OnOk result (HasRoom self.new n) }
         ensures book { book_of self.new ≡ book_of self.old }
+        ensures room { self.new.room ≡ self.old.room }
         ensures kept { IsKept self.old → IsKept self.new }
     {
-        self.journal.reserve(entries)?;
-        self.reservations.reserve(reservations)?;
+        self.journal.reserve(n)?;
+        self.befores.reserve(n)?;
+        self.holds.make_room(n)?;
         Ok(())
     }
 
-    // Carries an operation out in the totals and reservations, and answers its outcome.
-    fn settle(&mut self, op: Op) -> Outcome
+    // Carries an operation out in the totals and reservations, and answers its outcome with what it wrote over.
+    fn settle(&mut self, op: Op) -> (Outcome, Option<Before>)
         requires kept { IsKept self.old }
-        requires room { IsTrue (is_reserve op) → 0 < spare self.old.reservations }
-        requires few { vec_len self.old.journal < 2 ^ 63 }
-        ensures outcome { result ≡ outcome_of (book_of self.old) op }
-        ensures fits { unpaid_of result ≤ 2 ^ 64 }
-        ensures settles { Settles self.old op result self.new }
+        requires room { HasRoom self.old 1 }
+        requires few { length self.old.journal.items < 2 ^ 63 }
+        ensures outcome { result.0 ≡ outcome_of (book_of self.old) op }
+        ensures fits { unpaid_of result.0 ≤ 2 ^ 64 }
+        ensures settles { Settles self.old op result.0 result.1 self.new }
     {
         match self.totals(op.account()) {
             Some(totals) => self.settle_open(totals, op),
-            None => Outcome::Refused,
+            None => (Outcome::Refused, None),
         }
     }
 
     // The same, for an account that is open and has these totals.
-    fn settle_open(&mut self, totals: Totals, op: Op) -> Outcome
+    fn settle_open(&mut self, totals: Totals, op: Op) -> (Outcome, Option<Before>)
         requires open { get nat_eq self.old.accounts (account_of op) ≡ Some totals }
-        requires sound { IsSound totals (held_on self.old.reservations op) }
+        requires sound { IsSound totals (held_on (stored_of self.old.holds) op) }
         requires few { totals.unpaid + 2 ^ 64 ≤ 2 ^ 128 }
-        requires room { IsTrue (is_reserve op) → 0 < spare self.old.reservations }
-        ensures outcome { result ≡ outcome_at totals (held_on self.old.reservations op) op }
-        ensures fits { unpaid_of result ≤ 2 ^ 64 }
-        ensures settles { Settles self.old op result self.new }
+        requires room { HasRoom self.old 1 }
+        requires placed { IsPlaced self.old.holds }
+        requires can { CanCarryOut (stored_of self.old.holds) op (outcome_at totals (held_on (stored_of self.old.holds) op) op) }
+        ensures outcome { result.0 ≡ outcome_at totals (held_on (stored_of self.old.holds) op) op }
+        ensures fits { unpaid_of result.0 ≤ 2 ^ 64 }
+        ensures settles { Settles self.old op result.0 result.1 self.new }
     {
         let held = self.held_on(op);
         let outcome = totals.outcome(held, op);
         self.accounts
             .insert(op.account(), totals.after(held, op, outcome))
             .unwrap();
-        self.hold_on(op, held_then(held, op, outcome));
-        outcome
+        let before = self.holds.carry_out(op, outcome);
+        (outcome, before)
     }
 
-    // The reservation that an operation is on, 0 where it is on none.
+    // The reservation that an operation is on, or those of all groups where it is on a session.
     fn held_on(&self, op: Op) -> u64
-        ensures { result ≡ held_on self.now.reservations op }
+        ensures { result ≡ held_on (stored_of self.now.holds) op }
     {
-        match Holder::of(&op) {
-            Some(holder) => self.held_by(holder),
-            None => 0,
-        }
-    }
-
-    // Writes the reservation that an operation is on.
-    fn hold_on(&mut self, op: Op, amount: u64)
-        requires room { IsTrue (is_reserve op) → 0 < spare self.old.reservations }
-        requires ended { (is_reserve op ≡ false) → IsSome (holder_of op) → amount ≡ 0 }
-        ensures held { (other : Holder) → held self.new.reservations other
-            ≡ (if is_on op other then amount else held self.old.reservations other) }
-        ensures accounts { self.new.accounts ≡ self.old.accounts }
-        ensures journal { self.new.journal ≡ self.old.journal }
-        ensures room { spare self.old.reservations
-            ≤ spare self.new.reservations + (if is_reserve op then 1 else 0) }
-    {
-        if let Some(holder) = Holder::of(&op) {
-            self.hold(holder, amount);
+        match op {
+            Op::Reserve {
+                account,
+                session,
+                group,
+                ..
+            }
+            | Op::Debit {
+                account,
+                session,
+                group,
+                ..
+            } => self.holds.standing(Holder {
+                account,
+                session,
+                group,
+            }),
+            Op::Release { account, session } => self.holds.total(Session { account, session }),
+            Op::Charge { .. } | Op::Refund { .. } => 0,
         }
     }
 
     /// Books an operation, for which there is room.
     pub(crate) fn book(&mut self, op: Op) -> Outcome
         requires kept { IsKept self.old }
-        requires room { HasRoom self.old 1 (if is_reserve op then 1 else 0) }
+        requires room { HasRoom self.old 1 }
         ensures outcome { result ≡ outcome_of (book_of self.old) op }
         ensures book { book_of self.new ≡ after (book_of self.old) op }
         ensures kept { IsKept self.new }
-        ensures room { (n r : ℕ) → HasRoom self.old (n + 1) (r + (if is_reserve op then 1 else 0))
-            → HasRoom self.new n r }
+        ensures room { (n : ℕ) → HasRoom self.old (n + 1) → HasRoom self.new n }
+        ensures left { self.new.room ≡ self.old.room - 1 }
     {
-        let outcome = self.settle(op);
+        let (outcome, before) = self.settle(op);
         self.journal.push(Booked { op, outcome }).unwrap();
+        self.befores.push(before).unwrap();
+        self.room = self.room.saturating_sub(1);
         outcome
     }
 
     /// Books operations in their order, for which there is room.
     pub(crate) fn book_all(&mut self, ops: &[Op])
         requires kept { IsKept self.old }
-        requires room { HasRoom self.old (length ops.now) (count_by is_reserve ops.now) }
+        requires room { HasRoom self.old (length ops.now) }
         ensures book { book_of self.new ≡ fold after (book_of self.old) ops.now }
         ensures kept { IsKept self.new }
+        ensures left { self.new.room ≡ self.old.room - length ops.now }
     {
         for op in ops {
             self.book(*op);
+        }
+    }
+
+    /// Takes the last operation back, if there is one. Takes no memory.
+    pub(crate) fn take_back(&mut self)
+        requires kept { IsKept self.old }
+        ensures book { book_of self.new ≡ taken_back (book_of self.old) }
+        ensures room { self.new.room ≡ self.old.room }
+        ensures kept { IsKept self.new }
+    {
+        let Some(Booked { op, outcome }) = self.journal.pop() else {
+            return;
+        };
+        let before = self.befores.pop().unwrap_or(None);
+        self.unsettle(op, outcome, before);
+    }
+
+    // Undoes the last operation in the totals and reservations.
+    fn unsettle(&mut self, op: Op, outcome: Outcome, before: Option<Before>)
+        requires placed { IsPlaced self.old.holds }
+        requires marked { IsMarked (stored_of self.old.holds) op before }
+        requires left { IsLeft (kept self.old.accounts (account_of op)) (held_on (undone (stored_of self.old.holds) op before) op) op outcome }
+        ensures unsettles { Unsettles self.old op outcome before self.new }
+    {
+        self.holds.put_back(op, before);
+        let held = self.held_on(op);
+        if let Some(totals) = self.totals(op.account()) {
+            let before = totals.before(held, op, outcome);
+            self.accounts.insert(op.account(), before).unwrap();
         }
     }
 }

@@ -1,7 +1,6 @@
 //! What may be asked of the book, and what it answers.
 ghost use Rattle.std.specs.Prelude.{◌≡◌};
-ghost use Rattle.acct_book.specs.Sums.{account_of, amount_of};
-ghost use Rattle.acct_book.specs.Kept.{is_reserve};
+ghost use Rattle.acct_book.specs.Sums.{account_of, amount_of, unpaid_of};
 
 /// An operation on an account. A `session` is the number of a Session-Id (RFC 6733 section 8.8), a `group` that of a Rating-Group
 /// (RFC 8506 section 8.29) or 0, and the amounts are service units (RFC 8506 sections 8.17 to 8.19).
@@ -21,11 +20,10 @@ pub enum Op {
         group: u64,
         used: u64,
     },
-    /// Ends a reservation and pays nothing.
+    /// Ends the reservations of all groups of a session and pays nothing.
     Release {
         account: u64,
         session: u64,
-        group: u64,
     },
     /// Pays units without a reservation (RFC 8506 section 6.3).
     Charge {
@@ -52,13 +50,6 @@ impl Op {
             | Op::Refund { account, .. } => account,
         }
     }
-
-    /// Whether it is a Reserve.
-    pub(crate) fn is_reserve(&self) -> bool
-        ensures { result ≡ is_reserve self.now }
-    {
-        matches!(self, Op::Reserve { .. })
-    }
 }
 
 /// What became of an operation.
@@ -77,6 +68,16 @@ impl Outcome {
     {
         match *self {
             Outcome::Done { amount, .. } => amount,
+            Outcome::Refused => 0,
+        }
+    }
+
+    /// The used units that could not be paid.
+    pub fn unpaid(&self) -> u64
+        ensures { result ≡ unpaid_of self.now }
+    {
+        match *self {
+            Outcome::Done { unpaid, .. } => unpaid,
             Outcome::Refused => 0,
         }
     }

@@ -3,7 +3,7 @@ ghost use Rattle.std.specs.Prelude.{◌≡◌, ◌≤◌, ◌<◌, ◌+◌, ◌^
 ghost use Rattle.acct_book.specs.declared.op.Outcome.TheVariants.{Done, Refused};
 ghost use Rattle.acct_book.specs.Sums.{unpaid_of};
 ghost use Rattle.acct_book.specs.Book.{free_of, quote_at, outcome_at};
-ghost use Rattle.acct_book.specs.Kept.{IsSound, totals_after, held_after};
+ghost use Rattle.acct_book.specs.Kept.{IsSound, totals_after, totals_before, IsLeft};
 
 use crate::answer::{Quote, Totals};
 use crate::op::{Op, Outcome};
@@ -115,18 +115,36 @@ impl Totals {
             },
         }
     }
-}
 
-/// The reservation that the operation leaves, of `held` before.
-pub(crate) fn held_then(held: u64, op: Op, outcome: Outcome) -> u64
-    requires { held_after held op outcome < 2 ^ 64 }
-    ensures { result ≡ held_after held op outcome }
-{
-    match op {
-        Op::Reserve { .. } => held + outcome.amount(),
-        Op::Debit { .. } => 0,
-        Op::Release { .. } => 0,
-        Op::Charge { .. } => held,
-        Op::Refund { .. } => held,
+    /// The totals before the operation that left these.
+    pub(crate) fn before(&self, held: u64, op: Op, outcome: Outcome) -> Totals
+        requires { IsLeft self.now held op outcome }
+        ensures { result ≡ totals_before self.now held op outcome }
+    {
+        let moved = outcome.amount();
+        match op {
+            Op::Reserve { .. } => Totals {
+                reserved: self.reserved - moved,
+                ..*self
+            },
+            Op::Debit { .. } => Totals {
+                reserved: self.reserved + held,
+                debited: self.debited - moved,
+                unpaid: self.unpaid - u128::from(outcome.unpaid()),
+                ..*self
+            },
+            Op::Release { .. } => Totals {
+                reserved: self.reserved + held,
+                ..*self
+            },
+            Op::Charge { .. } => Totals {
+                debited: self.debited - moved,
+                ..*self
+            },
+            Op::Refund { .. } => Totals {
+                debited: self.debited + moved,
+                ..*self
+            },
+        }
     }
 }

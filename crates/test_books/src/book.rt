@@ -36,11 +36,28 @@ fn debit(session: u64, used: u64) -> Op {
     }
 }
 
+fn reserve_in(group: u64, amount: u64) -> Op {
+    Op::Reserve {
+        account: ACCOUNT,
+        session: FIRST,
+        group,
+        amount,
+    }
+}
+
+fn debit_in(group: u64, used: u64) -> Op {
+    Op::Debit {
+        account: ACCOUNT,
+        session: FIRST,
+        group,
+        used,
+    }
+}
+
 fn release(session: u64) -> Op {
     Op::Release {
         account: ACCOUNT,
         session,
-        group: 0,
     }
 }
 
@@ -111,11 +128,22 @@ fn sums_to(page: &Page, (given, reserved, debited, unpaid): (u64, u64, u64, u128
         })
 }
 
+/// What opening an account answers, where its number is one of the page's.
+fn opens_one(page: &mut Page, id: u64, given: u64) -> Option<Result<(), OpenError>> {
+    let (number, pages) = page.number();
+    if id >= 1 && pages >= 1 && id % pages == number {
+        Some(page.open_account(id, given))
+    } else {
+        None
+    }
+}
+
 /// Whether accounts, one after the other, are opened or refused like this.
 fn opens(page: &mut Page, rows: &[(u64, u64, Result<(), OpenError>)]) -> bool {
-    let mut all = true;
+    let (number, pages) = page.number();
+    let mut all = number == 0 && pages == 1;
     for (id, given, outcome) in rows {
-        all = all && *id >= 1 && page.open_account(*id, *given) == *outcome;
+        all = all && opens_one(page, *id, *given) == Some(*outcome);
     }
     all
 }
@@ -124,7 +152,7 @@ fn opens(page: &mut Page, rows: &[(u64, u64, Result<(), OpenError>)]) -> bool {
 fn fills(page: &mut Page) -> bool {
     let mut all = true;
     for id in 102..1124 {
-        all = all && page.open_account(id, 1) == Ok(());
+        all = all && opens_one(page, id, 1) == Some(Ok(()));
     }
     all
 }
@@ -274,4 +302,101 @@ fn an_account_is_opened_once(rt: HostRuntime) {
     ];
     assert!(rt; opens(&mut page, &full));
     assert!(rt; format!(in rt.alloc(); "{}", OpenError::Add(AddFault::Full)).is_ok());
+}
+
+#[test]
+fn a_release_ends_all_groups_of_its_session(rt: HostRuntime) {
+    let mut page = page_with(rt.alloc(), 100).expect(&rt, "memory");
+    let rows = [
+        (reserve_in(1, 10), done(10)),
+        (reserve_in(2, 20), done(20)),
+        (reserve_in(4_294_967_297, 30), done(30)),
+        (reserve(SECOND, 5), done(5)),
+        (release(FIRST), done(60)),
+        (release(FIRST), done(0)),
+        (reserve_in(2, 7), done(7)),
+        (release(FIRST), done(7)),
+    ];
+    assert!(rt; applies(&mut page, &rows));
+    assert!(rt; sums_to(&page, (100, 5, 0, 0)));
+}
+
+#[test]
+fn two_groups_of_a_session(rt: HostRuntime) {
+    let mut page = page_with(rt.alloc(), 100).expect(&rt, "memory");
+    let first = [(reserve_in(3, 70), done(70)), (reserve_in(4, 30), done(30))];
+    assert!(rt; applies(&mut page, &first));
+    assert!(rt; sums_to(&page, (100, 100, 0, 0)));
+    let update = [
+        (debit_in(3, 80), in_part(70, 10)),
+        (debit_in(4, 10), done(10)),
+        (reserve_in(4, 10), done(10)),
+    ];
+    assert!(rt; applies(&mut page, &update));
+    assert!(rt; sums_to(&page, (100, 10, 80, 10)));
+    assert!(rt; applies(&mut page, &[(release(FIRST), done(10))]));
+    assert!(rt; sums_to(&page, (100, 0, 80, 10)));
+}
+
+/// Whether taking the last operation back leaves these sums.
+fn takes_back(page: &mut Page, sums: (u64, u64, u64, u128)) -> bool {
+    if page.journal().is_empty() {
+        return false;
+    }
+    page.take_back();
+    sums_to(page, sums)
+}
+
+#[test]
+fn a_release_of_five_groups_is_taken_back(rt: HostRuntime) {
+    let mut page = page_with(rt.alloc(), 100).expect(&rt, "memory");
+    let rows = [
+        (reserve_in(1, 1), done(1)),
+        (reserve_in(2, 2), done(2)),
+        (reserve_in(3, 3), done(3)),
+        (reserve_in(4, 4), done(4)),
+        (reserve_in(5, 5), done(5)),
+        (release(FIRST), done(15)),
+        (reserve_in(3, 50), done(50)),
+    ];
+    assert!(rt; applies(&mut page, &rows));
+    assert!(rt; takes_back(&mut page, (100, 0, 0, 0)));
+    assert!(rt; takes_back(&mut page, (100, 15, 0, 0)));
+    let after = [(debit_in(3, 3), done(3)), (release(FIRST), done(12))];
+    assert!(rt; applies(&mut page, &after));
+}
+
+#[test]
+fn each_operation_is_taken_back(rt: HostRuntime) {
+    let mut page = page_with(rt.alloc(), 100).expect(&rt, "memory");
+    let refund = Op::Refund {
+        account: ACCOUNT,
+        amount: 5,
+    };
+    let rows = [
+        (reserve(FIRST, 60), done(60)),
+        (debit(FIRST, 120), in_part(100, 20)),
+        (refund, done(5)),
+        (charge(ACCOUNT, 2), done(2)),
+        (charge(ACCOUNT, 4), Outcome::Refused),
+        (charge(7, 1), Outcome::Refused),
+    ];
+    assert!(rt; applies(&mut page, &rows));
+    assert!(rt; takes_back(&mut page, (100, 0, 97, 20)));
+    assert!(rt; takes_back(&mut page, (100, 0, 97, 20)));
+    assert!(rt; takes_back(&mut page, (100, 0, 95, 20)));
+    assert!(rt; takes_back(&mut page, (100, 0, 100, 20)));
+    assert!(rt; takes_back(&mut page, (100, 60, 0, 0)));
+    assert!(rt; takes_back(&mut page, (100, 0, 0, 0)));
+    assert!(rt; page.journal().is_empty());
+}
+
+#[test]
+fn a_page_has_its_number_and_room(rt: HostRuntime) {
+    let mut page = Page::numbered(rt.alloc(), 3, 8);
+    assert!(rt; page.number() == (3, 8));
+    assert!(rt; page.reserve_room(4) == Ok(()));
+    assert!(rt; opens_one(&mut page, 18_446_744_073_709_551_611, 9) == Some(Ok(())));
+    assert!(rt; page.apply(charge(18_446_744_073_709_551_611, 9)) == Ok(done(9)));
+    assert!(rt; Page::new(rt.alloc()).number() == (0, 1));
 }

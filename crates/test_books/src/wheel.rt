@@ -34,8 +34,10 @@ fn due_timers_fire_by_moment_and_then_owner(rt: HostRuntime) {
     let mut wheel = Wheel::new(rt.alloc());
     assert!(rt; arms(&mut wheel, &[(5, 1, 10), (3, 1, 10), (9, 1, 7)]));
     wheel.disarm(9);
+    assert!(rt; (wheel.due_at(9), wheel.due_at(10)) == (0, 2));
     assert!(rt; fires(&mut wheel, 9, &[]));
     assert!(rt; fires(&mut wheel, 10, &[(10, 3, 1), (10, 5, 1)]));
+    assert!(rt; wheel.due_at(u64::MAX) == 0);
     assert!(rt; wheel.armed(3).is_none());
     assert!(rt; fires(&mut wheel, 11, &[]));
 }
@@ -83,4 +85,27 @@ fn an_owner_gets_back_the_timer_that_it_had(rt: HostRuntime) {
     assert!(rt; wheel.has_place(4));
     wheel.restore(4, None);
     assert!(rt; wheel.armed(4).is_none());
+}
+
+#[test]
+fn the_largest_owners_are_armed(rt: HostRuntime) {
+    let mut wheel = Wheel::new(rt.alloc());
+    let rows = [(65_535, 1, 3), (u64::MAX, u64::MAX, 3), (0, 0, 4)];
+    assert!(rt; arms(&mut wheel, &rows));
+    assert!(rt; (wheel.due_at(3), wheel.due_at(4)) == (2, 3));
+    let due = [(3, 65_535, 1), (3, u64::MAX, u64::MAX)];
+    assert!(rt; fires(&mut wheel, 3, &due));
+    assert!(rt; fires(&mut wheel, 4, &[(4, 0, 0)]));
+}
+
+#[test]
+fn a_first_arm_is_undone(rt: HostRuntime) {
+    let mut wheel = Wheel::new(rt.alloc());
+    let had = wheel.armed(65_535);
+    assert!(rt; arms(&mut wheel, &[(65_535, 1, 30)]));
+    assert!(rt; wheel.has_place(65_535));
+    wheel.restore(65_535, had);
+    assert!(rt; wheel.armed(65_535).is_none());
+    assert!(rt; wheel.due_at(30) == 0);
+    assert!(rt; fires(&mut wheel, 30, &[]));
 }

@@ -119,7 +119,7 @@ firings_of-due now places distinct f = (into, back)
         into_firings_of now places f due.1 (Contains-from_lookup same_number f.owner (Some (timer_of f)) places found)
 
 -- the owners of firings
-abbrev owners_of : List Firing → List ℕ
+abbrev pub owners_of : List Firing → List ℕ
 owners_of fs = map (λ f. f.owner) fs
 
 -- what holds of each owner holds of those that fire
@@ -135,7 +135,7 @@ owners_of-firings_of P now (place ∷ places) all =
     by (Some f) is rest = (subst P (ap (λ p. p.0) (firing_of-some now place f is).0) all.0, rest)
 
 -- each owner fires once
-IsDistinct-firings_of : (now : ℕ) (places : List Place) → IsDistinct nat_eq (keys_of places)
+pub IsDistinct-firings_of : (now : ℕ) (places : List Place) → IsDistinct nat_eq (keys_of places)
     → IsDistinct nat_eq (owners_of (firings_of now places))
 IsDistinct-firings_of now [] distinct = distinct
 IsDistinct-firings_of now (place ∷ places) distinct =

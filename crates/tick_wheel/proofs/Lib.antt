@@ -2,3 +2,4 @@ pub mod CallerLemmas
 pub mod DueLemmas
 pub mod OrderLemmas
 pub mod PlaceLemmas
+pub mod CountLemmas

@@ -92,11 +92,11 @@ module _ {X : Type 0} where
   head_pairs R x y xs pairs (k, inside, is) = subst (R x) is (pairs 0 (suc k) y (omega arith) (omega arith))
 
   -- and the others to each other
-  rest_pairs : (R : X → X → Type 0) (x : X) (xs : List X) → AllPairs R (x ∷ xs) → AllPairs R xs
+  pub rest_pairs : (R : X → X → Type 0) (x : X) (xs : List X) → AllPairs R (x ∷ xs) → AllPairs R xs
   rest_pairs R x xs pairs i j d before inside = pairs (suc i) (suc j) d (omega arith) (omega arith)
 
 -- the head of a list in order is none of the others
-not_again : (x f : Firing) (xs : List Firing) → AllPairs ComesBefore (x ∷ xs) → Contains xs f → x ≡ f → ⊥
+pub not_again : (x f : Firing) (xs : List Firing) → AllPairs ComesBefore (x ∷ xs) → Contains xs f → x ≡ f → ⊥
 not_again x f xs ordered there same =
     let itself : ComesBefore f f = subst (λ z. ComesBefore z f) same (head_pairs ComesBefore x f xs ordered there) in
     one_way f f itself itself

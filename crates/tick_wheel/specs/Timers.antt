@@ -49,6 +49,10 @@ with_timer_of old owner timer = record {
   places = old.places;
 }
 
+-- two wheels at one moment with the same timers armed, whoever has a place
+abbrev pub AreAlike : Timers → Timers → Type 0
+AreAlike x y = (x.moment ≡ y.moment) × (x.armed ≡ y.armed)
+
 -- the wheel after an arm: the owner has this timer alone, and a place
 abbrev pub after_arm : Timers → ℕ → ℕ → ℕ → Timers
 after_arm old owner generation ticks = record {

@@ -1,5 +1,5 @@
 //! The owners' places, as the wheel keeps them: an owner that was armed once has one for good.
-ghost use Rattle.std.specs.Prelude.{◌≡◌, ◌≢◌, [], IfOk, OnErr, nat_eq, true, IsPermutation, AllPairs};
+ghost use Rattle.std.specs.Prelude.{◌≡◌, ◌≢◌, [], IfOk, OnErr, nat_eq, true, length, IsPermutation, AllPairs};
 ghost use Rattle.std.specs.Map.{set_value};
 ghost use Rattle.indexmap.specs.IndexMap.{IsUnique};
 ghost use Rattle.tick_wheel.specs.Places.{bound_with, firing_of, firings_of, later_due, next_due, places_at, left_at, NotAfter};
@@ -83,6 +83,20 @@ pub(crate) fn look(alloc: Global, places: &Places, now: u64) -> Result<Seen, All
         }
     }
     Ok(Seen { due, earliest })
+}
+
+/// How many timers are due.
+pub(crate) fn count_due(places: &Places, now: u64) -> usize
+    ensures count { result ≡ length (firings_of now places.now.entries) }
+    ensures unique { IsUnique nat_eq places.now }
+{
+    let mut count = 0;
+    for (owner, timer) in places {
+        if firing_of(*owner, *timer, now).is_some() {
+            count += 1;
+        }
+    }
+    count
 }
 
 /// Gives a place this timer, or none. Without a place of the owner nothing changes.

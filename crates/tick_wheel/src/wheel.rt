@@ -1,11 +1,12 @@
 //! The wheel.
-ghost use Rattle.std.specs.Prelude.{◌≡◌, ℕ, List, ◌≤◌, IsTrue, IsSome, OnOk, OnErr, IfOk, max};
+ghost use Rattle.std.specs.Prelude.{◌≡◌, ℕ, List, ◌≤◌, IsTrue, IsSome, OnOk, OnErr, IfOk, max, Option, length};
 ghost use Rattle.std.specs.FinMap as map;
 ghost use Rattle.std.specs.FinSet as set;
-ghost use Rattle.tick_wheel.specs.Timers.{at_start, after_arm, after_advance, with_timer_of, reached, IsDueFiring, AreFired};
+ghost use Rattle.tick_wheel.specs.Timers.{at_start, after_arm, after_advance, with_timer_of, reached, IsDueFiring, AreFired, AreAlike, Timers};
+ghost use Rattle.tick_wheel.specs.declared.timer.Armed.{Armed};
 ghost use Rattle.tick_wheel.specs.declared.timer.Firing.{Firing};
 
-use crate::places::{Places, Seen, bound_with, disarm_due, look, put, sort};
+use crate::places::{Places, Seen, bound_with, count_due, disarm_due, look, put, sort};
 use crate::{Armed, Firing};
 use indexmap::IndexMap;
 use std::alloc::{AllocError, Global};
@@ -101,13 +102,29 @@ impl Wheel {
         put(&mut self.places, owner, None);
     }
 
-    /// Gives the owner the timer that it had, or none, as `armed` told it. Takes no memory.
+    /// Gives the owner the timer that it had, or none, as `armed` told it. Takes no memory. An `arm` or `disarm` is undone by it: the
+    /// moment and the armed timers are as before, and the owner keeps its place.
     pub fn restore(&mut self, owner: u64, old: Option<Armed>)
         requires { IsTrue (set.contains self.old.places owner) }
-        ensures { self.new ≡ with_timer_of self.old owner old }
+        ensures restored { self.new ≡ with_timer_of self.old owner old }
+
+        // Where the last change gave the owner another timer, the wheel is as before that change.
+        ensures back { (before : Timers) (timer : Option Armed) → AreAlike self.old (with_timer_of before owner timer)
+            → old ≡ map.get before.armed owner → AreAlike self.new before }
     {
         self.earliest = bound_with(self.earliest, old);
         put(&mut self.places, owner, old);
+    }
+
+    /// How many timers `advance` would fire at a moment, so that a caller can make room for them first. Takes no memory.
+    pub fn due_at(&self, moment: u64) -> usize
+        ensures { (fired : List Firing) → AreFired self.now.armed (reached self.now moment) fired → result ≡ length fired }
+    {
+        let reached = moment.max(self.moment);
+        if self.earliest > reached {
+            return 0;
+        }
+        count_due(&self.places, reached)
     }
 
     /// Takes the clock to a moment, and disarms the timers that are due and answers them, by due moment and then owner. A moment

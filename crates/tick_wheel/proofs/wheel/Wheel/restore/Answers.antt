@@ -3,6 +3,7 @@ use Rattle.std.specs.FinSet as set
 use Rattle.std.specs.Map.{keys_of, lookup}
 use Rattle.tick_wheel.specs.Places.{armed_of, bound_with, NoneDueBefore}
 use Rattle.tick_wheel.specs.Timers.{with_timer, with_timer_of}
+use Rattle.tick_wheel.proofs.CallerLemmas.{with_timer-back}
 use Rattle.tick_wheel.proofs.PlaceLemmas.{armed_of-put, keys_of-set_value, contains-places, bound_with-allows, NoneDueBefore-with_timer}
 use Rattle.tick_wheel.proofs.wheel.Wheel.restore.Goals as goal
 
@@ -24,8 +25,15 @@ invariant_of-self c =
     (NoneDueBefore-with_timer (armed_of c.self.inside.places.entries) c.args.owner c.args.old earliest (bound_with earliest c.args.old) allows.0 c.self.invariant allows.1) in
     subst (λ n. NoneDueBefore n (armed_of c.put.new.places.entries)) (sym c.bound_with-self-inside.ensures) bounded
 
-pub returns : goal.returns
-returns c =
+pub returns-clause-restored : goal.returns-clause-restored
+returns-clause-restored c =
     let owners = ap keys_of c.put.ensures ∙ keys_of-set_value c.self.inside.places.entries c.args.owner c.args.old in
     (λ i. record { moment = c.self.inside.moment; armed = armed_is c i; places = set.from_list (owners i) })
     ∙ ap (λ w. with_timer_of w c.args.owner c.args.old) c.self.view_is
+
+-- what the change did to the timer is undone
+pub returns-clause-back : goal.returns-clause-back
+returns-clause-back c before timer changed had =
+    let new = ap (λ w. w.armed) (returns-clause-restored c) in
+    let moment = ap (λ w. w.moment) (returns-clause-restored c) in
+    (moment ∙ changed.0, new ∙ (λ i. with_timer (changed.1 i) c.args.owner (had i)) ∙ with_timer-back before.armed c.args.owner timer)
