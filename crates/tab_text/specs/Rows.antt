@@ -26,6 +26,15 @@ rows_in (header ∷ body) = filled [] (filter_map row_of (groups (columns_of hea
 abbrev pub rows_of : List ℕ → List NamedRow
 rows_of text = rows_in (kept (lines text))
 
+-- the lines on which the rows of the lines that are kept begin
+unfoldable pub lines_in : List Line → List ℕ
+lines_in [] = []
+lines_in (header ∷ body) = map (λ cells. cells.line) (groups (columns_of header.octets) body)
+
+-- the lines on which the rows of a text begin
+abbrev pub row_lines : List ℕ → List ℕ
+row_lines text = lines_in (kept (lines text))
+
 -- names in order of first appearance, each once
 abbrev pub distinct : List (List ℕ) → List (List ℕ)
 distinct [] = []
@@ -59,19 +68,19 @@ numbered names row = record {
   guards = map (place_of names.guards) row.guards;
   actions = map (place_of names.actions) row.actions;
   next = place_of names.states row.next;
-  line = row.line;
 }
 
--- the table of rows
-unfoldable pub table_with : List NamedRow → Names → Contents
-table_with rows names = record {
+-- the table of rows that begin on these lines
+unfoldable pub table_with : List NamedRow → List ℕ → Names → Contents
+table_with rows lines names = record {
   states = names.states;
   kinds = names.kinds;
   guards = names.guards;
   actions = names.actions;
   rows = map (numbered names) rows;
+  lines = lines;
 }
 
 -- the table of a text
 unfoldable pub table_of : List ℕ → Contents
-table_of text = table_with (rows_of text) (names_of (rows_of text))
+table_of text = table_with (rows_of text) (row_lines text) (names_of (rows_of text))

@@ -1,5 +1,4 @@
 ghost use Rattle.std.specs.Prelude.{◌≡◌};
-ghost use Rattle.std.specs.Option.{option_map};
 ghost use Rattle.std.specs.List.{slice_get};
 
 use crate::name::NameList;
@@ -15,6 +14,8 @@ pub struct Table {
     guards: NameList,
     actions: NameList,
     rows: Vec<Row>,
+    /// The line of the text on which each row begins.
+    lines: Vec<usize>,
 }
 
 // A derived `drop` is proved anew, field by field, at each way out of each function that holds a table; this one is a call.
@@ -26,6 +27,7 @@ impl Drop for Table {
             guards,
             actions,
             rows,
+            lines,
         } = self;
     }
 }
@@ -35,9 +37,9 @@ impl Model for Table {
 
     ghost Value = { Contents };
 
-    ghost view = { λ t. record { states = t.states; kinds = t.kinds; guards = t.guards; actions = t.actions; rows = t.rows.items } };
+    ghost view = { λ t. record { states = t.states; kinds = t.kinds; guards = t.guards; actions = t.actions; rows = t.rows.items; lines = t.lines.items } };
 
-    ghost invariant = { λ t. IsTable (record { states = t.states; kinds = t.kinds; guards = t.guards; actions = t.actions; rows = t.rows.items }) };
+    ghost invariant = { λ t. IsTable (record { states = t.states; kinds = t.kinds; guards = t.guards; actions = t.actions; rows = t.rows.items; lines = t.lines.items }) };
 }
 
 impl Table {
@@ -49,9 +51,10 @@ impl Table {
         guards: NameList,
         actions: NameList,
         rows: Vec<Row>,
+        lines: Vec<usize>,
     ) -> Table
-        requires { IsTable (record { states = states; kinds = kinds; guards = guards; actions = actions; rows = rows.items }) }
-        ensures { result ≡ record { states = states; kinds = kinds; guards = guards; actions = actions; rows = rows.items } }
+        requires { IsTable (record { states = states; kinds = kinds; guards = guards; actions = actions; rows = rows.items; lines = lines.items }) }
+        ensures { result ≡ record { states = states; kinds = kinds; guards = guards; actions = actions; rows = rows.items; lines = lines.items } }
     {
         Table {
             states,
@@ -59,6 +62,7 @@ impl Table {
             guards,
             actions,
             rows,
+            lines,
         }
     }
 
@@ -72,13 +76,9 @@ impl Table {
 
     /// The line of the text on which a row begins, from 1; rows are numbered from 0.
     pub fn line_of(&self, row: usize) -> Option<usize>
-        ensures { result ≡ option_map (λ r. r.line) (slice_get self.now.rows row) }
+        ensures { result ≡ slice_get self.now.lines row }
     {
-        if row < self.rows.len() {
-            Some(self.rows[row].line)
-        } else {
-            None
-        }
+        self.lines.get(row).copied()
     }
 
     /// The names of the states, by number.
