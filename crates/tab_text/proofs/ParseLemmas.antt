@@ -4,7 +4,7 @@ use Rattle.std.proofs.lemmas.List.{append_assoc, append-nil, map_push, length_pu
 use Rattle.std.proofs.lemmas.List.Elements.{All-push}
 use Rattle.tab_text.specs.Lines.{Line, lines, kept}
 use Rattle.tab_text.specs.Cells.{Cells, NamedRow, columns_of, cells_of}
-use Rattle.tab_text.specs.Rows.{Names, rows_in, lines_in, rows_of, row_lines, names_of, numbered}
+use Rattle.tab_text.specs.Rows.{Names, rows_in, lines_in, rows_of, row_lines, IsWellNamed, names_of, numbered}
 use Rattle.tab_text.specs.Faults.{has_room, fault_behind, first_fault}
 use Rattle.tab_text.specs.Reading.{lines_left, named}
 use Rattle.tab_text.specs.Rooms.{with_row}
@@ -79,6 +79,7 @@ pub record IsFilled (text : List ℕ) (reader : Reader) (names : Names) (rows : 
   pub lines_are : lines_begun ≡ lines_in (header ∷ body)
   pub count : length (rows_in (header ∷ body)) ≡ length body
   pub few_rows : length body ≤ MAX_ROWS
+  pub well_named : All IsWellNamed (rows_in (header ∷ body))
   pub few_guards : All (λ (row : NamedRow). length row.guards ≤ MAX_ROW_GUARDS) (rows_in (header ∷ body))
   pub few_actions : All (λ (row : NamedRow). length row.actions ≤ MAX_ROW_ACTIONS) (rows_in (header ∷ body))
 
@@ -105,6 +106,7 @@ filled-none text reader names header rows begun opened sound none empty = record
   lines_are = rw (empty, no-lines header) refl;
   count = rw (no-rows header) refl;
   few_rows = omega arith;
+  well_named = rw (no-rows header) (λ k d below. absurd (omega arith));
   few_guards = rw (no-rows header) (λ k d below. absurd (omega arith));
   few_actions = rw (no-rows header) (λ k d below. absurd (omega arith));
 }
@@ -123,6 +125,7 @@ filled-more text old new names header body row line rows after begun more filled
   lines_are = rw (lined, filled.lines_are, takes.taken.number, lines_in-push header body line) refl;
   count = rw (takes.taken.rows, length_push (rows_in (header ∷ body)) (named row), length_push body line, filled.count) refl;
   few_rows = rw (length_push body line) (omega (arith, takes.taken.room));
+  well_named = rw takes.taken.rows (All-push IsWellNamed (rows_in (header ∷ body)) (named row) filled.well_named takes.taken.well);
   few_guards = rw takes.taken.rows (All-push (λ (r : NamedRow). length r.guards ≤ MAX_ROW_GUARDS) (rows_in (header ∷ body)) (named row) filled.few_guards takes.taken.few_guards);
   few_actions = rw takes.taken.rows (All-push (λ (r : NamedRow). length r.actions ≤ MAX_ROW_ACTIONS) (rows_in (header ∷ body)) (named row) filled.few_actions takes.taken.few_actions);
 }

@@ -25,7 +25,7 @@ has-at [] name k below is = absurd (omega arith)
 has-at (first ∷ names) name zero below is = rw ((bytes_eq-Decides first name).1 is) refl
 has-at (first ∷ names) name (suc k) below is = rw (has-at names name k (omega arith) is) (or-right (bytes_eq first name))
 
-has-contained : (names : List (List ℕ)) (name : List ℕ) → Contains names name → has names name ≡ true
+pub has-contained : (names : List (List ℕ)) (name : List ℕ) → Contains names name → has names name ≡ true
 has-contained names name at = has-at names name at.0 at.1 at.2
 
 -- the distinct names of a list are its names
@@ -33,7 +33,7 @@ distinct-cons : (first name : List ℕ) (names : List (List ℕ)) (test : Bool) 
 distinct-cons first name names true is rest = rw is refl
 distinct-cons first name names false is rest = rw (is, others-has first name (distinct names) is) rest
 
-has-distinct : (names : List (List ℕ)) (name : List ℕ) → has (distinct names) name ≡ has names name
+pub has-distinct : (names : List (List ℕ)) (name : List ℕ) → has (distinct names) name ≡ has names name
 has-distinct [] name = refl
 has-distinct (first ∷ names) name = distinct-cons first name names (bytes_eq first name) refl (has-distinct names name)
 
@@ -44,7 +44,7 @@ in-distinct names name at =
     grind (arith, nat_tests)
 
 -- rows' names of one kind are in the list of all of them
-each-contained : (f : NamedRow → List (List ℕ)) (rows : List NamedRow) → All (λ (row : NamedRow). All (Contains (flat_map f rows)) (f row)) rows
+pub each-contained : (f : NamedRow → List (List ℕ)) (rows : List NamedRow) → All (λ (row : NamedRow). All (Contains (flat_map f rows)) (f row)) rows
 each-contained f [] = λ k d below. absurd (omega arith)
 each-contained f (row ∷ rows) =
     All-cons (λ (r : NamedRow). All (Contains (f row ++ flat_map f rows)) (f r)) row rows
@@ -65,7 +65,7 @@ each-kind rows = λ k d below.
     let one = All-head (IsIn (distinct (flat_map (λ (row : NamedRow). row.kind ∷ []) rows))) (get_or rows k d).kind [] kinds in
     rw (flat_map_single (λ (row : NamedRow). row.kind) rows) at one
 
-abbrev states_of : NamedRow → List (List ℕ)
+abbrev pub states_of : NamedRow → List (List ℕ)
 states_of row = row.state ∷ row.next ∷ []
 
 each-row : (rows : List NamedRow) (lines : List ℕ) → IsShort rows → All (λ (row : NamedRow). IsRowOf (table_with rows lines (names_of rows)) (numbered (names_of rows) row)) rows

@@ -33,17 +33,19 @@ impl Drop for Table {
 }
 
 impl Model for Table {
-    ghost use Rattle.tab_text.specs.Contents.{Contents, IsTable};
+    ghost use Rattle.tab_text.specs.Contents.{Contents};
+    ghost use Rattle.tab_text.specs.Rows.{IsNumberedTable};
 
     ghost Value = { Contents };
 
     ghost view = { λ t. record { states = t.states; kinds = t.kinds; guards = t.guards; actions = t.actions; rows = t.rows.items; lines = t.lines.items } };
 
-    ghost invariant = { λ t. IsTable (record { states = t.states; kinds = t.kinds; guards = t.guards; actions = t.actions; rows = t.rows.items; lines = t.lines.items }) };
+    ghost invariant = { λ t. IsNumberedTable (record { states = t.states; kinds = t.kinds; guards = t.guards; actions = t.actions; rows = t.rows.items; lines = t.lines.items }) };
 }
 
 impl Table {
     ghost use Rattle.tab_text.specs.Contents.{Contents, IsTable};
+    ghost use Rattle.tab_text.specs.Rows.{IsNumberedTable};
 
     pub(crate) fn new(
         states: NameList,
@@ -53,7 +55,7 @@ impl Table {
         rows: Vec<Row>,
         lines: Vec<usize>,
     ) -> Table
-        requires { IsTable (record { states = states; kinds = kinds; guards = guards; actions = actions; rows = rows.items; lines = lines.items }) }
+        requires { IsNumberedTable (record { states = states; kinds = kinds; guards = guards; actions = actions; rows = rows.items; lines = lines.items }) }
         ensures { result ≡ record { states = states; kinds = kinds; guards = guards; actions = actions; rows = rows.items; lines = lines.items } }
     {
         Table {
@@ -70,6 +72,7 @@ impl Table {
     pub fn rows(&self) -> &[Row]
         ensures rows { result.now ≡ self.now.rows }
         ensures table { IsTable self.now }
+        ensures numbered { IsNumberedTable self.now }
     {
         self.rows.as_slice()
     }
