@@ -3,7 +3,8 @@ use Rattle.std.proofs.lemmas.Bool.Decides.{nat_tests}
 use Rattle.std.proofs.lemmas.List.{take_all}
 use Rattle.tab_text.specs.Words.{words, is_name}
 use Rattle.tab_text.specs.Cells.{Cells, NamedRow, condition_of, actions_of, is_state, row_of}
-use Rattle.tab_text.specs.Faults.{lacks_cell, own_fault}
+use Rattle.tab_text.specs.Faults.{lacks_cell}
+use Rattle.tab_text.specs.Passing.{own_fault}
 use Rattle.tab_text.specs.Reading.{few_names, named, IsFront, IsFrontOf, IsRowFrontOf, IsOwnRow}
 use Rattle.tab_text.specs.declared.cells.RowNames.{RowNames}
 use Rattle.tab_text.specs.declared.room.Few.{Few}

@@ -4,6 +4,7 @@ pub mod RoomLemmas
 pub mod RoomsLemmas
 pub mod CellsLemmas
 pub mod WellNamed
+pub mod FaultLemmas
 pub mod ReaderLemmas
 pub mod NamesLemmas
 pub mod ParseLemmas

@@ -5,7 +5,8 @@ use Rattle.std.proofs.lemmas.List.Elements.{All-push}
 use Rattle.tab_text.specs.Lines.{Line, lines, kept}
 use Rattle.tab_text.specs.Cells.{Cells, NamedRow, columns_of, cells_of}
 use Rattle.tab_text.specs.Rows.{Names, rows_in, lines_in, rows_of, row_lines, IsWellNamed, names_of, numbered}
-use Rattle.tab_text.specs.Faults.{has_room, fault_behind, first_fault}
+use Rattle.tab_text.specs.Faults.{has_room, first_fault}
+use Rattle.tab_text.specs.Passing.{fault_behind}
 use Rattle.tab_text.specs.Reading.{lines_left, named}
 use Rattle.tab_text.specs.Rooms.{with_row}
 use Rattle.tab_text.specs.Reader.{IsAt, IsOpened, TakesRow}

@@ -6,8 +6,10 @@ use Rattle.std.proofs.lemmas.List.{map_push, append-nil, length-map}
 use Rattle.tab_text.specs.Lines.{Line, lines, kept, is_plain, is_skipped, is_row_line}
 use Rattle.tab_text.specs.Cells.{Cells, NamedRow, is_header, columns_of, cells_of, groups, row_of}
 use Rattle.tab_text.specs.Rows.{state_behind, filled, rows_in, names_of}
-use Rattle.tab_text.specs.Faults.{first_code, has_room, own_fault, room_fault, row_fault, kept_fault, line_fault, end_fault, fault_behind, first_fault}
+use Rattle.tab_text.specs.Faults.{has_room, first_fault}
+use Rattle.tab_text.specs.Passing.{first_code, own_fault, room_fault, row_fault, kept_fault, line_fault, end_fault, fault_behind}
 use Rattle.tab_text.specs.Reading.{first_kept}
+use Rattle.tab_text.proofs.FaultLemmas.{first_fault-is}
 use Rattle.tab_text.specs.Reader.{last_state}
 use Rattle.tab_text.specs.declared.fault.TextCode.{TextCode}
 use Rattle.tab_text.specs.declared.fault.TextCode.TheVariants.{NoHeader, BadByte, EmptyCell, TooManyRows, TooManyNames, TooLong}
@@ -151,12 +153,14 @@ room-cases false number line rest is = rw is refl
 
 -- a text within its limit has the first fault of its lines
 pub first_fault-within : (text : List ℕ) → length text ≤ 1048576 → first_fault text ≡ fault_behind [] (lines text)
-unfolding first_fault
-first_fault-within text within = let short : ltb 1048576 (length text) ≡ false = grind (arith, nat_tests) in rw short refl
+first_fault-within text within =
+    let short : ltb 1048576 (length text) ≡ false = grind (arith, nat_tests) in
+    first_fault-is text ∙ rw short refl
 
 pub first_fault-over : (text : List ℕ) → 1048576 < length text → first_fault text ≡ Some (record { line = 0; code = TooLong })
-unfolding first_fault
-first_fault-over text over = let long : ltb 1048576 (length text) ≡ true = grind (arith, nat_tests) in rw long refl
+first_fault-over text over =
+    let long : ltb 1048576 (length text) ≡ true = grind (arith, nat_tests) in
+    first_fault-is text ∙ rw long refl
 
 pub header-bad : (line : Line) → is_header line.octets ≡ false → kept_fault [] line ≡ Some NoHeader
 unfolding kept_fault

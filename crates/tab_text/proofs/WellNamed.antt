@@ -5,7 +5,8 @@ use Rattle.std.proofs.lemmas.List.Elements.{All-cons}
 use Rattle.tab_text.specs.Words.{words, trimmed, is_name}
 use Rattle.tab_text.specs.Cells.{Cells, NamedRow, guards_of, condition_of, all_names, actions_of, joined, is_state, row_with, row_of}
 use Rattle.tab_text.specs.Rows.{state_behind, IsWellNamed}
-use Rattle.tab_text.specs.Faults.{is_empty, lacks_cell, own_fault}
+use Rattle.tab_text.specs.Faults.{is_empty, lacks_cell}
+use Rattle.tab_text.specs.Passing.{own_fault}
 use Rattle.tab_text.specs.declared.fault.TextCode.TheVariants.{EmptyCell}
 
 abbrev AreNames : List (List ℕ) → Type 0

@@ -3,7 +3,8 @@ use Rattle.tab_text.specs.Lines.{Line, lines, kept}
 use Rattle.tab_text.specs.Words.{is_name}
 use Rattle.tab_text.specs.Cells.{NamedRow, columns_of, cells_of, row_of}
 use Rattle.tab_text.specs.Rows.{rows_in, names_of, IsWellNamed}
-use Rattle.tab_text.specs.Faults.{own_fault, fault_behind, first_fault, kept_fault, has_room}
+use Rattle.tab_text.specs.Faults.{first_fault, has_room}
+use Rattle.tab_text.specs.Passing.{own_fault, fault_behind, kept_fault}
 use Rattle.tab_text.specs.Reading.{lines_left, named}
 use Rattle.tab_text.specs.declared.limits.TheConstants.{MAX_ROWS, MAX_ROW_GUARDS, MAX_ROW_ACTIONS}
 use Rattle.tab_text.specs.declared.fault.TextCode.TheVariants.{TooManyNames}

@@ -1,7 +1,7 @@
 use Rattle.std.specs.Prelude.{ℕ, ◌≡◌, ◌+◌, ◌≤◌, nat_lt, Bool, List, [], ◌∷◌, length, map, take, Option, Some, None, Result, Ok, Err, if◌then◌else◌}
 use Rattle.tab_text.specs.Lines.{Line, numbered_from, is_plain, is_skipped}
 use Rattle.tab_text.specs.Cells.{Cells, NamedRow, row_of}
-use Rattle.tab_text.specs.Faults.{own_fault}
+use Rattle.tab_text.specs.Passing.{own_fault}
 use Rattle.tab_text.specs.Pieces.{pieces_left}
 use Rattle.tab_text.specs.declared.limits.TheConstants.{MAX_ROW_GUARDS, MAX_ROW_ACTIONS}
 use Rattle.tab_text.specs.declared.fault.TextCode.TheVariants.{BadByte}

@@ -1,7 +1,8 @@
 use Rattle.std.proofs.Common.{◌≡◌, ◌<◌, ◌∷◌, ◌++◌, [], length, Ok, Some, None, ◌∙◌, arith, refl}
 use Rattle.std.proofs.lemmas.Result.{err_from_is_err_and}
 use Rattle.tab_text.specs.Rows.{names_of, rows_in}
-use Rattle.tab_text.specs.Faults.{has_room, fault_behind}
+use Rattle.tab_text.specs.Faults.{has_room}
+use Rattle.tab_text.specs.Passing.{fault_behind}
 use Rattle.tab_text.specs.Reading.{line_of, lines_left}
 use Rattle.tab_text.proofs.ReaderLemmas.{fault-found, end-empty, end-some, room-cases}
 use Rattle.tab_text.proofs.reader.Reader.next_row.Goals as goal
