@@ -6,11 +6,11 @@ use Rattle.tab_step.specs.Moves.{pick}
 
 -- `Wait: CCA-I when mine and success / Grant-Service / Done`
 abbrev granting : Row
-granting = record { state = 0; kind = 0; guards = 0 ∷ 1 ∷ []; actions = 0 ∷ []; next = 1; line = 2 }
+granting = record { state = 0; kind = 0; guards = 0 ∷ 1 ∷ []; actions = 0 ∷ []; next = 1 }
 
 -- `Wait: CCA-I / End-Service / Wait`
 abbrev ending : Row
-ending = record { state = 0; kind = 0; guards = []; actions = 1 ∷ []; next = 0; line = 3 }
+ending = record { state = 0; kind = 0; guards = []; actions = 1 ∷ []; next = 0 }
 
 abbrev table : Contents
 table = record {
@@ -19,6 +19,7 @@ table = record {
   guards = codes "mine" ∷ codes "success" ∷ [];
   actions = codes "Grant-Service" ∷ codes "End-Service" ∷ [];
   rows = granting ∷ ending ∷ [];
+  lines = 2 ∷ 3 ∷ [];
 }
 
 -- the row of an answer of that kind in state Wait, by what the guards answer

@@ -3,7 +3,8 @@ use Rattle.std.proofs.lemmas.Bool.Decides.{nat_tests}
 use Rattle.std.proofs.lemmas.List.{take_all}
 use Rattle.tab_text.specs.Words.{words, is_name}
 use Rattle.tab_text.specs.Cells.{Cells, NamedRow, condition_of, actions_of, is_state, row_of}
-use Rattle.tab_text.specs.Faults.{lacks_cell, own_fault}
+use Rattle.tab_text.specs.Faults.{lacks_cell}
+use Rattle.tab_text.specs.Passing.{own_fault}
 use Rattle.tab_text.specs.Reading.{few_names, named, IsFront, IsFrontOf, IsRowFrontOf, IsOwnRow}
 use Rattle.tab_text.specs.declared.cells.RowNames.{RowNames}
 use Rattle.tab_text.specs.declared.room.Few.{Few}
@@ -23,7 +24,7 @@ no-own-fault is_first cells (Some found) row is front line has guards actions =
     let few_actions = actions found.actions front.actions in
     let g = whole-front found.guards row.guards 4 (omega arith) front.guards few_guards in
     let a = whole-front found.actions row.actions 8 (omega arith) front.actions few_actions in
-    let same : ◌≡◌ {A = NamedRow} (record { line = found.line; state = found.state; kind = found.kind; guards = found.guards; actions = found.actions; next = found.next }) (named row) = rw (front.line, front.state, front.kind, g.0, a.0, front.next) refl in
+    let same : ◌≡◌ {A = NamedRow} (record { state = found.state; kind = found.kind; guards = found.guards; actions = found.actions; next = found.next }) (named row) = rw (front.state, front.kind, g.0, a.0, front.next) refl in
     record {
       sound = rw (has, is, ← few_guards, ← few_actions) refl;
       found = is ∙ ap Some same;
@@ -33,9 +34,9 @@ no-own-fault is_first cells (Some found) row is front line has guards actions =
     }
 
 -- what a row of cells spells, part by part
-pub row-found : (cells : Cells) (kind : List ℕ) (condition : List (List ℕ)) (guards actions : Option (List (List ℕ))) (row : RowNames) → map (λ word. word.octets) (words cells.event) ≡ kind ∷ condition → true ≡ is_state cells.state → true ≡ is_name kind → true ≡ is_name cells.next → condition_of condition ≡ guards → actions_of cells.action ≡ actions → IsFrontOf guards row.guards → IsFrontOf actions row.actions → cells.line ≡ row.line → cells.state ≡ row.state.now → kind ≡ row.kind.now → cells.next ≡ row.next.now → IsRowFrontOf (row_of cells) row
+pub row-found : (cells : Cells) (kind : List ℕ) (condition : List (List ℕ)) (guards actions : Option (List (List ℕ))) (row : RowNames) → map (λ word. word.octets) (words cells.event) ≡ kind ∷ condition → true ≡ is_state cells.state → true ≡ is_name kind → true ≡ is_name cells.next → condition_of condition ≡ guards → actions_of cells.action ≡ actions → IsFrontOf guards row.guards → IsFrontOf actions row.actions → cells.state ≡ row.state.now → kind ≡ row.kind.now → cells.next ≡ row.next.now → IsRowFrontOf (row_of cells) row
 unfolding row_of
-row-found cells kind condition None actions row event state k n g a in_guards in_actions line s kd nx = absurd in_guards
-row-found cells kind condition (Some guards) None row event state k n g a in_guards in_actions line s kd nx = absurd in_actions
-row-found cells kind condition (Some guards) (Some actions) row event state k n g a in_guards in_actions line s kd nx =
-    rw (event, ← state, ← k, ← n, g, a) (record { line = line; state = s; kind = kd; guards = in_guards; actions = in_actions; next = nx })
+row-found cells kind condition None actions row event state k n g a in_guards in_actions s kd nx = absurd in_guards
+row-found cells kind condition (Some guards) None row event state k n g a in_guards in_actions s kd nx = absurd in_actions
+row-found cells kind condition (Some guards) (Some actions) row event state k n g a in_guards in_actions s kd nx =
+    rw (event, ← state, ← k, ← n, g, a) (record { state = s; kind = kd; guards = in_guards; actions = in_actions; next = nx })

@@ -3,7 +3,10 @@ pub mod Headers
 pub mod RoomLemmas
 pub mod RoomsLemmas
 pub mod CellsLemmas
+pub mod WellNamed
+pub mod FaultLemmas
 pub mod ReaderLemmas
 pub mod NamesLemmas
 pub mod ParseLemmas
 pub mod TableLemmas
+pub mod NumberLemmas

@@ -6,8 +6,10 @@ use Rattle.std.proofs.lemmas.List.{map_push, append-nil, length-map}
 use Rattle.tab_text.specs.Lines.{Line, lines, kept, is_plain, is_skipped, is_row_line}
 use Rattle.tab_text.specs.Cells.{Cells, NamedRow, is_header, columns_of, cells_of, groups, row_of}
 use Rattle.tab_text.specs.Rows.{state_behind, filled, rows_in, names_of}
-use Rattle.tab_text.specs.Faults.{first_code, has_room, own_fault, room_fault, row_fault, kept_fault, line_fault, end_fault, fault_behind, first_fault}
+use Rattle.tab_text.specs.Faults.{has_room, first_fault}
+use Rattle.tab_text.specs.Passing.{first_code, own_fault, room_fault, row_fault, kept_fault, line_fault, end_fault, fault_behind}
 use Rattle.tab_text.specs.Reading.{first_kept}
+use Rattle.tab_text.proofs.FaultLemmas.{first_fault-is}
 use Rattle.tab_text.specs.Reader.{last_state}
 use Rattle.tab_text.specs.declared.fault.TextCode.{TextCode}
 use Rattle.tab_text.specs.declared.fault.TextCode.TheVariants.{NoHeader, BadByte, EmptyCell, TooManyRows, TooManyNames, TooLong}
@@ -107,11 +109,11 @@ row-room : (header : Line) (body : List Line) (line : Line) (count : ℕ) → is
 row-room header body line count good is sound =
     rw (kept_fault-row header body line good, is_first-is (columns_of header.octets) body count is, sound) refl
 
-room-over : (before : List Cells) (cells : Cells) → 512 ≤ length before → room_fault before cells ≡ Some TooManyRows
+room-over : (before : List Cells) (cells : Cells) → 4096 ≤ length before → room_fault before cells ≡ Some TooManyRows
 unfolding room_fault
-room-over before cells over = let full : leb 512 (length before) ≡ true = grind (arith, nat_tests) in rw full refl
+room-over before cells over = let full : leb 4096 (length before) ≡ true = grind (arith, nat_tests) in rw full refl
 
-pub row-over : (header : Line) (body : List Line) (line : Line) (count : ℕ) → is_row_line line.octets ≡ true → count ≡ length body → own_fault (count == 0) (cells_of (columns_of header.octets) line) ≡ None → 512 ≤ count → kept_fault (header ∷ body) line ≡ Some TooManyRows
+pub row-over : (header : Line) (body : List Line) (line : Line) (count : ℕ) → is_row_line line.octets ≡ true → count ≡ length body → own_fault (count == 0) (cells_of (columns_of header.octets) line) ≡ None → 4096 ≤ count → kept_fault (header ∷ body) line ≡ Some TooManyRows
 row-over header body line count good is sound over =
     row-room header body line count good is sound ∙ room-over (groups (columns_of header.octets) body) (cells_of (columns_of header.octets) line) (omega (arith, length-map body (cells_of (columns_of header.octets))))
 
@@ -119,13 +121,13 @@ names-fault : (test : Bool) → first_code ((not test, TooManyNames) ∷ []) ≡
 names-fault true = refl
 names-fault false = refl
 
-room-under : (before : List Cells) (cells : Cells) → length before < 512 → room_fault before cells ≡ (if has_room (names_of (filled [] (filter_map row_of (before ++ cells ∷ [])))) then None else Some TooManyNames)
+room-under : (before : List Cells) (cells : Cells) → length before < 4096 → room_fault before cells ≡ (if has_room (names_of (filled [] (filter_map row_of (before ++ cells ∷ [])))) then None else Some TooManyNames)
 unfolding room_fault
 room-under before cells under =
-    let some : leb 512 (length before) ≡ false = grind (arith, nat_tests) in
+    let some : leb 4096 (length before) ≡ false = grind (arith, nat_tests) in
     rw some (names-fault (has_room (names_of (filled [] (filter_map row_of (before ++ cells ∷ []))))))
 
-pub row-under : (header : Line) (body : List Line) (line : Line) (count : ℕ) → is_row_line line.octets ≡ true → count ≡ length body → own_fault (count == 0) (cells_of (columns_of header.octets) line) ≡ None → count < 512 → kept_fault (header ∷ body) line ≡ (if has_room (names_of (rows_in (header ∷ body ++ line ∷ []))) then None else Some TooManyNames)
+pub row-under : (header : Line) (body : List Line) (line : Line) (count : ℕ) → is_row_line line.octets ≡ true → count ≡ length body → own_fault (count == 0) (cells_of (columns_of header.octets) line) ≡ None → count < 4096 → kept_fault (header ∷ body) line ≡ (if has_room (names_of (rows_in (header ∷ body ++ line ∷ []))) then None else Some TooManyNames)
 unfolding rows_in
 row-under header body line count good is sound under =
     let columns = columns_of header.octets in
@@ -150,13 +152,15 @@ room-cases true number line rest is = refl
 room-cases false number line rest is = rw is refl
 
 -- a text within its limit has the first fault of its lines
-pub first_fault-within : (text : List ℕ) → length text ≤ 65536 → first_fault text ≡ fault_behind [] (lines text)
-unfolding first_fault
-first_fault-within text within = let short : ltb 65536 (length text) ≡ false = grind (arith, nat_tests) in rw short refl
+pub first_fault-within : (text : List ℕ) → length text ≤ 1048576 → first_fault text ≡ fault_behind [] (lines text)
+first_fault-within text within =
+    let short : ltb 1048576 (length text) ≡ false = grind (arith, nat_tests) in
+    first_fault-is text ∙ rw short refl
 
-pub first_fault-over : (text : List ℕ) → 65536 < length text → first_fault text ≡ Some (record { line = 0; code = TooLong })
-unfolding first_fault
-first_fault-over text over = let long : ltb 65536 (length text) ≡ true = grind (arith, nat_tests) in rw long refl
+pub first_fault-over : (text : List ℕ) → 1048576 < length text → first_fault text ≡ Some (record { line = 0; code = TooLong })
+first_fault-over text over =
+    let long : ltb 1048576 (length text) ≡ true = grind (arith, nat_tests) in
+    first_fault-is text ∙ rw long refl
 
 pub header-bad : (line : Line) → is_header line.octets ≡ false → kept_fault [] line ≡ Some NoHeader
 unfolding kept_fault

@@ -70,6 +70,6 @@ with_row-from old row states kinds guards actions true s k g a = rw (s, k, g, a)
 with_row-from old row states kinds guards actions false s k g a = tt
 
 -- a row's numbers, one by one
-pub numbered-from : (names : Names) (row : NamedRow) (state kind next : ℕ) (guards actions : List ℕ) → state ≡ place_of names.states row.state → kind ≡ place_of names.kinds row.kind → guards ≡ map (place_of names.guards) row.guards → actions ≡ map (place_of names.actions) row.actions → next ≡ place_of names.states row.next → ◌≡◌ {A = Row} (record { state = state; kind = kind; guards = guards; actions = actions; next = next; line = row.line }) (numbered names row)
+pub numbered-from : (names : Names) (row : NamedRow) (state kind next : ℕ) (guards actions : List ℕ) → state ≡ place_of names.states row.state → kind ≡ place_of names.kinds row.kind → guards ≡ map (place_of names.guards) row.guards → actions ≡ map (place_of names.actions) row.actions → next ≡ place_of names.states row.next → ◌≡◌ {A = Row} (record { state = state; kind = kind; guards = guards; actions = actions; next = next }) (numbered names row)
 unfolding numbered
 numbered-from names row state kind next guards actions s k g a n = rw (s, k, g, a, n) refl

@@ -1,4 +1,4 @@
-use Rattle.std.proofs.Common.{◌≡◌, ℕ, ◌<◌, suc, zero, Bool, true, false, ltb, ◌||◌, List, [], ◌∷◌, ◌++◌, length, map, arith, refl, ◌∙◌, get_or}
+use Rattle.std.proofs.Common.{◌≡◌, ℕ, ◌<◌, suc, zero, Bool, true, false, ltb, ◌||◌, List, [], ◌∷◌, ◌++◌, length, map, arith, refl, sym, ◌∙◌, get_or}
 use Rattle.std.specs.List.{All, Contains, flat_map}
 use Rattle.std.specs.Str.{bytes_eq}
 use Rattle.std.proofs.lemmas.Bool.Decides.{nat_tests}
@@ -8,7 +8,7 @@ use Rattle.std.proofs.lemmas.List.Elements.{All-cons, All-head, All-tail, All-we
 use Rattle.std.proofs.lemmas.Slice.Eq.{bytes_eq-Decides}
 use Rattle.tab_text.specs.Contents.{Contents, IsRowOf, IsTable}
 use Rattle.tab_text.specs.Cells.{NamedRow}
-use Rattle.tab_text.specs.Rows.{Names, distinct, place_of, names_of, numbered, table_with, rows_of, table_of}
+use Rattle.tab_text.specs.Rows.{Names, distinct, place_of, names_of, numbered, table_with, rows_of, row_lines, table_of}
 use Rattle.tab_text.specs.declared.row.Row.{Row}
 use Rattle.tab_text.specs.Faults.{has_room}
 use Rattle.tab_text.specs.Reader.{IsShort}
@@ -25,7 +25,7 @@ has-at [] name k below is = absurd (omega arith)
 has-at (first ∷ names) name zero below is = rw ((bytes_eq-Decides first name).1 is) refl
 has-at (first ∷ names) name (suc k) below is = rw (has-at names name k (omega arith) is) (or-right (bytes_eq first name))
 
-has-contained : (names : List (List ℕ)) (name : List ℕ) → Contains names name → has names name ≡ true
+pub has-contained : (names : List (List ℕ)) (name : List ℕ) → Contains names name → has names name ≡ true
 has-contained names name at = has-at names name at.0 at.1 at.2
 
 -- the distinct names of a list are its names
@@ -33,7 +33,7 @@ distinct-cons : (first name : List ℕ) (names : List (List ℕ)) (test : Bool) 
 distinct-cons first name names true is rest = rw is refl
 distinct-cons first name names false is rest = rw (is, others-has first name (distinct names) is) rest
 
-has-distinct : (names : List (List ℕ)) (name : List ℕ) → has (distinct names) name ≡ has names name
+pub has-distinct : (names : List (List ℕ)) (name : List ℕ) → has (distinct names) name ≡ has names name
 has-distinct [] name = refl
 has-distinct (first ∷ names) name = distinct-cons first name names (bytes_eq first name) refl (has-distinct names name)
 
@@ -44,7 +44,7 @@ in-distinct names name at =
     grind (arith, nat_tests)
 
 -- rows' names of one kind are in the list of all of them
-each-contained : (f : NamedRow → List (List ℕ)) (rows : List NamedRow) → All (λ (row : NamedRow). All (Contains (flat_map f rows)) (f row)) rows
+pub each-contained : (f : NamedRow → List (List ℕ)) (rows : List NamedRow) → All (λ (row : NamedRow). All (Contains (flat_map f rows)) (f row)) rows
 each-contained f [] = λ k d below. absurd (omega arith)
 each-contained f (row ∷ rows) =
     All-cons (λ (r : NamedRow). All (Contains (f row ++ flat_map f rows)) (f r)) row rows
@@ -65,12 +65,12 @@ each-kind rows = λ k d below.
     let one = All-head (IsIn (distinct (flat_map (λ (row : NamedRow). row.kind ∷ []) rows))) (get_or rows k d).kind [] kinds in
     rw (flat_map_single (λ (row : NamedRow). row.kind) rows) at one
 
-abbrev states_of : NamedRow → List (List ℕ)
+abbrev pub states_of : NamedRow → List (List ℕ)
 states_of row = row.state ∷ row.next ∷ []
 
-each-row : (rows : List NamedRow) → IsShort rows → All (λ (row : NamedRow). IsRowOf (table_with rows (names_of rows)) (numbered (names_of rows) row)) rows
+each-row : (rows : List NamedRow) (lines : List ℕ) → IsShort rows → All (λ (row : NamedRow). IsRowOf (table_with rows lines (names_of rows)) (numbered (names_of rows) row)) rows
 unfolding names_of table_with numbered
-each-row rows short = λ k d below.
+each-row rows lines short = λ k d below.
     let row = get_or rows k d in
     let states = each-in states_of rows k d below in
     let states_in = IsIn (distinct (flat_map states_of rows)) in
@@ -89,14 +89,14 @@ each-row rows short = λ k d below.
 some-state : (rows : List NamedRow) → 0 < length rows → 0 < length (names_of rows).states
 unfolding names_of
 some-state rows some =
-    let none : NamedRow = record { line = 0; state = []; kind = []; guards = []; actions = []; next = [] } in
+    let none : NamedRow = record { state = []; kind = []; guards = []; actions = []; next = [] } in
     let first = All-head (IsIn (distinct (flat_map states_of rows))) (get_or rows 0 none).state ((get_or rows 0 none).next ∷ []) (each-in states_of rows 0 none some) in
     omega (arith, first)
 
 -- a table of few rows whose names have room
-pub table-from : (rows : List NamedRow) → IsShort rows → has_room (names_of rows) ≡ true → IsTable (table_with rows (names_of rows))
+pub table-from : (rows : List NamedRow) (lines : List ℕ) → IsShort rows → length lines ≡ length rows → has_room (names_of rows) ≡ true → IsTable (table_with rows lines (names_of rows))
 unfolding table_with
-table-from rows short room =
+table-from rows lines short each room =
     let fits = fits-from (names_of rows) room in
     let count = length-map rows (numbered (names_of rows)) in
     record {
@@ -107,14 +107,15 @@ table-from rows short room =
       few_kinds = fits.kinds;
       few_guards = fits.guards;
       few_actions = fits.actions;
-      each_row = All-map (IsRowOf (table_with rows (names_of rows))) (numbered (names_of rows)) rows (each-row rows short);
+      each_line = each ∙ sym count;
+      each_row = All-map (IsRowOf (table_with rows lines (names_of rows))) (numbered (names_of rows)) rows (each-row rows lines short);
     }
 
 -- a table, part by part
-pub table-is : (rows : List NamedRow) (names : Names) (states kinds guards actions : List (List ℕ)) (numbers : List Row) → names ≡ names_of rows → states ≡ names.states → kinds ≡ names.kinds → guards ≡ names.guards → actions ≡ names.actions → numbers ≡ map (numbered names) rows → ◌≡◌ {A = Contents} (record { states = states; kinds = kinds; guards = guards; actions = actions; rows = numbers }) (table_with rows (names_of rows))
+pub table-is : (rows : List NamedRow) (lines : List ℕ) (names : Names) (states kinds guards actions : List (List ℕ)) (numbers : List Row) (begun : List ℕ) → names ≡ names_of rows → states ≡ names.states → kinds ≡ names.kinds → guards ≡ names.guards → actions ≡ names.actions → numbers ≡ map (numbered names) rows → begun ≡ lines → ◌≡◌ {A = Contents} (record { states = states; kinds = kinds; guards = guards; actions = actions; rows = numbers; lines = begun }) (table_with rows lines (names_of rows))
 unfolding table_with
-table-is rows names states kinds guards actions numbers is s k g a n = rw (s, k, g, a, n, is) refl
+table-is rows lines names states kinds guards actions numbers begun is s k g a n l = rw (s, k, g, a, n, is, l) refl
 
-pub table_of-is : (text : List ℕ) → table_with (rows_of text) (names_of (rows_of text)) ≡ table_of text
+pub table_of-is : (text : List ℕ) → table_with (rows_of text) (row_lines text) (names_of (rows_of text)) ≡ table_of text
 unfolding table_of
 table_of-is text = refl

@@ -52,7 +52,6 @@ groups columns body = map (cells_of columns) body
 
 -- a row by its names; an empty state is that of the row before
 pub record NamedRow : Type 0 where
-  pub line : ℕ
   pub state : List ℕ
   pub kind : List ℕ
   pub guards : List (List ℕ)
@@ -86,7 +85,7 @@ actions_of action = if bytes_eq action (codes "-") then Some [] else names_betwe
 -- the row of cells whose guards and actions are these, where they are names
 abbrev pub joined : Cells → List ℕ → Option (List (List ℕ)) → Option (List (List ℕ)) → Option NamedRow
 joined cells kind (Some guards) (Some actions) =
-    Some (record { line = cells.line; state = cells.state; kind = kind; guards = guards; actions = actions; next = cells.next })
+    Some (record { state = cells.state; kind = kind; guards = guards; actions = actions; next = cells.next })
 joined cells kind (Some guards) None = None
 joined cells kind None actions = None
 

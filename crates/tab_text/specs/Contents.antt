@@ -1,14 +1,16 @@
-use Rattle.std.specs.Prelude.{ℕ, ◌<◌, ◌≤◌, List, length, All}
+use Rattle.std.specs.Prelude.{ℕ, ◌≡◌, ◌<◌, ◌≤◌, List, length, All}
 use Rattle.tab_text.specs.declared.limits.TheConstants.{MAX_ROWS, MAX_STATES, MAX_KINDS, MAX_GUARDS, MAX_ACTIONS, MAX_ROW_GUARDS, MAX_ROW_ACTIONS}
 use Rattle.tab_text.specs.declared.row.Row.{Row}
 
--- what a table holds: its names, each list in order of number, and its rows, which speak of names by number
+-- what a table holds: its names, each list in order of number, its rows, which speak of names by number, and the line on
+-- which each row begins
 pub record Contents : Type 0 where
   pub states : List (List ℕ)
   pub kinds : List (List ℕ)
   pub guards : List (List ℕ)
   pub actions : List (List ℕ)
   pub rows : List Row
+  pub lines : List ℕ
 
 -- each number of a row is a place in the list of its names, and the row has at most 4 guards and 8 actions
 pub record IsRowOf (table : Contents) (row : Row) : Type 0 where
@@ -20,7 +22,7 @@ pub record IsRowOf (table : Contents) (row : Row) : Type 0 where
   pub few_guards : length row.guards ≤ MAX_ROW_GUARDS
   pub few_actions : length row.actions ≤ MAX_ROW_ACTIONS
 
--- a table within its limits: 1 to 512 rows, 64 states, 128 kinds, 64 guards, 64 actions
+-- a table within its limits: 1 to 4,096 rows, 64 states, 128 kinds, 64 guards, 64 actions
 pub record IsTable (table : Contents) : Type 0 where
   pub some_row : 0 < length table.rows
   pub some_state : 0 < length table.states
@@ -29,4 +31,5 @@ pub record IsTable (table : Contents) : Type 0 where
   pub few_kinds : length table.kinds ≤ MAX_KINDS
   pub few_guards : length table.guards ≤ MAX_GUARDS
   pub few_actions : length table.actions ≤ MAX_ACTIONS
+  pub each_line : length table.lines ≡ length table.rows
   pub each_row : All (IsRowOf table) table.rows

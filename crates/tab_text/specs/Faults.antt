@@ -1,6 +1,5 @@
-use Rattle.std.specs.Prelude.{ℕ, ◌==◌, ◌++◌, ◌&&◌, ◌||◌, not, nat_lt, nat_le, Bool, true, false, List, [], ◌∷◌, length, Option, Some, None, option_map, is_none, if◌then◌else◌}
-use Rattle.std.specs.Option.{option_or}
-use Rattle.std.specs.List.{filter_map}
+use Rattle.std.specs.Prelude.{ℕ, ◌==◌, ◌++◌, ◌&&◌, ◌||◌, not, map, nat_lt, nat_le, Bool, true, false, List, [], ◌∷◌, length, Option, Some, None, is_none, if◌then◌else◌}
+use Rattle.std.specs.List.{filter_map, flat_map}
 use Rattle.tab_text.specs.Lines.{Line, lines, kept, is_plain, is_skipped, is_row_line}
 use Rattle.tab_text.specs.Cells.{Cells, NamedRow, is_header, columns_of, cells_of, groups, row_of}
 use Rattle.tab_text.specs.Rows.{Names, filled, names_of}
@@ -8,6 +7,10 @@ use Rattle.tab_text.specs.declared.limits.TheConstants.{MAX_TEXT, MAX_ROWS, MAX_
 use Rattle.tab_text.specs.declared.fault.TextCode.{TextCode}
 use Rattle.tab_text.specs.declared.fault.TextCode.TheVariants.{NoHeader, BadByte, EmptyCell, BadName, TooManyRows, TooManyNames, TooManyInRow, TooLong}
 use Rattle.tab_text.specs.declared.fault.TextFault.{TextFault}
+
+-- a fault of a line
+abbrev pub fault_at : ℕ → TextCode → TextFault
+fault_at line code = record { line = line; code = code }
 
 abbrev pub is_empty : List ℕ → Bool
 is_empty [] = true
@@ -29,56 +32,64 @@ has_room names =
     nat_le (length names.states) MAX_STATES && nat_le (length names.kinds) MAX_KINDS && nat_le (length names.guards) MAX_GUARDS
     && nat_le (length names.actions) MAX_ACTIONS
 
--- the first code whose test holds
-abbrev pub first_code : List (Bool × TextCode) → Option TextCode
-first_code [] = None
-first_code (test ∷ tests) = if test.0 then Some test.1 else first_code tests
+-- the codes whose tests hold, in this order
+abbrev pub codes_of : List (Bool × TextCode) → List TextCode
+codes_of [] = []
+codes_of (test ∷ tests) = if test.0 then test.1 ∷ codes_of tests else codes_of tests
 
--- the first fault that a row has by itself
-unfoldable pub own_fault : Bool → Cells → Option TextCode
-own_fault is_first cells = first_code (
-    (lacks_cell is_first cells, EmptyCell)
+-- what can be wrong with a row, behind the rows before it
+unfoldable pub row_tests : List Cells → Cells → List (Bool × TextCode)
+row_tests before cells =
+    (lacks_cell (length before == 0) cells, EmptyCell)
     ∷ (is_none (row_of cells), BadName)
     ∷ (has_many (row_of cells), TooManyInRow)
-    ∷ []
-    )
-
--- the first limit of a table that a row passes behind the rows before it
-unfoldable pub room_fault : List Cells → Cells → Option TextCode
-room_fault before cells = first_code (
-    (nat_le MAX_ROWS (length before), TooManyRows)
+    ∷ (nat_le MAX_ROWS (length before), TooManyRows)
     ∷ (not (has_room (names_of (filled [] (filter_map row_of (before ++ cells ∷ []))))), TooManyNames)
     ∷ []
-    )
 
--- the first fault of a row behind the rows before it
-abbrev pub row_fault : List Cells → Cells → Option TextCode
-row_fault before cells = option_or (own_fault (length before == 0) cells) (room_fault before cells)
+-- what can be wrong with a line that is kept: the first is the header, the others are rows
+unfoldable pub kept_tests : List Line → Line → List (Bool × TextCode)
+kept_tests [] line = (not (is_header line.octets), NoHeader) ∷ []
+kept_tests (header ∷ body) line =
+    (not (is_row_line line.octets), BadByte)
+    ∷ row_tests (groups (columns_of header.octets) body) (cells_of (columns_of header.octets) line)
 
--- the fault of a line that is kept behind those that were kept before it: the first is the header, the others are rows
-unfoldable pub kept_fault : List Line → Line → Option TextCode
-kept_fault [] line = if is_header line.octets then None else Some NoHeader
-kept_fault (header ∷ body) line =
-    if is_row_line line.octets then row_fault (groups (columns_of header.octets) body) (cells_of (columns_of header.octets) line) else Some BadByte
+-- what can be wrong with a line of a text, behind the lines before it
+unfoldable pub line_tests : List Line → Line → List (Bool × TextCode)
+line_tests before line =
+    (not (is_plain line.octets), BadByte) ∷ (if is_skipped line.octets then [] else kept_tests (kept before) line)
 
--- the fault of a line: its bytes are looked at first, and a line that is skipped has no other
-unfoldable pub line_fault : List Line → Line → Option TextCode
-line_fault before line =
-    if not (is_plain line.octets) then Some BadByte else (if is_skipped line.octets then None else kept_fault before line)
+-- a line of a text, and the lines before it
+pub record Place : Type 0 where
+  pub before : List Line
+  pub line : Line
 
--- the fault of a text whose lines have none: it lacks a header, or rows
-abbrev pub end_fault : List Line → Option TextFault
-end_fault [] = Some (record { line = 0; code = NoHeader })
-end_fault (header ∷ []) = Some (record { line = header.number; code = EmptyCell })
-end_fault (header ∷ row ∷ rows) = None
+-- each line, behind these lines and those between
+abbrev pub places : List Line → List Line → List Place
+places before [] = []
+places before (line ∷ rest) = record { before = before; line = line } ∷ places (before ++ line ∷ []) rest
 
--- the first fault of lines behind those that were kept before them
-abbrev pub fault_behind : List Line → List Line → Option TextFault
-fault_behind before [] = end_fault before
-fault_behind before (line ∷ rest) =
-    option_or (option_map (λ code. record { line = line.number; code = code }) (line_fault before line)) (fault_behind (before ++ kept (line ∷ [])) rest)
+-- the faults of a line, in the order of their tests
+abbrev pub faults_at : Place → List TextFault
+faults_at place = map (fault_at place.line.number) (codes_of (line_tests place.before place.line))
 
--- the first fault of a text: its length, and then by line and by code
+-- the faults of a text's kept lines as a whole: they lack a header, or rows
+abbrev pub end_faults : List Line → List TextFault
+end_faults [] = fault_at 0 NoHeader ∷ []
+end_faults (header ∷ []) = fault_at header.number EmptyCell ∷ []
+end_faults (header ∷ row ∷ rows) = []
+
+-- all faults of a text: its length, then those of its lines by line, then those of the whole
+unfoldable pub faults : List ℕ → List TextFault
+faults text =
+    map (fault_at 0) (codes_of ((nat_lt MAX_TEXT (length text), TooLong) ∷ []))
+    ++ flat_map faults_at (places [] (lines text))
+    ++ end_faults (kept (lines text))
+
+abbrev pub first_of : List TextFault → Option TextFault
+first_of [] = None
+first_of (fault ∷ faults) = Some fault
+
+-- the first fault of a text
 unfoldable pub first_fault : List ℕ → Option TextFault
-first_fault text =
-    if nat_lt MAX_TEXT (length text) then Some (record { line = 0; code = TooLong }) else fault_behind [] (lines text)
+first_fault text = first_of (faults text)

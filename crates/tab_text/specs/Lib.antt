@@ -5,6 +5,7 @@ pub mod Words
 pub mod Cells
 pub mod Rows
 pub mod Faults
+pub mod Passing
 pub mod Pieces
 pub mod Reading
 pub mod Rooms

@@ -1,8 +1,10 @@
-use Rattle.std.specs.Prelude.{ℕ, ◌≡◌, ◌<◌, ◌≤◌, List, [], ◌∷◌, ◌++◌, length, All, Option, Some, None, Result, Ok, Err, if◌then◌else◌}
+use Rattle.std.specs.Prelude.{ℕ, ◌≡◌, ◌==◌, true, ◌<◌, ◌≤◌, List, [], ◌∷◌, ◌++◌, length, All, Option, Some, None, Result, Ok, Err, if◌then◌else◌}
 use Rattle.tab_text.specs.Lines.{Line, lines, kept}
+use Rattle.tab_text.specs.Words.{is_name}
 use Rattle.tab_text.specs.Cells.{NamedRow, columns_of, cells_of, row_of}
-use Rattle.tab_text.specs.Rows.{rows_in, names_of}
-use Rattle.tab_text.specs.Faults.{fault_behind, first_fault, kept_fault, has_room}
+use Rattle.tab_text.specs.Rows.{rows_in, names_of, IsWellNamed}
+use Rattle.tab_text.specs.Faults.{first_fault, has_room}
+use Rattle.tab_text.specs.Passing.{own_fault, fault_behind, kept_fault}
 use Rattle.tab_text.specs.Reading.{lines_left, named}
 use Rattle.tab_text.specs.declared.limits.TheConstants.{MAX_ROWS, MAX_ROW_GUARDS, MAX_ROW_ACTIONS}
 use Rattle.tab_text.specs.declared.fault.TextCode.TheVariants.{TooManyNames}
@@ -23,6 +25,7 @@ pub record IsAt (header : Line) (body : List Line) (reader : Reader) : Type 0 wh
   pub columns : reader.columns ≡ columns_of header.octets
   pub count : reader.count ≡ length body
   pub state : reader.state.now ≡ last_state [] (rows_in (header ∷ body))
+  pub named : 0 < length body → is_name reader.state.now ≡ true
 
 -- a reader stands behind the header of a text
 pub record IsOpened (text : List ℕ) (header : Line) (reader : Reader) : Type 0 where
@@ -37,6 +40,7 @@ pub record IsRead (header : Line) (body : List Line) (line : Line) (row : RowNam
   pub room : length body < MAX_ROWS
   pub few_guards : length (named row).guards ≤ MAX_ROW_GUARDS
   pub few_actions : length (named row).actions ≤ MAX_ROW_ACTIONS
+  pub sound : own_fault (length body == 0) (cells_of (columns_of header.octets) line) ≡ None
   -- whether there is room for its names is left open
   pub fault : kept_fault (header ∷ body) line ≡ (if has_room (names_of (rows_in (header ∷ body ++ line ∷ []))) then None else Some TooManyNames)
 
@@ -44,6 +48,7 @@ pub record IsRead (header : Line) (body : List Line) (line : Line) (row : RowNam
 pub record TakesLine (header : Line) (body : List Line) (line : Line) (row : RowNames) (reader : Reader) : Type 0 where
   pub at : IsAt header (body ++ line ∷ []) reader
   pub rows : rows_in (header ∷ body ++ line ∷ []) ≡ rows_in (header ∷ body) ++ named row ∷ []
+  pub well : IsWellNamed (named row)
   pub number : row.line ≡ line.number
   pub room : length body < MAX_ROWS
   pub few_guards : length (named row).guards ≤ MAX_ROW_GUARDS
@@ -75,6 +80,7 @@ pub record IsShort (rows : List NamedRow) : Type 0 where
   pub few_rows : length rows ≤ MAX_ROWS
   pub few_guards : All (λ row. length row.guards ≤ MAX_ROW_GUARDS) rows
   pub few_actions : All (λ row. length row.actions ≤ MAX_ROW_ACTIONS) rows
+  pub well_named : All IsWellNamed rows
 
 -- a text is refused for its first fault, and for want of memory only where it has none
 abbrev pub IsRefusal : Option TextFault → ParseError → Type 0

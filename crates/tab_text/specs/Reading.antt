@@ -1,7 +1,7 @@
 use Rattle.std.specs.Prelude.{ℕ, ◌≡◌, ◌+◌, ◌≤◌, nat_lt, Bool, List, [], ◌∷◌, length, map, take, Option, Some, None, Result, Ok, Err, if◌then◌else◌}
 use Rattle.tab_text.specs.Lines.{Line, numbered_from, is_plain, is_skipped}
 use Rattle.tab_text.specs.Cells.{Cells, NamedRow, row_of}
-use Rattle.tab_text.specs.Faults.{own_fault}
+use Rattle.tab_text.specs.Passing.{own_fault}
 use Rattle.tab_text.specs.Pieces.{pieces_left}
 use Rattle.tab_text.specs.declared.limits.TheConstants.{MAX_ROW_GUARDS, MAX_ROW_ACTIONS}
 use Rattle.tab_text.specs.declared.fault.TextCode.TheVariants.{BadByte}
@@ -60,7 +60,6 @@ IsFrontOf (Some names) few = IsFront names few
 -- a row by its names
 abbrev pub named : RowNames → NamedRow
 named row = record {
-  line = row.line;
   state = row.state.now;
   kind = row.kind.now;
   guards = few_names row.guards;
@@ -70,7 +69,6 @@ named row = record {
 
 -- a row was found, but of its guards and actions only the front is kept
 pub record IsRowFront (found : NamedRow) (row : RowNames) : Type 0 where
-  pub line : found.line ≡ row.line
   pub state : found.state ≡ row.state.now
   pub kind : found.kind ≡ row.kind.now
   pub guards : IsFront found.guards row.guards

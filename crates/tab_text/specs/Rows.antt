@@ -1,8 +1,9 @@
-use Rattle.std.specs.Prelude.{ℕ, not, List, [], ◌∷◌, map, filter}
-use Rattle.std.specs.List.{filter_map, flat_map, position_or_len}
+use Rattle.std.specs.Prelude.{ℕ, ◌≡◌, All, true, not, List, [], ◌∷◌, map, filter}
+use Rattle.std.specs.List.{filter_map, flat_map, position_or_len, slice_index_or}
 use Rattle.std.specs.Str.{bytes_eq}
-use Rattle.tab_text.specs.Contents.{Contents}
+use Rattle.tab_text.specs.Contents.{Contents, IsTable}
 use Rattle.tab_text.specs.Lines.{Line, lines, kept}
+use Rattle.tab_text.specs.Words.{is_name}
 use Rattle.tab_text.specs.Cells.{NamedRow, columns_of, groups, row_of}
 use Rattle.tab_text.specs.declared.row.Row.{Row}
 
@@ -25,6 +26,15 @@ rows_in (header ∷ body) = filled [] (filter_map row_of (groups (columns_of hea
 -- the rows of a text
 abbrev pub rows_of : List ℕ → List NamedRow
 rows_of text = rows_in (kept (lines text))
+
+-- the lines on which the rows of the lines that are kept begin
+unfoldable pub lines_in : List Line → List ℕ
+lines_in [] = []
+lines_in (header ∷ body) = map (λ cells. cells.line) (groups (columns_of header.octets) body)
+
+-- the lines on which the rows of a text begin
+abbrev pub row_lines : List ℕ → List ℕ
+row_lines text = lines_in (kept (lines text))
 
 -- names in order of first appearance, each once
 abbrev pub distinct : List (List ℕ) → List (List ℕ)
@@ -59,19 +69,56 @@ numbered names row = record {
   guards = map (place_of names.guards) row.guards;
   actions = map (place_of names.actions) row.actions;
   next = place_of names.states row.next;
-  line = row.line;
 }
 
--- the table of rows
-unfoldable pub table_with : List NamedRow → Names → Contents
-table_with rows names = record {
+-- the table of rows that begin on these lines
+unfoldable pub table_with : List NamedRow → List ℕ → Names → Contents
+table_with rows lines names = record {
   states = names.states;
   kinds = names.kinds;
   guards = names.guards;
   actions = names.actions;
   rows = map (numbered names) rows;
+  lines = lines;
 }
 
 -- the table of a text
 unfoldable pub table_of : List ℕ → Contents
-table_of text = table_with (rows_of text) (names_of (rows_of text))
+table_of text = table_with (rows_of text) (row_lines text) (names_of (rows_of text))
+
+-- the name of that number in a list of names
+abbrev pub name_at : List (List ℕ) → ℕ → List ℕ
+name_at names number = slice_index_or names number []
+
+-- a table's row by its names
+unfoldable pub row_named : Contents → Row → NamedRow
+row_named table row = record {
+  state = name_at table.states row.state;
+  kind = name_at table.kinds row.kind;
+  guards = map (name_at table.guards) row.guards;
+  actions = map (name_at table.actions) row.actions;
+  next = name_at table.states row.next;
+}
+
+-- a table's names
+abbrev pub table_names : Contents → Names
+table_names table = record {
+  states = table.states;
+  kinds = table.kinds;
+  guards = table.guards;
+  actions = table.actions;
+}
+
+-- a row whose names are well formed
+pub record IsWellNamed (row : NamedRow) : Type 0 where
+  pub state : is_name row.state ≡ true
+  pub kind : is_name row.kind ≡ true
+  pub guards : All (λ name. is_name name ≡ true) row.guards
+  pub actions : All (λ name. is_name name ≡ true) row.actions
+  pub next : is_name row.next ≡ true
+
+-- a table within its limits, whose names are those of its rows, each once and in order of first appearance, and well formed
+pub record IsNumberedTable (table : Contents) : Type 0 where
+  pub within : IsTable table
+  pub by_appearance : table_names table ≡ names_of (map (row_named table) table.rows)
+  pub well_named : All IsWellNamed (map (row_named table) table.rows)

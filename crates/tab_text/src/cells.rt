@@ -1,7 +1,8 @@
 ghost use Rattle.std.specs.Prelude.{◌≡◌, ◌-◌, None, Some, MatchOption, MatchResult, IfSome, map};
 ghost use Rattle.tab_text.specs.Words.{trimmed};
 ghost use Rattle.tab_text.specs.Cells.{cell, cells_of, guards_of, condition_of, names_between, actions_of, is_state, row_of};
-ghost use Rattle.tab_text.specs.Faults.{lacks_cell, own_fault};
+ghost use Rattle.tab_text.specs.Faults.{lacks_cell};
+ghost use Rattle.tab_text.specs.Passing.{own_fault};
 ghost use Rattle.tab_text.specs.Pieces.{words_left};
 ghost use Rattle.tab_text.specs.Reading.{line_of, cells_in, IsFrontOf, IsRowFrontOf, IsOwnRow};
 
@@ -165,7 +166,7 @@ fn lacks_cell(cells: RowCells, is_first: bool) -> bool
 }
 
 /// The row of cells, or the first fault that it has by itself.
-#[tactic(auto, unfolding(crate::specs::Faults::own_fault))]
+#[tactic(auto, unfolding(crate::specs::Passing::own_fault))]
 pub(crate) fn read_row<'a>(cells: RowCells<'a>, is_first: bool) -> Result<RowNames<'a>, TextCode>
     ensures { MatchResult result (IsOwnRow is_first (cells_in cells.entry)) (λ code. own_fault is_first (cells_in cells.entry) ≡ Some code) }
 {

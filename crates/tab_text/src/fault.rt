@@ -21,7 +21,7 @@ pub enum TextCode {
     #[error("wanted names of at most 40 bytes, a letter and then letters, digits, - / or _, an Event as `Kind` or `Kind when guard and guard`, and an Action as `-` or names with commas between")]
     BadName,
     /// A row past the last one that a table has room for.
-    #[error("wanted at most 512 rows")]
+    #[error("wanted at most 4,096 rows")]
     TooManyRows,
     /// A name past the last one that a table has room for.
     #[error("wanted at most 64 states, 128 kinds, 64 guards and 64 actions in all rows")]
@@ -30,7 +30,7 @@ pub enum TextCode {
     #[error("wanted at most 4 guards and 8 actions in a row")]
     TooManyInRow,
     /// The whole text is too long.
-    #[error("wanted a text of at most 65,536 bytes")]
+    #[error("wanted a text of at most 1,048,576 bytes")]
     TooLong,
 }
 

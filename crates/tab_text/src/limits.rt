@@ -1,13 +1,13 @@
 //! What a text and its table have room for.
 
 /// How many bytes a text may have.
-pub const MAX_TEXT: usize = 65_536;
+pub const MAX_TEXT: usize = 1_048_576;
 
 /// How many bytes a name may have.
 pub const MAX_NAME: usize = 40;
 
 /// How many rows a table may have.
-pub const MAX_ROWS: usize = 512;
+pub const MAX_ROWS: usize = 4_096;
 
 /// How many states a table may name.
 pub const MAX_STATES: usize = 64;

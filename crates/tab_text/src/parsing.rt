@@ -1,5 +1,5 @@
-ghost use Rattle.std.specs.Prelude.{◌≡◌, true, None, Some, map, IfOk, IfErr, OnOk};
-ghost use Rattle.tab_text.specs.Rows.{rows_of, names_of, numbered, table_of};
+ghost use Rattle.std.specs.Prelude.{◌≡◌, true, None, Some, length, map, IfOk, IfErr, OnOk};
+ghost use Rattle.tab_text.specs.Rows.{rows_of, row_lines, names_of, numbered, table_of};
 ghost use Rattle.tab_text.specs.Faults.{first_fault, has_room};
 ghost use Rattle.tab_text.specs.Rooms.{rooms_names};
 ghost use Rattle.tab_text.specs.Reader.{IsShort, IsRefusal};
@@ -32,19 +32,27 @@ fn check<'a>(text: &'a [u8]) -> Result<Rooms<'a>, TextFault>
     Ok(names)
 }
 
-/// The rows of a text that has these names.
-fn fill<'a>(alloc: Global, text: &'a [u8], names: &Rooms<'a>) -> Result<Vec<Row>, ParseError>
+/// The rows of a text that has these names, and the line on which each begins.
+fn fill<'a>(
+    alloc: Global,
+    text: &'a [u8],
+    names: &Rooms<'a>,
+) -> Result<(Vec<Row>, Vec<usize>), ParseError>
     requires { first_fault text.now ≡ None }
-    ensures rows { IfOk result (λ rows. rows.items ≡ map (numbered (rooms_names names.now)) (rows_of text.now)) }
+    ensures rows { IfOk result (λ filled. filled.0.items ≡ map (numbered (rooms_names names.now)) (rows_of text.now)) }
+    ensures lines { IfOk result (λ filled. filled.1.items ≡ row_lines text.now) }
+    ensures each { OnOk result (length (row_lines text.now) ≡ length (rows_of text.now)) }
     ensures short { OnOk result (IsShort (rows_of text.now)) }
     ensures err { IfErr result (λ error. error ≡ NoMemory) }
 {
     let mut rows = Vec::new(alloc);
+    let mut lines = Vec::new(alloc);
     let mut reader = Reader::open(text)?;
     while let Some(row) = reader.next_row()? {
         rows.push(names.numbered(&row))?;
+        lines.push(row.line)?;
     }
-    Ok(rows)
+    Ok((rows, lines))
 }
 
 /// The table of a text.
@@ -60,10 +68,10 @@ pub fn parse(alloc: Global, text: &[u8]) -> Result<Table, ParseError>
     ensures refused { IfErr result (λ error. IsRefusal (first_fault text.now) error) }
 {
     let names = check(text)?;
-    let rows = fill(alloc, text, &names)?;
+    let (rows, lines) = fill(alloc, text, &names)?;
     let states = names.states.copied(alloc)?;
     let kinds = names.kinds.copied(alloc)?;
     let guards = names.guards.copied(alloc)?;
     let actions = names.actions.copied(alloc)?;
-    Ok(Table::new(states, kinds, guards, actions, rows))
+    Ok(Table::new(states, kinds, guards, actions, rows, lines))
 }

@@ -30,7 +30,8 @@ pub(crate) struct Reader<'a> {
 
 impl<'a> Reader<'a> {
     ghost use Rattle.tab_text.specs.Lines.{Line};
-    ghost use Rattle.tab_text.specs.Faults.{first_fault, kept_fault};
+    ghost use Rattle.tab_text.specs.Faults.{first_fault};
+    ghost use Rattle.tab_text.specs.Passing.{kept_fault};
     ghost use Rattle.tab_text.specs.Reading.{lines_left, line_of};
     ghost use Rattle.tab_text.specs.Reader.{IsAt, IsRead, TakesLine, IsOpened, IsNextRow};
 

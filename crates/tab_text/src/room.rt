@@ -204,7 +204,6 @@ impl<'a> Rooms<'a> {
             guards: self.guards.places(row.guards.as_slice()),
             actions: self.actions.places(row.actions.as_slice()),
             next: self.states.place(row.next) as u8,
-            line: row.line,
         }
     }
 }

@@ -12,6 +12,4 @@ pub struct Row {
     pub guards: Places,
     pub actions: Places,
     pub next: u8,
-    /// The line of the text on which the row begins, from 1.
-    pub line: usize,
 }

@@ -1,5 +1,4 @@
 ghost use Rattle.std.specs.Prelude.{◌≡◌};
-ghost use Rattle.std.specs.Option.{option_map};
 ghost use Rattle.std.specs.List.{slice_get};
 
 use crate::name::NameList;
@@ -15,6 +14,8 @@ pub struct Table {
     guards: NameList,
     actions: NameList,
     rows: Vec<Row>,
+    /// The line of the text on which each row begins.
+    lines: Vec<usize>,
 }
 
 // A derived `drop` is proved anew, field by field, at each way out of each function that holds a table; this one is a call.
@@ -26,22 +27,25 @@ impl Drop for Table {
             guards,
             actions,
             rows,
+            lines,
         } = self;
     }
 }
 
 impl Model for Table {
-    ghost use Rattle.tab_text.specs.Contents.{Contents, IsTable};
+    ghost use Rattle.tab_text.specs.Contents.{Contents};
+    ghost use Rattle.tab_text.specs.Rows.{IsNumberedTable};
 
     ghost Value = { Contents };
 
-    ghost view = { λ t. record { states = t.states; kinds = t.kinds; guards = t.guards; actions = t.actions; rows = t.rows.items } };
+    ghost view = { λ t. record { states = t.states; kinds = t.kinds; guards = t.guards; actions = t.actions; rows = t.rows.items; lines = t.lines.items } };
 
-    ghost invariant = { λ t. IsTable (record { states = t.states; kinds = t.kinds; guards = t.guards; actions = t.actions; rows = t.rows.items }) };
+    ghost invariant = { λ t. IsNumberedTable (record { states = t.states; kinds = t.kinds; guards = t.guards; actions = t.actions; rows = t.rows.items; lines = t.lines.items }) };
 }
 
 impl Table {
     ghost use Rattle.tab_text.specs.Contents.{Contents, IsTable};
+    ghost use Rattle.tab_text.specs.Rows.{IsNumberedTable};
 
     pub(crate) fn new(
         states: NameList,
@@ -49,9 +53,10 @@ impl Table {
         guards: NameList,
         actions: NameList,
         rows: Vec<Row>,
+        lines: Vec<usize>,
     ) -> Table
-        requires { IsTable (record { states = states; kinds = kinds; guards = guards; actions = actions; rows = rows.items }) }
-        ensures { result ≡ record { states = states; kinds = kinds; guards = guards; actions = actions; rows = rows.items } }
+        requires { IsNumberedTable (record { states = states; kinds = kinds; guards = guards; actions = actions; rows = rows.items; lines = lines.items }) }
+        ensures { result ≡ record { states = states; kinds = kinds; guards = guards; actions = actions; rows = rows.items; lines = lines.items } }
     {
         Table {
             states,
@@ -59,6 +64,7 @@ impl Table {
             guards,
             actions,
             rows,
+            lines,
         }
     }
 
@@ -66,19 +72,16 @@ impl Table {
     pub fn rows(&self) -> &[Row]
         ensures rows { result.now ≡ self.now.rows }
         ensures table { IsTable self.now }
+        ensures numbered { IsNumberedTable self.now }
     {
         self.rows.as_slice()
     }
 
     /// The line of the text on which a row begins, from 1; rows are numbered from 0.
     pub fn line_of(&self, row: usize) -> Option<usize>
-        ensures { result ≡ option_map (λ r. r.line) (slice_get self.now.rows row) }
+        ensures { result ≡ slice_get self.now.lines row }
     {
-        if row < self.rows.len() {
-            Some(self.rows[row].line)
-        } else {
-            None
-        }
+        self.lines.get(row).copied()
     }
 
     /// The names of the states, by number.

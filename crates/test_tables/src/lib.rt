@@ -4,6 +4,7 @@
 #[cfg(test)]
 mod laws;
 #[cfg(test)]
+mod prints;
 mod steps;
 #[cfg(test)]
 mod texts;

@@ -27,9 +27,9 @@ fn are_names(names: &NameList, wanted: &[&[u8]]) -> bool {
             .all(|(name, want)| name.as_slice() == *want)
 }
 
-/// Whether a row has this state, kind, next state and line, these guards and these actions.
-fn is_row(row: &Row, numbers: (u8, u8, u8, usize), guards: &[u8], actions: &[u8]) -> bool {
-    (row.state, row.kind, row.next, row.line) == numbers
+/// Whether a row has this state, kind and next state, these guards and these actions.
+fn is_row(row: &Row, numbers: (u8, u8, u8), guards: &[u8], actions: &[u8]) -> bool {
+    (row.state, row.kind, row.next) == numbers
         && row.guards.as_slice() == guards
         && row.actions.as_slice() == actions
 }
@@ -39,8 +39,8 @@ fn the_example_has_two_rows_and_its_names_in_order(rt: HostRuntime) -> Result<()
     let table = parse(rt.alloc(), EXAMPLE)?;
     let rows = table.rows();
     assert!(rt; rows.len() == 2);
-    assert!(rt; is_row(&rows[0], (0, 0, 1, 2), &[0, 1], &[0]));
-    assert!(rt; is_row(&rows[1], (0, 0, 0, 3), &[], &[1]));
+    assert!(rt; is_row(&rows[0], (0, 0, 1), &[0, 1], &[0]));
+    assert!(rt; is_row(&rows[1], (0, 0, 0), &[], &[1]));
     for (row, line) in [(0, Some(2)), (1, Some(3)), (2, None)] {
         assert!(rt; table.line_of(row) == line, "line of {row}");
     }
@@ -63,8 +63,9 @@ fn comments_blank_lines_and_an_empty_state_are_as_if_written_out(
     let table = parse(rt.alloc(), LOOSE)?;
     let rows = table.rows();
     assert!(rt; rows.len() == 2);
-    assert!(rt; is_row(&rows[0], (0, 0, 1, 5), &[], &[]));
-    assert!(rt; is_row(&rows[1], (0, 1, 0, 8), &[], &[0, 1]));
+    assert!(rt; is_row(&rows[0], (0, 0, 1), &[], &[]));
+    assert!(rt; is_row(&rows[1], (0, 1, 0), &[], &[0, 1]));
+    assert!(rt; (table.line_of(0), table.line_of(1)) == (Some(5), Some(8)));
     Ok(())
 }
 
@@ -318,9 +319,9 @@ fn texts_rows_and_names_have_their_limits(rt: HostRuntime) -> Result<(), Fail> {
         );
     }
     let full = alike(alloc, MAX_ROWS)?;
-    assert!(rt; parse(alloc, full.as_slice())?.rows().len() == 512);
+    assert!(rt; parse(alloc, full.as_slice())?.rows().len() == 4_096);
     let over = alike(alloc, MAX_ROWS + 1)?;
-    assert!(rt; is_read_as(alloc, over.as_slice(), fault(514, TextCode::TooManyRows)));
+    assert!(rt; is_read_as(alloc, over.as_slice(), fault(4_098, TextCode::TooManyRows)));
     for (more, wanted) in [
         (b"\n".as_slice(), None),
         (b"o\n".as_slice(), fault(2, TextCode::BadName)),
@@ -353,7 +354,7 @@ const MESSAGES: [(TextCode, u8, &str); 8] = [
         5,
         "line 7: wanted names of at most 40 bytes, a letter and then letters, digits, - / or _, an Event as `Kind` or `Kind when guard and guard`, and an Action as `-` or names with commas between",
     ),
-    (TextCode::TooManyRows, 6, "line 7: wanted at most 512 rows"),
+    (TextCode::TooManyRows, 6, "line 7: wanted at most 4,096 rows"),
     (
         TextCode::TooManyNames,
         7,
@@ -367,7 +368,7 @@ const MESSAGES: [(TextCode, u8, &str); 8] = [
     (
         TextCode::TooLong,
         9,
-        "line 7: wanted a text of at most 65,536 bytes",
+        "line 7: wanted a text of at most 1,048,576 bytes",
     ),
 ];
 

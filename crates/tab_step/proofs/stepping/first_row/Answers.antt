@@ -14,6 +14,6 @@ returns-then-takes-clause-some c = λ row.
 
 pub returns-clause-none : goal.returns-clause-none
 returns-clause-none c =
-    let none : Row = record { state = 0; kind = 0; guards = []; actions = []; next = 0; line = 0 } in
+    let none : Row = record { state = 0; kind = 0; guards = []; actions = []; next = 0 } in
     let past = rw (c.rows-number-end.ensures.rows, c.table.ensures) at c.loop-number-test.false in
     first-none (matches c.args.bound.now.table c.args.state (is_kind_of c.args.book.now c.args.kind) (named_answer c.args.book.now c.args.scene.now)) c.args.bound.now.table.rows 0 none (λ k below. c.loop-number.invariant k none (omega (arith, past)))

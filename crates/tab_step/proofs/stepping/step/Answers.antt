@@ -6,7 +6,7 @@ use Rattle.tab_step.proofs.MoveLemmas.{MovesBy-permits}
 use Rattle.tab_step.proofs.stepping.step.Goals as goal
 
 none : Row
-none = record { state = 0; kind = 0; guards = []; actions = []; next = 0; line = 0 }
+none = record { state = 0; kind = 0; guards = []; actions = []; next = 0 }
 
 pub returns-in-Some-clause-high : goal.returns-in-Some-clause-high
 returns-in-Some-clause-high c = record {

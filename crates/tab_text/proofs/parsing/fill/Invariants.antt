@@ -5,9 +5,9 @@ use Rattle.tab_text.specs.Rooms.{rooms_names}
 use Rattle.tab_text.proofs.ParseLemmas.{IsFilled}
 use Rattle.tab_text.proofs.parsing.fill.Given as goal
 
-abbrev pub invariant-loop-rows : goal.invariant-loop-rows
-invariant-loop-rows l =
-    (header : Line) × (body : List Line) × IsFilled l.text l.reader (rooms_names l.names) l.rows.items header body
+abbrev pub invariant-loop-lines : goal.invariant-loop-lines
+invariant-loop-lines l =
+    (header : Line) × (body : List Line) × IsFilled l.text l.reader (rooms_names l.names) l.rows.items l.lines.items header body
 
-abbrev pub decreases-loop-rows : goal.decreases-loop-rows
-decreases-loop-rows l = length (kept (lines_left l.reader.lines))
+abbrev pub decreases-loop-lines : goal.decreases-loop-lines
+decreases-loop-lines l = length (kept (lines_left l.reader.lines))

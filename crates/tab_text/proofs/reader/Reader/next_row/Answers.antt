@@ -1,7 +1,8 @@
 use Rattle.std.proofs.Common.{◌≡◌, ◌<◌, ◌∷◌, ◌++◌, [], length, Ok, Some, None, ◌∙◌, arith, refl}
 use Rattle.std.proofs.lemmas.Result.{err_from_is_err_and}
 use Rattle.tab_text.specs.Rows.{names_of, rows_in}
-use Rattle.tab_text.specs.Faults.{has_room, fault_behind}
+use Rattle.tab_text.specs.Faults.{has_room}
+use Rattle.tab_text.specs.Passing.{fault_behind}
 use Rattle.tab_text.specs.Reading.{line_of, lines_left}
 use Rattle.tab_text.proofs.ReaderLemmas.{fault-found, end-empty, end-some, room-cases}
 use Rattle.tab_text.proofs.reader.Reader.next_row.Goals as goal
@@ -29,14 +30,14 @@ pub returns-in-Err : goal.returns-in-Err
 returns-in-Err c = λ header body stands.
     let found = rw c.in-Some.is at c.in_ok-line.ensures in
     let next = fault-found (header ∷ body) (lines_left c.args.self.now.lines) (Ok (Some (line_of c.in-Some.line, lines_left c.next_kept.new.self))) found in
-    next.0 ∙ rw (c.in-Err.ensures.row header body (record { line = stands.line; columns = stands.columns; count = stands.count; state = stands.state })) refl
+    next.0 ∙ rw (c.in-Err.ensures.row header body (record { line = stands.line; columns = stands.columns; count = stands.count; state = stands.state; named = stands.named })) refl
 
 pub returns-in-Ok : goal.returns-in-Ok
 returns-in-Ok c = λ header body stands.
     let found = rw c.in-Some.is at c.in_ok-line.ensures in
     let line = line_of c.in-Some.line in
     let next = fault-found (header ∷ body) (lines_left c.args.self.now.lines) (Ok (Some (line, lines_left c.next_kept.new.self))) found in
-    let taken = c.in-Ok.ensures.row header body (record { line = stands.line; columns = stands.columns; count = stands.count; state = stands.state }) in (
+    let taken = c.in-Ok.ensures.row header body (record { line = stands.line; columns = stands.columns; count = stands.count; state = stands.state; named = stands.named }) in (
       line,
       record {
         taken = taken;

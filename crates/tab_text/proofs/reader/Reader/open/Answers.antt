@@ -1,4 +1,4 @@
-use Rattle.std.proofs.Common.{[], Ok, Some, None, sym, ◌∙◌, refl}
+use Rattle.std.proofs.Common.{arith, [], Ok, Some, None, sym, ◌∙◌, refl}
 use Rattle.std.proofs.lemmas.Result.{err_from_is_err_and}
 use Rattle.tab_text.specs.Reading.{line_of, lines_left}
 use Rattle.tab_text.specs.Lines.{lines}
@@ -40,7 +40,7 @@ returns c =
     let next = fault-found [] (lines text) (Ok (Some (line, lines_left c.next_kept.new.self))) found in (
       line,
       record {
-        at = record { line = refl; columns = c.in-Some-header_of.ensures.1; count = refl; state = sym (no-rows line) };
+        at = record { line = refl; columns = c.in-Some-header_of.ensures.1; count = refl; state = sym (no-rows line); named = λ some. absurd (omega (arith, some)) };
         kept = next.1;
         fault = first_fault-within text c.if-text-gt-MAX_TEXT.false ∙ next.0 ∙ rw (header-good line c.in-Some-header_of.ensures.0) refl;
       },

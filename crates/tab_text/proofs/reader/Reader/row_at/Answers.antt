@@ -33,5 +33,6 @@ returns-clause-row c = λ header body stands.
       room = omega (arith, stands.count);
       few_guards = c.in_ok-row.ensures.few_guards;
       few_actions = c.in_ok-row.ensures.few_actions;
+      sound = rw (← cut, ← stands.count) c.in_ok-row.ensures.sound;
       fault = row-under header body line c.args.self.now.count (sym c.if-not-is_row_line.ensures) stands.count (rw (← cut) c.in_ok-row.ensures.sound) c.if-self-ge-MAX_ROWS.false;
     }
