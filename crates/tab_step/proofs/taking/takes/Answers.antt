@@ -5,25 +5,25 @@ use Rattle.tab_step.specs.Bind.{IsPlacesOf}
 use Rattle.tab_step.specs.Moves.{name_at}
 use Rattle.tab_step.proofs.BindLemmas.{AllZip-length, places-at, places-in, row-at}
 use Rattle.tab_step.proofs.MoveLemmas.{matches-places}
-use Rattle.tab_step.proofs.stepping.takes.Goals as goal
-use Rattle.tab_step.proofs.stepping.takes.Goals.{then-row-state, else-row-state}
+use Rattle.tab_step.proofs.taking.takes.Goals as goal
+use Rattle.tab_step.proofs.taking.takes.Goals.{then-row-state, else-row-state}
 
 not-both : (b : Bool) → b ≡ false → b ≡ true → ⊥
 not-both true off on = cc
 not-both false off on = cc
 
 pub bounds-places-number : goal.bounds-places-number
-bounds-places-number c =
+bounds-places-number g c =
     let same = AllZip-length (IsPlacesOf c.args.book.now c.args.bound.now.table) c.args.bound.now.table.rows c.args.bound.now.places c.requires.bound in
     rw c.places.ensures (omega (arith, same, c.requires.in_rows))
 
-pub all_yes-requires : goal.all_yes-requires
-all_yes-requires c =
+pub all_yes-requires-clause-registered : goal.all_yes-requires-clause-registered
+all_yes-requires-clause-registered g c =
     let at = places-at c.args.book.now c.args.bound.now c.args.number c.index-rows-number.result c.index-places-number.result c.requires.bound c.requires.in_rows (rw c.places.ensures at c.index-places-number.is) in
     rw c.as_slice.ensures.value (places-in c.args.book.now.guards (name_at c.args.bound.now.table.guards) _ _ at.guards)
 
 pub returns-then-places-kind : goal.returns-then-places-kind
-returns-then-places-kind c = λ row.
+returns-then-places-kind g c = λ row.
     let at = places-at c.args.book.now c.args.bound.now c.args.number row c.index-places-number.result c.requires.bound c.requires.in_rows (rw c.places.ensures at c.index-places-number.is) in
     let by = matches-places c.args.book.now c.args.bound.now.table (get_or c.args.bound.now.table.rows c.args.number row) c.index-places-number.result c.args.state c.args.kind c.args.scene.now c.known.ensures.kinds_named at in
     let is = row-at c.args.bound.now.table.rows c.rows.result.now c.args.number row c.index-rows-number.result (rw c.table.ensures at c.rows.ensures.rows) c.requires.in_rows c.index-rows-number.is in
@@ -36,7 +36,7 @@ returns-then-places-kind c = λ row.
     ]
 
 pub returns-else-places-kind : goal.returns-else-places-kind
-returns-else-places-kind c = λ row.
+returns-else-places-kind g c = λ row.
     let at = places-at c.args.book.now c.args.bound.now c.args.number row c.index-places-number.result c.requires.bound c.requires.in_rows (rw c.places.ensures at c.index-places-number.is) in
     let by = matches-places c.args.book.now c.args.bound.now.table (get_or c.args.bound.now.table.rows c.args.number row) c.index-places-number.result c.args.state c.args.kind c.args.scene.now c.known.ensures.kinds_named at in
     let is = row-at c.args.bound.now.table.rows c.rows.result.now c.args.number row c.index-rows-number.result (rw c.table.ensures at c.rows.ensures.rows) c.requires.in_rows c.index-rows-number.is in
