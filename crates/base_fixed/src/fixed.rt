@@ -47,6 +47,13 @@ impl<T: Copy + Default, const N: usize> FixedList<T, N> {
         self.values.is_empty()
     }
 
+    /// Takes all values out. Costs time in proportion to them, not to the room.
+    pub fn clear(&mut self)
+        ensures { self.new ≡ [] }
+    {
+        self.values.clear();
+    }
+
     /// Adds a value at the end.
     pub fn push(&mut self, value: T)
         requires { length self.old < N }
@@ -56,13 +63,22 @@ impl<T: Copy + Default, const N: usize> FixedList<T, N> {
     }
 
     /// Adds values at the end.
+    pub fn extend_from_slice(&mut self, more: &[T])
+        requires { length self.old + length more.now ≤ N }
+        ensures { self.new ≡ self.old ++ more.now }
+    {
+        match self.values.try_extend_from_slice(more) {
+            Ok(()) => {}
+            Err(_) => unreachable!(),
+        }
+    }
+
+    /// Adds the values of another list at the end.
     pub fn append(&mut self, more: &FixedList<T, N>)
         requires { length self.old + length more.now ≤ N }
         ensures { self.new ≡ self.old ++ more.now }
     {
-        for value in more.as_slice() {
-            self.push(*value);
-        }
+        self.extend_from_slice(more.as_slice());
     }
 
     /// The values.

@@ -1,10 +1,10 @@
 -- Short texts, and the facts that their words are.
-use Rattle.std.proofs.Common.{◌≡◌, [], ◌∷◌, Some, None, codes, refl}
+use Rattle.std.proofs.Common.{◌≡◌, ◌∷◌, ◌++◌, replicate, Some, None, codes, refl}
 use Rattle.tab_text.specs.Words.{words}
 use Rattle.bench_text.specs.Numbers.{number_of}
 use Rattle.event_text.specs.Events.{fact_of, facts_of}
 
-pub facts_of-two : facts_of (words (codes "12=5 3=7")) ≡ Some (0 ∷ 0 ∷ 0 ∷ 7 ∷ 0 ∷ 0 ∷ 0 ∷ 0 ∷ 0 ∷ 0 ∷ 0 ∷ 0 ∷ 5 ∷ 0 ∷ 0 ∷ 0 ∷ [])
+pub facts_of-two : facts_of (words (codes "12=5 3=7")) ≡ Some (0 ∷ 0 ∷ 0 ∷ 7 ∷ replicate 8 0 ++ 5 ∷ replicate 51 0)
 unfolding words number_of fact_of facts_of
 facts_of-two = refl
 
@@ -14,6 +14,6 @@ unfolding words number_of fact_of facts_of
 facts_of-twice = refl
 
 -- a number is past the last place
-pub facts_of-past : facts_of (words (codes "3=7 16=1")) ≡ None
+pub facts_of-past : facts_of (words (codes "3=7 64=1")) ≡ None
 unfolding words number_of fact_of facts_of
 facts_of-past = refl

@@ -1,7 +1,7 @@
-use Rattle.std.proofs.Common.{◌≡◌, ℕ, ◌+◌, ◌<◌, ◌≤◌, List, [], ◌∷◌, ◌++◌, Option, Some, None, length, take, get_or, arith, rules, refl, length-append}
+use Rattle.std.proofs.Common.{◌≡◌, ℕ, ◌+◌, ◌-◌, ◌<◌, ◌≤◌, zero, suc, Bool, true, false, Option, Some, None, List, [], ◌∷◌, ◌++◌, length, take, map, filter, replicate, slice_set, get_or, arith, refl, ap, length-append, append-nil}
 use Rattle.std.specs.List.{filter_map}
-use Rattle.std.proofs.lemmas.List.{length-take, take_all, take-append-le, take_more}
-use Rattle.std.proofs.lemmas.List.Elements.{filter_map-append}
+use Rattle.std.proofs.lemmas.List.Elements.{filter-append, filter_map-append}
+use Rattle.std.proofs.lemmas.List.{length-take, take_all, take-append-le}
 
 -- one more behind fewer than n
 pub take_short : {A : Type 0} (n : ℕ) (ys : List A) (z : A) → length (take n ys) < n → take n (ys ++ z ∷ []) ≡ take n ys ++ z ∷ []
@@ -18,29 +18,74 @@ take_full n ys zs h =
     let e = length-take n ys in
     take-append-le n ys zs (omega (arith, e))
 
--- an item that gives one more
-pub first-more : {X Y : Type 0} (n : ℕ) (f : X → Option Y) (xs : List X) (x : X) (y : Y) → f x ≡ Some y → length (take n (filter_map f xs)) < n → take n (filter_map f (xs ++ x ∷ [])) ≡ take n (filter_map f xs) ++ y ∷ []
-first-more n f xs x y e h = rw filter_map-append (rw e (take_short n (filter_map f xs) y h))
+filter-yes : {X : Type 0} (p : X → Bool) (xs : List X) (x : X) → p x ≡ true → filter p (xs ++ x ∷ []) ≡ filter p xs ++ x ∷ []
+filter-yes p xs x e = rw (filter-append p xs (x ∷ []), e) refl
 
--- an item behind those that are enough
-pub first-full : {X Y : Type 0} (n : ℕ) (f : X → Option Y) (xs : List X) (x : X) → n ≤ length (take n (filter_map f xs)) → take n (filter_map f (xs ++ x ∷ [])) ≡ take n (filter_map f xs)
-first-full n f xs x h = rw filter_map-append (take_full n (filter_map f xs) (filter_map f (x ∷ [])) h)
+filter-no : {X : Type 0} (p : X → Bool) (xs : List X) (x : X) → p x ≡ false → filter p (xs ++ x ∷ []) ≡ filter p xs
+filter-no p xs x e = rw (filter-append p xs (x ∷ []), e) (append-nil (filter p xs))
 
--- an item that gives nothing
-pub first-none : {X Y : Type 0} (n : ℕ) (f : X → Option Y) (xs : List X) (x : X) → f x ≡ None → take n (filter_map f (xs ++ x ∷ [])) ≡ take n (filter_map f xs)
-first-none n f xs x e = rw filter_map-append (rw e (search (rules)))
+-- the first n of xs that count give ys, and there are `counted` of them
+pub record AreGiven {X Y : Type 0} (f : X → Option Y) (p : X → Bool) (n : ℕ) (xs : List X) (ys : List Y) (counted : ℕ) : Type 0 where
+  pub given : ys ≡ filter_map f (take n (filter p xs))
+  pub number : counted ≡ length (take n (filter p xs))
+  pub few : length ys ≤ counted
 
--- the same along a list of changes
-pub step-more : {X Y : Type 0} (n : ℕ) (f : X → Option Y) (xs : List X) (i : ℕ) (d : X) (ys : List Y) (y : Y) → i < length xs → f (get_or xs i d) ≡ Some y → length ys < n → ys ≡ take n (filter_map f (take i xs)) → ys ++ y ∷ [] ≡ take n (filter_map f (take (i + 1) xs))
-step-more n f xs i d ys y l e h k =
-    let short : length (take n (filter_map f (take i xs))) < n = rw (← k) h in
-    rw (take_more xs i d l, first-more n f (take i xs) (get_or xs i d) y e short, ← k) refl
+-- one more that counts, behind fewer than n
+counted-more : {X : Type 0} (n : ℕ) (p : X → Bool) (xs : List X) (x : X) → p x ≡ true → length (take n (filter p xs)) < n → take n (filter p (xs ++ x ∷ [])) ≡ take n (filter p xs) ++ x ∷ []
+counted-more n p xs x e h = rw (filter-yes p xs x e) (take_short n (filter p xs) x h)
 
-pub step-full : {X Y : Type 0} (n : ℕ) (f : X → Option Y) (xs : List X) (i : ℕ) (d : X) (ys : List Y) (y : Y) → i < length xs → f (get_or xs i d) ≡ Some y → n ≤ length ys → ys ≡ take n (filter_map f (take i xs)) → ys ≡ take n (filter_map f (take (i + 1) xs))
-step-full n f xs i d ys y l e h k =
-    let full : n ≤ length (take n (filter_map f (take i xs))) = rw (← k) h in
-    rw (take_more xs i d l, first-full n f (take i xs) (get_or xs i d) full) k
+-- one that doesn't count
+counted-other : {X : Type 0} (n : ℕ) (p : X → Bool) (xs : List X) (x : X) → p x ≡ false → take n (filter p (xs ++ x ∷ [])) ≡ take n (filter p xs)
+counted-other n p xs x e = rw (filter-no p xs x e) refl
 
-pub step-none : {X Y : Type 0} (n : ℕ) (f : X → Option Y) (xs : List X) (i : ℕ) (d : X) (ys : List Y) → i < length xs → f (get_or xs i d) ≡ None → ys ≡ take n (filter_map f (take i xs)) → ys ≡ take n (filter_map f (take (i + 1) xs))
-step-none n f xs i d ys l e k =
-    rw (take_more xs i d l, first-none n f (take i xs) (get_or xs i d) e) k
+-- more behind n
+counted-full : {X : Type 0} (n : ℕ) (p : X → Bool) (xs : List X) (x : X) (b : Bool) → p x ≡ b → n ≤ length (take n (filter p xs)) → take n (filter p (xs ++ x ∷ [])) ≡ take n (filter p xs)
+counted-full n p xs x true e h = rw (filter-yes p xs x e) (take_full n (filter p xs) (x ∷ []) h)
+counted-full n p xs x false e h = counted-other n p xs x e
+
+-- one that counts and gives one more
+pub AreGiven-more : {X Y : Type 0} (f : X → Option Y) (p : X → Bool) (n : ℕ) (xs : List X) (ys : List Y) (counted : ℕ) (x : X) (y : Y) → AreGiven f p n xs ys counted → counted < n → p x ≡ true → f x ≡ Some y → AreGiven f p n (xs ++ x ∷ []) (ys ++ y ∷ []) (counted + 1)
+AreGiven-more f p n xs ys counted x y g l e k =
+    let more = counted-more n p xs x e (rw (← g.number) l) in
+    record {
+      given = rw (more, filter_map-append, k, ← g.given) refl;
+      number = rw (more, length-append, ← g.number) refl;
+      few = omega (arith, length-append ys (y ∷ []), g.few);
+    }
+
+-- one that counts and gives nothing
+pub AreGiven-none : {X Y : Type 0} (f : X → Option Y) (p : X → Bool) (n : ℕ) (xs : List X) (ys : List Y) (counted : ℕ) (x : X) → AreGiven f p n xs ys counted → counted < n → p x ≡ true → f x ≡ None → AreGiven f p n (xs ++ x ∷ []) ys (counted + 1)
+AreGiven-none f p n xs ys counted x g l e k =
+    let more = counted-more n p xs x e (rw (← g.number) l) in
+    record {
+      given = rw (more, filter_map-append, k, append-nil) g.given;
+      number = rw (more, length-append, ← g.number) refl;
+      few = omega (arith, g.few);
+    }
+
+-- one that doesn't count
+pub AreGiven-other : {X Y : Type 0} (f : X → Option Y) (p : X → Bool) (n : ℕ) (xs : List X) (ys : List Y) (counted : ℕ) (x : X) → AreGiven f p n xs ys counted → p x ≡ false → AreGiven f p n (xs ++ x ∷ []) ys counted
+AreGiven-other f p n xs ys counted x g e =
+    let same = counted-other n p xs x e in
+    record { given = rw same g.given; number = rw same g.number; few = g.few }
+
+-- one behind those that are enough
+pub AreGiven-full : {X Y : Type 0} (f : X → Option Y) (p : X → Bool) (n : ℕ) (xs : List X) (ys : List Y) (counted : ℕ) (x : X) → AreGiven f p n xs ys counted → n ≤ counted → AreGiven f p n (xs ++ x ∷ []) ys counted
+AreGiven-full f p n xs ys counted x g l =
+    let same = counted-full n p xs x (p x) refl (rw (← g.number) l) in
+    record { given = rw same g.given; number = rw same g.number; few = g.few }
+
+put-in : {X : Type 0} (f : X → ℕ) (xs : List X) (i m : ℕ) (d : X) → i < length xs
+    → slice_set (map f (take i xs) ++ 0 ∷ replicate m 0) i (f (get_or xs i d)) ≡ map f (take (i + 1) xs) ++ replicate m 0
+put-in f [] i m d l = absurd (omega arith)
+put-in f (x ∷ xs) zero m d l = refl
+put-in f (x ∷ xs) (suc i) m d l =
+    let e : suc i + 1 ≡ suc (i + 1) = omega arith in
+    rw e (ap (λ zs. f x ∷ zs) (put-in f xs i m d (omega arith)))
+
+-- one more value in front of zeros
+pub padded-more : {X : Type 0} (f : X → ℕ) (xs : List X) (i n : ℕ) (d : X) → i < length xs → length xs ≤ n
+    → slice_set (map f (take i xs) ++ replicate (n - i) 0) i (f (get_or xs i d)) ≡ map f (take (i + 1) xs) ++ replicate (n - (i + 1)) 0
+padded-more f xs i n d l h =
+    let e : n - i ≡ suc (n - (i + 1)) = omega arith in
+    rw e (put-in f xs i (n - (i + 1)) d l)

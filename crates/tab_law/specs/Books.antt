@@ -3,7 +3,7 @@ use Rattle.std.specs.List.{slice_get}
 use Rattle.std.specs.Option.{option_map_or}
 use Rattle.tab_law.specs.Guards.{says_yes}
 use Rattle.base_list.specs.Named.{entry_of, HasOwnNames}
-use Rattle.tab_law.specs.Acts.{Permits, IsHigh}
+use Rattle.tab_law.specs.Acts.{Permits}
 use Rattle.tab_law.specs.declared.limits.TheConstants.{MAX_KINDS, MAX_GUARDS, MAX_ACTIONS}
 use Rattle.tab_law.specs.declared.scene.Scene.{Scene}
 use Rattle.tab_law.specs.declared.scene.Deed.{Deed}
@@ -34,10 +34,6 @@ guard_answer laws scene place = option_map_or (λ entry. says_yes entry.value sc
 abbrev pub ActPermits : Laws → ℕ → Scene → List ℕ → List Deed → Type 0
 ActPermits laws place scene new deeds = IsSomeAnd (slice_get laws.acts place) (λ entry. Permits entry.value scene new deeds)
 
--- the action at a place leaves its high answer
-abbrev pub ActIsHigh : Laws → ℕ → Scene → List ℕ → List Deed → Type 0
-ActIsHigh laws place scene new deeds = IsSomeAnd (slice_get laws.acts place) (λ entry. IsHigh entry.value scene new deeds)
-
 -- what the guard of a name answers by its law
 abbrev pub named_answer : Laws → Scene → List ℕ → Bool
 named_answer laws scene name = option_map_or (λ entry. says_yes entry.value scene) (entry_of name laws.guards) false
@@ -45,7 +41,3 @@ named_answer laws scene name = option_map_or (λ entry. says_yes entry.value sce
 -- the action of a name may leave these registers and these deeds
 abbrev pub NamedPermits : Laws → List ℕ → Scene → List ℕ → List Deed → Type 0
 NamedPermits laws name scene new deeds = IsSomeAnd (entry_of name laws.acts) (λ entry. Permits entry.value scene new deeds)
-
--- the action of a name leaves its high answer
-abbrev pub NamedIsHigh : Laws → List ℕ → Scene → List ℕ → List Deed → Type 0
-NamedIsHigh laws name scene new deeds = IsSomeAnd (entry_of name laws.acts) (λ entry. IsHigh entry.value scene new deeds)

@@ -1,18 +1,18 @@
-ghost use Rattle.std.specs.Prelude.{◌≡◌, ◌≤◌, ◌↔◌, Option, IsTrue, length, map};
+ghost use Rattle.std.specs.Prelude.{◌≡◌, ◌++◌, ◌-◌, ◌↔◌, Option, IsTrue, length, map, replicate};
 ghost use Rattle.std.specs.Option.{option_copied};
 ghost use Rattle.tab_law.specs.Values.{term_value};
-ghost use Rattle.tab_law.specs.Acts.{is_change_of, last_of, Allows, IsAtHighest, deed_of, emitted, Permits, IsHigh};
+ghost use Rattle.tab_law.specs.Acts.{is_change_of, is_emit, last_of, Allows, IsAtHighest, arguments_of, deed_of, emitted, Permits, IsHigh};
 
-use crate::law::{ActLaw, Change, Term};
+use crate::law::{ActLaw, Change, Terms};
 use crate::limits::{MAX_EMITS, PLACES};
-use crate::scene::{Deed, Deeds, Scene};
-use crate::value::term;
+use crate::scene::{ActDeeds, Deed, Scene};
+use crate::value::{atom, term};
 
 /// What an action answers: the registers after it, and its deeds.
 #[derive(Drop)]
 pub struct Acted {
     pub regs: [u64; PLACES],
-    pub deeds: Deeds,
+    pub deeds: ActDeeds,
 }
 
 /// Whether a change is of that register.
@@ -22,7 +22,7 @@ fn is_of(change: &Change, register: usize) -> bool
     match change {
         Change::Set(number, _) => *number as usize % PLACES == register,
         Change::Pick(number, _, _) => *number as usize % PLACES == register,
-        Change::Emit(_, _) => false,
+        Change::Emit(_, _) | Change::EmitIf(_, _, _) => false,
     }
 }
 
@@ -48,7 +48,7 @@ fn allows(scene: &Scene, change: Option<&Change>, old: u64, new: u64) -> bool
             let high = term(scene, &scene.regs, *high);
             low.min(high) <= new && new <= high
         }
-        Some(Change::Emit(_, _)) => new == old,
+        Some(Change::Emit(_, _)) | Some(Change::EmitIf(_, _, _)) => new == old,
     }
 }
 
@@ -65,44 +65,57 @@ fn highest_regs(law: &ActLaw, scene: &Scene) -> [u64; PLACES]
             Change::Pick(number, _, high) => {
                 regs[*number as usize % PLACES] = term(scene, &scene.regs, *high);
             }
-            Change::Emit(_, _) => {}
+            Change::Emit(_, _) | Change::EmitIf(_, _, _) => {}
         }
     }
     regs
 }
 
-/// The values of a deed's terms.
-fn arguments(scene: &Scene, new: &[u64; PLACES], terms: &[Term; PLACES]) -> [u64; PLACES]
-    ensures { result ≡ map (term_value scene.now new.now) terms.now }
+/// The values of a deed's terms, and 0 behind them.
+fn arguments(scene: &Scene, new: &[u64; PLACES], terms: &Terms) -> [u64; PLACES]
+    ensures { result ≡ arguments_of scene.now new.now terms.now }
 {
+    let terms = terms.as_slice();
     let mut a = [0; PLACES];
-    for i in 0..PLACES {
+    for i in 0..terms.len() {
         a[i] = term(scene, new, terms[i]);
     }
     a
+}
+
+/// Whether a change is an Emit, with a condition or without.
+fn is_emit(change: &Change) -> bool
+    ensures { result ≡ is_emit change.now }
+{
+    match change {
+        Change::Set(_, _) | Change::Pick(_, _, _) => false,
+        Change::Emit(_, _) | Change::EmitIf(_, _, _) => true,
+    }
 }
 
 /// The deed that a change emits.
 fn deed(scene: &Scene, new: &[u64; PLACES], change: &Change) -> Option<Deed>
     ensures { result ≡ deed_of scene.now new.now change.now }
 {
-    match change {
-        Change::Emit(code, terms) => Some(Deed {
-            code: *code,
-            a: arguments(scene, new, terms),
-        }),
-        _ => None,
-    }
+    let (code, terms) = match change {
+        Change::Emit(code, terms) => (*code, terms),
+        Change::EmitIf(test, code, terms) if atom(scene, new, *test) != 0 => (*code, terms),
+        _ => return None,
+    };
+    let a = arguments(scene, new, terms);
+    Some(Deed { code, a })
 }
 
-/// The deeds that a law emits.
-fn deeds_of(law: &ActLaw, scene: &Scene, new: &[u64; PLACES]) -> Deeds
+/// The deeds that a law emits where the action leaves the registers as `new`.
+pub fn emitted(law: &ActLaw, scene: &Scene, new: &[u64; PLACES]) -> ActDeeds
     ensures { result ≡ emitted law.now scene.now new.now }
 {
-    let mut deeds = Deeds::new();
+    let mut deeds = ActDeeds::new();
+    let mut counted = 0;
     for change in law.changes() {
-        if let Some(next) = deed(scene, new, change) {
-            if deeds.len() < MAX_EMITS {
+        if counted < MAX_EMITS && is_emit(change) {
+            counted += 1;
+            if let Some(next) = deed(scene, new, change) {
                 deeds.push(next);
             }
         }
@@ -110,8 +123,15 @@ fn deeds_of(law: &ActLaw, scene: &Scene, new: &[u64; PLACES]) -> Deeds
     deeds
 }
 
+/// Whether two lists of deeds are the same.
+fn are_same(deeds: &[Deed], others: &[Deed]) -> bool
+    ensures { IsTrue result ↔ (deeds.now ≡ others.now) }
+{
+    deeds == others
+}
+
 /// Whether a law permits an action to leave these registers and these deeds.
-pub fn permits(law: &ActLaw, scene: &Scene, regs: &[u64; PLACES], deeds: &Deeds) -> bool
+pub fn permits(law: &ActLaw, scene: &Scene, regs: &[u64; PLACES], deeds: &[Deed]) -> bool
     ensures { IsTrue result ↔ Permits law.now scene.now regs.now deeds.now }
 {
     for register in 0..PLACES {
@@ -120,16 +140,15 @@ pub fn permits(law: &ActLaw, scene: &Scene, regs: &[u64; PLACES], deeds: &Deeds)
             return false;
         }
     }
-    deeds_of(law, scene, regs).as_slice() == deeds.as_slice()
+    are_same(deeds, emitted(law, scene, regs).as_slice())
 }
 
 /// The permitted answer with each Pick at its high.
 pub fn high(law: &ActLaw, scene: &Scene) -> Acted
     ensures permitted { Permits law.now scene.now result.regs result.deeds }
     ensures high { IsHigh law.now scene.now result.regs result.deeds }
-    ensures few { length result.deeds ≤ MAX_EMITS }
 {
     let regs = highest_regs(law, scene);
-    let deeds = deeds_of(law, scene, &regs);
+    let deeds = emitted(law, scene, &regs);
     Acted { regs, deeds }
 }

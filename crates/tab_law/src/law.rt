@@ -13,7 +13,7 @@ pub enum Atom {
     Register(u8),
     /// A fact of the event.
     Fact(u8),
-    /// In an Emit a register after the action, elsewhere the same as `Register`.
+    /// In an Emit or an EmitIf a register after the action, elsewhere the same as `Register`.
     NewRegister(u8),
 }
 
@@ -197,30 +197,96 @@ impl GuardLaw {
     }
 }
 
+/// The arguments of a deed, in order: at most [`PLACES`] terms. Arguments behind them are 0.
+#[derive(Debug, Drop)]
+pub struct Terms {
+    items: Vec<Term>,
+}
+
+impl Model for Terms {
+    ghost use Rattle.std.specs.Prelude.{List, ◌≤◌, length};
+    ghost use Rattle.tab_law.specs.declared.limits.TheConstants.{PLACES};
+    ghost use Rattle.tab_law.specs.declared.law.Term.{Term};
+
+    ghost Value = { List Term };
+
+    ghost view = { λ t. t.items.items };
+
+    ghost invariant = { λ t. length t.items.items ≤ PLACES };
+}
+
+impl Terms {
+    /// The terms that a vector holds. Takes no memory.
+    pub fn new(items: Vec<Term>) -> Terms
+        requires { length items.items ≤ PLACES }
+        ensures { result ≡ items.items }
+    {
+        Terms { items }
+    }
+
+    /// A copy of a slice.
+    pub fn from_slice(alloc: Global, items: &[Term]) -> Result<Terms, AllocError>
+        requires { length items.now ≤ PLACES }
+        ensures { IfOk result (λ t. t ≡ items.now) }
+    {
+        let items = Vec::from_slice(alloc, items)?;
+        Ok(Terms { items })
+    }
+
+    pub fn copy(&self, alloc: Global) -> Result<Terms, AllocError>
+        ensures { IfOk result (λ t. t ≡ self.now) }
+    {
+        Terms::from_slice(alloc, self.as_slice())
+    }
+
+    pub fn as_slice(&self) -> &[Term]
+        ensures value { result.now ≡ self.now }
+        ensures few { length self.now ≤ PLACES }
+    {
+        self.items.as_slice()
+    }
+
+    /// Whether two lists are the same, term by term.
+    pub fn is_same(&self, other: &Terms) -> bool
+        ensures { IsTrue result ↔ (self.now ≡ other.now) }
+    {
+        if self.as_slice().len() != other.as_slice().len() {
+            return false;
+        }
+        for (i, term) in self.as_slice().iter().enumerate() {
+            if !term.is_same(&other.as_slice()[i]) {
+                return false;
+            }
+        }
+        true
+    }
+}
+
 /// What an action may do to a register, or has to do to the outside.
-#[derive(Clone, Copy, Debug)]
+#[derive(Debug, Drop)]
 pub enum Change {
     /// The register becomes the term.
     Set(u8, Term),
     /// The register becomes any value up to the second term, from the lesser of both terms on.
     Pick(u8, Term, Term),
     /// A deed of that code, with those arguments.
-    Emit(u16, [Term; PLACES]),
-}
-
-/// Whether two lists of terms are the same.
-fn are_same(terms: &[Term; PLACES], others: &[Term; PLACES]) -> bool
-    ensures { IsTrue result ↔ (terms.now ≡ others.now) }
-{
-    for i in 0..PLACES {
-        if !terms[i].is_same(&others[i]) {
-            return false;
-        }
-    }
-    true
+    Emit(u16, Terms),
+    /// An Emit that does its deed only where the atom isn't 0. The atom reads what an Emit's terms read.
+    EmitIf(Atom, u16, Terms),
 }
 
 impl Change {
+    pub fn copy(&self, alloc: Global) -> Result<Change, AllocError>
+        ensures { IfOk result (λ c. c ≡ self.now) }
+    {
+        Ok(match self {
+            Change::Set(register, term) => Change::Set(*register, *term),
+            Change::Pick(register, low, high) => Change::Pick(*register, *low, *high),
+            Change::Emit(code, terms) => Change::Emit(*code, terms.copy(alloc)?),
+            Change::EmitIf(atom, code, terms) => Change::EmitIf(*atom, *code, terms.copy(alloc)?),
+        })
+    }
+
     /// Whether two changes are the same, written alike.
     pub fn is_same(&self, other: &Change) -> bool
         ensures { IsTrue result ↔ (self.now ≡ other.now) }
@@ -230,14 +296,17 @@ impl Change {
             (Change::Pick(r, s, t), Change::Pick(q, u, v)) => {
                 r == q && s.is_same(u) && t.is_same(v)
             }
-            (Change::Emit(c, ts), Change::Emit(d, us)) => c == d && are_same(ts, us),
+            (Change::Emit(c, ts), Change::Emit(d, us)) => c == d && ts.is_same(us),
+            (Change::EmitIf(a, c, ts), Change::EmitIf(b, d, us)) => {
+                a == b && c == d && ts.is_same(us)
+            }
             _ => false,
         }
     }
 }
 
-/// What an action may answer: of a register the last Set or Pick counts, of Emits the first four,
-/// and registers without one stay.
+/// What an action may answer: of a register the last Set or Pick counts, of Emits and EmitIfs the
+/// first four, and registers without a change stay.
 #[derive(Debug, Drop)]
 pub struct ActLaw {
     changes: Vec<Change>,
@@ -262,7 +331,10 @@ impl ActLaw {
     pub fn copy(&self, alloc: Global) -> Result<ActLaw, AllocError>
         ensures { IfOk result (λ law. law ≡ self.now) }
     {
-        let changes = Vec::from_slice(alloc, self.changes())?;
+        let mut changes = Vec::new(alloc);
+        for change in self.changes() {
+            changes.push(change.copy(alloc)?)?;
+        }
         Ok(ActLaw { changes })
     }
 

@@ -2,7 +2,7 @@
 //!
 //! A guard says yes or no on a [`Scene`]; an action leaves registers and deeds there. A law fixes a
 //! guard's answer ([`holds`]) and says which answers of an action are permitted ([`permits`],
-//! [`high`]). A [`LawBook`] keeps laws under the names that a state table uses.
+//! [`emitted`], [`high`]). A [`LawBook`] keeps laws under the names that a state table uses.
 #![tactic(auto)]
 
 mod act;
@@ -13,12 +13,12 @@ mod limits;
 mod scene;
 mod value;
 
-pub use act::{Acted, high, permits};
+pub use act::{Acted, emitted, high, permits};
 pub use book::LawBook;
 pub use guard::holds;
-pub use law::{ActLaw, Atom, Change, Field, GuardLaw, Numbers, Term, Test};
+pub use law::{ActLaw, Atom, Change, Field, GuardLaw, Numbers, Term, Terms, Test};
 pub use limits::{
     MAX_ACTIONS, MAX_DEEDS, MAX_EMITS, MAX_GUARDS, MAX_KINDS, MAX_NUMBERS, MAX_ROW_ACTIONS,
     MAX_TESTS, PLACES,
 };
-pub use scene::{Chain, Deed, Deeds, Scene};
+pub use scene::{ActDeeds, Chain, Deed, Deeds, Scene};

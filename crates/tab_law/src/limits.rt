@@ -1,7 +1,7 @@
 //! Every limit of laws, books and steps, each named here alone.
 
 /// Registers of a machine, facts of an event, arguments of a deed.
-pub const PLACES: usize = 16;
+pub const PLACES: usize = 64;
 
 /// Deeds of one step.
 pub const MAX_DEEDS: usize = 32;
@@ -9,7 +9,7 @@ pub const MAX_DEEDS: usize = 32;
 /// Actions of one row, each of which gives the chain one member.
 pub const MAX_ROW_ACTIONS: usize = 8;
 
-/// Deeds of one action.
+/// Emits of one action that count, with a condition or without.
 pub const MAX_EMITS: usize = 4;
 
 /// Tests of one guard.

@@ -1,6 +1,6 @@
 ghost use Rattle.tab_law.specs.Scenes.{IsScene, IsDeed};
 
-use crate::limits::{MAX_DEEDS, MAX_ROW_ACTIONS, PLACES};
+use crate::limits::{MAX_DEEDS, MAX_EMITS, MAX_ROW_ACTIONS, PLACES};
 use base_fixed::FixedList;
 
 /// What a guard or an action sees: the machine's registers and the event's facts.
@@ -17,7 +17,10 @@ pub struct Deed {
     pub a: [u64; PLACES],
 }
 
-/// Deeds in order. The room lies in the value, some kilobytes of it, so keep it out of deep chains of calls.
+/// The deeds of one action, in order.
+pub type ActDeeds = FixedList<Deed, MAX_EMITS>;
+
+/// The deeds of a step, in order. The room lies in the value, 16 kilobytes of it, so keep it out of deep chains of calls.
 pub type Deeds = FixedList<Deed, MAX_DEEDS>;
 
 /// The registers after each action of a row, in order.

@@ -1,21 +1,23 @@
-use Rattle.std.proofs.Common.{◌≡◌, ℕ, ◌+◌, ◌<◌, ◌≤◌, suc, zero, Bool, true, false, List, [], ◌∷◌, ◌++◌, Option, Some, None, length, map, filter, get_or, arith, rules, refl, sym, ◌∙◌, append_assoc, append-nil, add-zero}
-use Rattle.std.specs.Prelude.{◌==◌, ◌&&◌, IsSomeAnd}
+use Rattle.std.proofs.Common.{◌≡◌, ℕ, ◌+◌, ◌-◌, ◌<◌, ◌≤◌, suc, zero, Bool, true, false, List, [], ◌∷◌, ◌++◌, Option, Some, None, length, map, filter, get_or, arith, rules, refl, sym, ◌∙◌, append_assoc, append-nil, add-zero, ap, drop, ◌↔◌}
+use Rattle.std.specs.Prelude.{◌==◌, ◌&&◌}
 use Rattle.std.specs.List.{slice_get, enumerate_from, list_all}
 use Rattle.std.specs.Option.{option_map_or}
 use Rattle.std.specs.Str.{bytes_eq}
 use Rattle.std.proofs.Common.{inl, inr}
 use Rattle.std.proofs.lemmas.Bool.{cases_lt, ne_eqb}
+use Rattle.std.proofs.lemmas.List.{append_cancel_left, drop_all}
+use Rattle.std.proofs.Math.Seq.{drop-cons}
+use Rattle.tab_law.specs.Acts.{Permits}
+use Rattle.tab_law.specs.declared.law.Change.{Change}
 use Rattle.std.proofs.lemmas.Option.{slice_get-get_or}
 use Rattle.std.proofs.lemmas.Slice.Eq.{bytes_eq-Decides}
 use Rattle.std.proofs.lemmas.List.Quantifiers.{position-Some}
-use Rattle.tab_law.specs.Acts.{Permits, IsHigh}
-use Rattle.tab_law.specs.Books.{Laws, guard_answer, named_answer, ActIsHigh, NamedIsHigh, NamedPermits}
+use Rattle.tab_law.specs.Books.{Laws, guard_answer, named_answer, ActPermits, NamedPermits}
 use Rattle.base_list.specs.Named.{place_of, entry_of, HasOwnNames}
 use Rattle.tab_law.specs.declared.scene.Scene.{Scene}
 use Rattle.tab_law.specs.declared.scene.Deed.{Deed}
 use Rattle.base_list.specs.declared.named.Named.{Named}
 use Rattle.base_list.proofs.NamedLemmas.{entry_of-place}
-use Rattle.tab_law.proofs.HighLemmas.{IsHigh-permits}
 use Rattle.tab_text.specs.Contents.{Contents}
 use Rattle.tab_text.specs.declared.row.Row.{Row}
 use Rattle.tab_step.specs.Moves.{Runs, end_of, scene_of, MovesBy, name_at, is_kind_of, matches}
@@ -23,6 +25,10 @@ use Rattle.tab_step.specs.Bind.{IsPlacesOf}
 use Rattle.tab_step.specs.declared.bound.RowPlaces.{RowPlaces}
 use Rattle.tab_step.specs.declared.machine.MachineState.{MachineState}
 use Rattle.tab_step.specs.declared.machine.Event.{Event}
+
+-- a row that stands for none
+pub no_row : Row
+no_row = record { state = 0; kind = 0; guards = []; actions = []; next = 0; line = 0 }
 
 -- a run goes on by one more action
 pub Runs-more : {A : Type 0} (Answers : A → Scene → List ℕ → List Deed → Type 0) (facts : List ℕ) (actions : List A) (before : List ℕ) (chain : List (List ℕ)) (deeds : List Deed) (action : A) (after : List ℕ) (own : List Deed) → Runs Answers facts actions before chain deeds → Answers action (scene_of (end_of before chain) facts) after own → Runs Answers facts (actions ++ action ∷ []) before (chain ++ after ∷ []) (deeds ++ own)
@@ -37,34 +43,8 @@ pub end_of-more : (before : List ℕ) (chain : List (List ℕ)) (after : List �
 end_of-more before [] after = refl
 end_of-more before (c ∷ chain) after = end_of-more c chain after
 
--- answers of one sort are answers of another
-pub Runs-weaker : {A : Type 0} (P Q : A → Scene → List ℕ → List Deed → Type 0) → ((a : A) (scene : Scene) (new : List ℕ) (deeds : List Deed) → P a scene new deeds → Q a scene new deeds) → (facts : List ℕ) (actions : List A) (before : List ℕ) (chain : List (List ℕ)) (deeds : List Deed) → Runs P facts actions before chain deeds → Runs Q facts actions before chain deeds
-Runs-weaker P Q f facts [] before [] deeds r = r
-Runs-weaker P Q f facts [] before (c ∷ chain) deeds r = absurd r
-Runs-weaker P Q f facts (a ∷ actions) before [] deeds r = absurd r
-Runs-weaker P Q f facts (a ∷ actions) before (c ∷ chain) deeds r =
-    (r.0, r.1, f a (scene_of before facts) c r.0 r.2, r.3, Runs-weaker P Q f facts actions c chain r.1 r.4)
-
-some-and : {X : Type 0} (o : Option X) (P Q : X → Type 0) → ((x : X) → P x → Q x) → IsSomeAnd o P → IsSomeAnd o Q
-some-and None P Q f h = absurd h
-some-and (Some x) P Q f h = f x h
-
--- the high answer of a name is one that its law permits
-named-permits : (laws : Laws) (name : List ℕ) (scene : Scene) (new : List ℕ) (deeds : List Deed) → NamedIsHigh laws name scene new deeds → NamedPermits laws name scene new deeds
-named-permits laws name scene new deeds h =
-    some-and (entry_of name laws.acts) (λ entry. IsHigh entry.value scene new deeds) (λ entry. Permits entry.value scene new deeds) (λ entry. IsHigh-permits entry.value scene new deeds) h
-
--- a step by the high answers is one that the laws permit
-pub MovesBy-permits : (laws : Laws) (table : Contents) (s : MachineState) (e : Event) (row : Option (ℕ × Row)) (after : MachineState) (chain : List (List ℕ)) (deeds : List Deed) → MovesBy (NamedIsHigh laws) table s e row after chain deeds → MovesBy (NamedPermits laws) table s e row after chain deeds
-MovesBy-permits laws table s e None after chain deeds m = m
-MovesBy-permits laws table s e (Some numbered) after chain deeds m = record {
-  state = m.state;
-  runs = Runs-weaker (NamedIsHigh laws) (NamedPermits laws) (named-permits laws) e.facts (map (name_at table.actions) numbered.1.actions) s.regs chain deeds m.runs;
-  regs = m.regs;
-}
-
 -- what stands at the places of names stands under the names
-pub Runs-named : (laws : Laws) (names : List (List ℕ)) (facts : List ℕ) (numbers places : List ℕ) (before : List ℕ) (chain : List (List ℕ)) (deeds : List Deed) → map (λ number. place_of (name_at names number) laws.acts) numbers ≡ map Some places → Runs (ActIsHigh laws) facts places before chain deeds → Runs (NamedIsHigh laws) facts (map (name_at names) numbers) before chain deeds
+pub Runs-named : (laws : Laws) (names : List (List ℕ)) (facts : List ℕ) (numbers places : List ℕ) (before : List ℕ) (chain : List (List ℕ)) (deeds : List Deed) → map (λ number. place_of (name_at names number) laws.acts) numbers ≡ map Some places → Runs (ActPermits laws) facts places before chain deeds → Runs (NamedPermits laws) facts (map (name_at names) numbers) before chain deeds
 Runs-named laws names facts [] [] before [] deeds e r = r
 Runs-named laws names facts [] [] before (c ∷ chain) deeds e r = absurd r
 Runs-named laws names facts [] (p ∷ places) before chain deeds e r = cc
@@ -73,8 +53,68 @@ Runs-named laws names facts (n ∷ numbers) (p ∷ places) before [] deeds e r =
 Runs-named laws names facts (n ∷ numbers) (p ∷ places) before (c ∷ chain) deeds e r =
     let at : place_of (name_at names n) laws.acts ≡ Some p = cc in
     let rest : map (λ number. place_of (name_at names number) laws.acts) numbers ≡ map Some places = cc in
-    let one : NamedIsHigh laws (name_at names n) (scene_of before facts) c r.0 = rw (entry_of-place (name_at names n) laws.acts p at) r.2 in
+    let one : NamedPermits laws (name_at names n) (scene_of before facts) c r.0 = rw (entry_of-place (name_at names n) laws.acts p at) r.2 in
     (r.0, r.1, one, r.3, Runs-named laws names facts numbers places c chain r.1 rest r.4)
+
+-- what stands under the names stands at their places
+pub Runs-placed : (laws : Laws) (names : List (List ℕ)) (facts : List ℕ) (numbers places : List ℕ) (before : List ℕ) (chain : List (List ℕ)) (deeds : List Deed) → map (λ number. place_of (name_at names number) laws.acts) numbers ≡ map Some places → Runs (NamedPermits laws) facts (map (name_at names) numbers) before chain deeds → Runs (ActPermits laws) facts places before chain deeds
+Runs-placed laws names facts [] [] before [] deeds e r = r
+Runs-placed laws names facts [] [] before (c ∷ chain) deeds e r = absurd r
+Runs-placed laws names facts [] (p ∷ places) before chain deeds e r = cc
+Runs-placed laws names facts (n ∷ numbers) [] before chain deeds e r = cc
+Runs-placed laws names facts (n ∷ numbers) (p ∷ places) before [] deeds e r = absurd r
+Runs-placed laws names facts (n ∷ numbers) (p ∷ places) before (c ∷ chain) deeds e r =
+    let at : place_of (name_at names n) laws.acts ≡ Some p = cc in
+    let rest : map (λ number. place_of (name_at names number) laws.acts) numbers ≡ map Some places = cc in
+    let one : ActPermits laws p (scene_of before facts) c r.0 = rw (entry_of-place (name_at names n) laws.acts p at) at r.2 in
+    (r.0, r.1, one, r.3, Runs-placed laws names facts numbers places c chain r.1 rest r.4)
+
+-- a chain has one member for each action
+pub Runs-length : {A : Type 0} (Answers : A → Scene → List ℕ → List Deed → Type 0) (facts : List ℕ) (actions : List A) (before : List ℕ) (chain : List (List ℕ)) (deeds : List Deed) → Runs Answers facts actions before chain deeds → length chain ≡ length actions
+Runs-length Answers facts [] before [] deeds r = refl
+Runs-length Answers facts [] before (c ∷ chain) deeds r = absurd r
+Runs-length Answers facts (a ∷ actions) before [] deeds r = absurd r
+Runs-length Answers facts (a ∷ actions) before (c ∷ chain) deeds r = ap suc (Runs-length Answers facts actions c chain r.1 r.4)
+
+-- what is left of a run behind its first action, whose deeds are known
+pub Runs-behind : {A : Type 0} (Answers : A → Scene → List ℕ → List Deed → Type 0) (facts : List ℕ) (action : A) (actions : List A) (before after : List ℕ) (chain : List (List ℕ)) (own rest : List Deed) → Answers action (scene_of before facts) after own → ((other : List Deed) → Answers action (scene_of before facts) after other → other ≡ own) → Runs Answers facts (action ∷ actions) before (after ∷ chain) (own ++ rest) ↔ Runs Answers facts actions after chain rest
+Runs-behind Answers facts action actions before after chain own rest p only =
+    (λ r. rw (append_cancel_left own rest r.1 (r.3 ∙ ap (λ o. o ++ r.1) (only r.0 r.2))) r.4, λ r. (own, rest, p, refl, r))
+
+-- a run goes on behind the action at a place, whose law permits its deeds
+pub Runs-rest : (laws : Laws) (facts : List ℕ) (actions : List ℕ) (chain : List (List ℕ)) (i : ℕ) (before : List ℕ) (entry : Named (List Change)) (own rest behind : List Deed) → i < length actions → length chain ≡ length actions → slice_get laws.acts (get_or actions i 0) ≡ Some entry → Permits entry.value (scene_of before facts) (get_or chain i []) own → rest ≡ own ++ behind
+    → Runs (ActPermits laws) facts (drop i actions) before (drop i chain) rest ↔ Runs (ActPermits laws) facts (drop (i + 1) actions) (get_or chain i []) (drop (i + 1) chain) behind
+Runs-rest laws facts actions chain i before entry own rest behind l same at p e =
+    let s : i + 1 ≡ suc i = omega arith in
+    let within : i < length chain = rw same l in
+    rw (e, s, drop-cons actions i 0 l, drop-cons chain i [] within)
+    (Runs-behind (ActPermits laws) facts (get_or actions i 0) (drop (suc i) actions) before (get_or chain i []) (drop (suc i) chain) own behind (rw at p) (λ other q. only other (rw at at q)))
+  where
+    only : (other : List Deed) → Permits entry.value (scene_of before facts) (get_or chain i []) other → other ≡ own
+    only other q = q.emits ∙ sym p.emits
+
+-- there is no run where the law at a place permits none of the deeds in front
+pub Runs-none : (laws : Laws) (facts : List ℕ) (actions : List ℕ) (chain : List (List ℕ)) (i : ℕ) (before : List ℕ) (entry : Named (List Change)) (rest : List Deed) → i < length actions → length chain ≡ length actions → slice_get laws.acts (get_or actions i 0) ≡ Some entry → ((own behind : List Deed) → Permits entry.value (scene_of before facts) (get_or chain i []) own → rest ≡ own ++ behind → ⊥)
+    → Runs (ActPermits laws) facts (drop i actions) before (drop i chain) rest → ⊥
+Runs-none laws facts actions chain i before entry rest l same at none r =
+    let within : i < length chain = rw same l in
+    let parts = rw (drop-cons actions i 0 l, drop-cons chain i [] within) at r in
+    none parts.0 parts.1 (rw at at parts.2) parts.3
+
+-- a run without actions has no deeds
+pub Runs-end : (laws : Laws) (facts : List ℕ) (actions : List ℕ) (chain : List (List ℕ)) (i : ℕ) (before : List ℕ) (rest : List Deed) → length actions ≤ i → length chain ≡ length actions → Runs (ActPermits laws) facts (drop i actions) before (drop i chain) rest ↔ (rest ≡ [])
+Runs-end laws facts actions chain i before rest l same =
+    let none : drop i actions ≡ [] = drop_all i actions l in
+    let no : drop i chain ≡ [] = drop_all i chain (rw same l) in
+    rw (none, no) (λ r. r, λ r. r)
+
+-- the last member of a chain is its end
+pub end_of-last : (before : List ℕ) (chain : List (List ℕ)) (d : List ℕ) → 0 < length chain → get_or chain (length chain - 1) d ≡ end_of before chain
+end_of-last before [] d l = absurd (omega arith)
+end_of-last before (c ∷ []) d l = refl
+end_of-last before (c ∷ e ∷ chain) d l =
+    let i : length (c ∷ e ∷ chain) - 1 ≡ suc (length (e ∷ chain) - 1) = omega arith in
+    rw i (end_of-last c (e ∷ chain) d (omega arith))
 
 -- the guards of names answer as those at their places
 pub list_all-named : (laws : Laws) (names : List (List ℕ)) (scene : Scene) (numbers places : List ℕ) → map (λ number. place_of (name_at names number) laws.guards) numbers ≡ map Some places → list_all (guard_answer laws scene) places ≡ list_all (λ number. named_answer laws scene (name_at names number)) numbers

@@ -1,14 +1,13 @@
 use Rattle.std.proofs.Common.{◌≡◌, ℕ, List, [], ◌∷◌, ◌++◌, refl, map}
-use Rattle.tab_law.specs.Books.{Laws, NamedIsHigh}
+use Rattle.tab_law.specs.Books.{Laws, NamedPermits}
 use Rattle.tab_law.specs.declared.scene.Scene.{Scene}
 use Rattle.tab_law.specs.declared.scene.Deed.{Deed}
 use Rattle.tab_text.specs.Contents.{Contents}
-use Rattle.tab_step.specs.Moves.{IsStep, row_taken}
+use Rattle.tab_step.specs.Moves.{IsStep}
 use Rattle.tab_step.specs.Runs.{IsRun, AreSteps}
 use Rattle.tab_step.specs.declared.machine.MachineState.{MachineState}
 use Rattle.tab_step.specs.declared.machine.Event.{Event}
 use Rattle.tab_step.specs.declared.machine.Stepped.{Stepped}
-use Rattle.tab_step.proofs.MoveLemmas.{MovesBy-permits}
 
 -- where the last of the steps leaves the machine
 abbrev pub last_state : MachineState → List Stepped → MachineState
@@ -26,10 +25,10 @@ AreSteps-more Answers table laws s [] (x ∷ steps) e stepped r m = absurd r
 AreSteps-more Answers table laws s (x ∷ events) [] e stepped r m = absurd r
 AreSteps-more Answers table laws s (x ∷ events) (y ∷ steps) e stepped r m = (r.0, AreSteps-more Answers table laws y.after events steps e stepped r.1 m)
 
--- steps by the high answers are a run
-pub AreSteps-run : (table : Contents) (laws : Laws) (s : MachineState) (events : List Event) (steps : List Stepped) → AreSteps (NamedIsHigh laws) table laws s events steps → IsRun table laws s events (map (λ (step : Stepped). step.after) steps) (map (λ (step : Stepped). step.deeds) steps)
+-- steps that the laws permit are a run
+pub AreSteps-run : (table : Contents) (laws : Laws) (s : MachineState) (events : List Event) (steps : List Stepped) → AreSteps (NamedPermits laws) table laws s events steps → IsRun table laws s events (map (λ (step : Stepped). step.after) steps) (map (λ (step : Stepped). step.deeds) steps)
 AreSteps-run table laws s [] [] r = tt
 AreSteps-run table laws s [] (x ∷ steps) r = absurd r
 AreSteps-run table laws s (e ∷ events) [] r = absurd r
 AreSteps-run table laws s (e ∷ events) (x ∷ steps) r =
-    ((x.chain, MovesBy-permits laws table s e (row_taken table laws s e) x.after x.chain x.deeds r.0.moves), AreSteps-run table laws x.after events steps r.1)
+    ((x.chain, r.0.moves), AreSteps-run table laws x.after events steps r.1)

@@ -1,3 +1,6 @@
+ghost use Rattle.std.specs.Prelude.{◌≡◌, [], None, replicate};
+ghost use Rattle.tab_law.specs.declared.limits.TheConstants.{PLACES};
+
 use tab_law::{Chain, Deeds, PLACES};
 
 /// Where a machine stands: the number of its state in its table, and its registers.
@@ -14,8 +17,8 @@ pub struct Event {
     pub facts: [u64; PLACES],
 }
 
-/// What one step leaves. It holds room for all its deeds, some kilobytes: keep it out of deep chains
-/// of calls.
+/// What one step leaves. It holds room for all its deeds, 21 kilobytes: keep it out of deep chains of
+/// calls. A caller that steps often keeps one, and has `step_into` write into it.
 #[derive(Drop)]
 pub struct Stepped {
     pub after: MachineState,
@@ -24,4 +27,22 @@ pub struct Stepped {
     pub deeds: Deeds,
     /// The registers after each of the row's actions.
     pub chain: Chain,
+}
+
+impl Stepped {
+    /// Room for a step: state 0, registers 0, no row, no deeds, no chain.
+    pub fn new() -> Stepped
+        ensures { result ≡ record { after = record { state = 0; regs = replicate PLACES 0 }; row = None; deeds = []; chain = [] } }
+    {
+        let after = MachineState {
+            state: 0,
+            regs: [0; PLACES],
+        };
+        Stepped {
+            after,
+            row: None,
+            deeds: Deeds::new(),
+            chain: Chain::new(),
+        }
+    }
 }

@@ -1,8 +1,9 @@
 -- What a walk prints: a table stepped over a list of events.
-use Rattle.std.specs.Prelude.{◌≡◌, ◌⊎◌, ℕ, ◌==◌, Bool, true, false, List, [], ◌∷◌, ◌++◌, map, Option, Some, None, codes, decimal, option_map, if◌then◌else◌}
+use Rattle.std.specs.Prelude.{◌≡◌, ◌⊎◌, ℕ, ◌==◌, Bool, true, false, List, [], ◌∷◌, ◌++◌, replicate, Option, Some, None, codes, decimal, option_map, if◌then◌else◌}
 use Rattle.std.specs.List.{flat_map, list_all, slice_get}
 use Rattle.std.specs.Option.{option_map_or, option_or}
-use Rattle.tab_law.specs.Books.{Laws, NamedIsHigh}
+use Rattle.tab_law.specs.Books.{Laws, NamedPermits}
+use Rattle.tab_law.specs.declared.limits.TheConstants.{PLACES}
 use Rattle.tab_text.specs.Codes.{number_of}
 use Rattle.tab_text.specs.Contents.{Contents}
 use Rattle.tab_text.specs.Faults.{first_fault}
@@ -13,7 +14,7 @@ use Rattle.tab_text.specs.declared.fault.TextFault.{TextFault}
 use Rattle.tab_step.specs.declared.binding.Unbound.{Unbound}
 use Rattle.tab_step.specs.declared.binding.Unbound.TheVariants as binding
 use Rattle.tab_step.specs.Bind.{missing}
-use Rattle.tab_step.specs.Runs.{AreSteps, IsRun}
+use Rattle.tab_step.specs.Runs.{AreSteps}
 use Rattle.tab_step.specs.declared.machine.Event.{Event}
 use Rattle.tab_step.specs.declared.machine.MachineState.{MachineState}
 use Rattle.tab_step.specs.declared.machine.Stepped.{Stepped}
@@ -51,13 +52,12 @@ steps_text table laws before (event ∷ events) [] = []
 
 -- a machine in state 0, its registers 0
 abbrev pub at_start : MachineState
-at_start = record { state = 0; regs = 0 ∷ 0 ∷ 0 ∷ 0 ∷ 0 ∷ 0 ∷ 0 ∷ 0 ∷ 0 ∷ 0 ∷ 0 ∷ 0 ∷ 0 ∷ 0 ∷ 0 ∷ 0 ∷ [] }
+at_start = record { state = 0; regs = replicate PLACES 0 }
 
--- The text of a table's run on events, each pick at its high value.
+-- The text of a table's run on events; each step is one that the laws permit.
 pub record RunText (table : Contents) (laws : Laws) (events : List Event) (text : List ℕ) : Type 0 where
   pub steps : List Stepped
-  pub run : IsRun table laws at_start events (map (λ step. step.after) steps) (map (λ step. step.deeds) steps)
-  pub high : AreSteps (NamedIsHigh laws) table laws at_start events steps
+  pub run : AreSteps (NamedPermits laws) table laws at_start events steps
   pub printed : text ≡ steps_text table laws 0 events steps
 
 -- `line 1 fault 1`: the first fault of a table's text

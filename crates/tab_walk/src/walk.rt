@@ -4,14 +4,15 @@ ghost use Rattle.std.specs.List.{flat_map, slice_get};
 ghost use Rattle.std.specs.Option.{option_map};
 ghost use Rattle.tab_step.specs.Bind.{IsBoundTo};
 ghost use Rattle.bench_device.specs.Devices.{HasWriteCause};
-ghost use Rattle.tab_walk.specs.Walks.{IsRefused, IsWalked, IsWalkedBound, IsWalkedOn, RunText, bad_text, bind_text, kind_text, parse_text, row_text, state_text, step_text, steps_text, table_fault, unbound_text};
+ghost use Rattle.tab_walk.specs.Walks.{IsRefused, IsWalked, IsWalkedBound, IsWalkedOn, RunText, bad_text, bind_text, kind_text, parse_text, row_text, state_text, step_text, table_fault, unbound_text};
 
 use bench_device::{ByteSink, MAX_IDLE_WRITES, Status, tell};
 use bench_text::put_number;
 use event_text::{EventsError, put_deeds, put_name, read_events};
 use std::alloc::{AllocError, Global};
-use tab_law::{LawBook, PLACES};
-use tab_step::{Bound, Event, MachineState, Stepped, Unbound, bind, run};
+use tab_call::Registry;
+use tab_law::LawBook;
+use tab_step::{Bound, Event, Stepped, Unbound, bind, step_into};
 use tab_text::{ParseError, Table, TextFault, parse};
 
 /// What is printed, and whether it is a refusal.
@@ -89,26 +90,6 @@ fn put_step(
     put_deeds(out, step.deeds.as_slice())
 }
 
-/// The steps of a walk from state 0.
-fn put_steps(
-    out: &mut Vec<u8>,
-    table: &Table,
-    book: &LawBook,
-    events: &[Event],
-    steps: &[Stepped],
-) -> Result<(), AllocError>
-    requires { length steps.now ≡ length events.now }
-    ensures { OnOk result (out.new.items ≡ out.old.items ++ steps_text table.now book.now 0 events.now steps.now) }
-{
-    let mut state = 0;
-    for i in 0..steps.len() {
-        let step = &steps[i];
-        put_step(out, table, book, state, &events[i], step)?;
-        state = step.after.state;
-    }
-    Ok(())
-}
-
 /// `line N fault C`: the first fault of a table's text.
 fn fault_line(alloc: Global, fault: &TextFault) -> Result<Vec<u8>, AllocError>
     ensures { IfOk result (λ text. text.items ≡ table_fault fault.now) }
@@ -141,23 +122,31 @@ fn unbound_line(alloc: Global, name: &[u8]) -> Result<Vec<u8>, AllocError>
     Ok(text)
 }
 
-/// The text of a bound table's run on events.
+/// The text of a bound table's run on events. Each step is printed when it is taken, so room for one is enough.
 fn run_text(
     alloc: Global,
     bound: &Bound,
-    book: &LawBook,
+    registry: &Registry,
     events: &[Event],
 ) -> Result<Vec<u8>, AllocError>
-    requires { IsBoundTo bound.now book.now }
-    ensures { IfOk result (λ text. RunText bound.now.table book.now events.now text.items) }
+    requires { IsBoundTo bound.now registry.now.book }
+    ensures { IfOk result (λ text. RunText bound.now.table registry.now.book events.now text.items) }
 {
-    let first = MachineState {
-        state: 0,
-        regs: [0; PLACES],
-    };
-    let steps = run(alloc, bound, book, &first, events)?;
     let mut text = Vec::new(alloc);
-    put_steps(&mut text, bound.table(), book, events, &steps)?;
+    let mut room = Stepped::new();
+    let mut machine = room.after;
+    for event in events {
+        step_into(bound, registry, &machine, event, &mut room);
+        put_step(
+            &mut text,
+            bound.table(),
+            registry.laws(),
+            machine.state,
+            event,
+            &room,
+        )?;
+        machine = room.after;
+    }
     Ok(text)
 }
 
@@ -165,15 +154,15 @@ fn run_text(
 fn walk_bound(
     alloc: Global,
     bound: &Bound,
-    book: &LawBook,
+    registry: &Registry,
     events: &str,
 ) -> Result<Outcome, AllocError>
-    requires { IsBoundTo bound.now book.now }
-    ensures { IfOk result (λ walk. IsWalkedBound bound.now.table book.now events.now walk.text.items walk.refused) }
+    requires { IsBoundTo bound.now registry.now.book }
+    ensures { IfOk result (λ walk. IsWalkedBound bound.now.table registry.now.book events.now walk.text.items walk.refused) }
 {
-    match read_events(alloc, book, events.as_bytes()) {
+    match read_events(alloc, registry.laws(), events.as_bytes()) {
         Ok(events) => Ok(Outcome {
-            text: run_text(alloc, bound, book, &events)?,
+            text: run_text(alloc, bound, registry, &events)?,
             refused: false,
         }),
         Err(EventsError::NoMemory) => Err(AllocError),
@@ -202,15 +191,20 @@ fn unbound(alloc: Global, why: &Unbound) -> Result<Outcome, AllocError>
 }
 
 /// The text of a walk, or of what was refused.
-fn text_of(alloc: Global, table: &[u8], book: &LawBook, events: &str) -> Result<Outcome, AllocError>
-    ensures { IfOk result (λ walk. IsWalked book.now table.now events.now walk.text.items walk.refused) }
+fn text_of(
+    alloc: Global,
+    table: &[u8],
+    registry: &Registry,
+    events: &str,
+) -> Result<Outcome, AllocError>
+    ensures { IfOk result (λ walk. IsWalked registry.now.book table.now events.now walk.text.items walk.refused) }
 {
     let table = match parse(alloc, table) {
         Ok(table) => table,
         Err(error) => return unparsed(alloc, &error),
     };
-    match bind(alloc, table, book) {
-        Ok(bound) => walk_bound(alloc, &bound, book, events),
+    match bind(alloc, table, registry.laws()) {
+        Ok(bound) => walk_bound(alloc, &bound, registry, events),
         Err(why) => unbound(alloc, &why),
     }
 }
@@ -226,16 +220,16 @@ fn walk_status(refused: bool) -> Status
     }
 }
 
-/// Steps a table over events from state 0 with all registers 0, and prints each step: the kind, the states before and
+/// Steps a table over events from state 0 with all registers 0, by the callbacks of a registry, and prints each step: the kind, the states before and
 /// after it, the row, and a line for each deed.
 ///
-/// A line of `events` is `KIND N=V ..`: a kind of the book, and facts by number. Refused, with status `Refused`, are a
-/// table with a fault (`line N fault C`), one that names what the book lacks (`unbound NAME`), and a line of another
+/// A line of `events` is `KIND N=V ..`: a kind of the registry, and facts by number. Refused, with status `Refused`, are a
+/// table with a fault (`line N fault C`), one that names what the registry lacks (`unbound NAME`), and a line of another
 /// form (`bad line N`); nothing is stepped then.
 pub fn walk_on<O: ByteSink>(
     alloc: Global,
     table: &[u8],
-    book: &LawBook,
+    registry: &Registry,
     events: &str,
     sink: &mut O,
 ) -> Status
@@ -244,14 +238,14 @@ pub fn walk_on<O: ByteSink>(
 
     // What is printed is the text of the table's run on the events, or the first refusal; want of memory aside, it is
     // done exactly where nothing is refused.
-    ensures walk { IsWalkedOn O.contents O.failures O.idle book.now table.now events.now sink.old sink.new result }
+    ensures walk { IsWalkedOn O.contents O.failures O.idle registry.now.book table.now events.now sink.old sink.new result }
     ensures words { result ≢ Status.Usage }
 
     // A fault comes only where the sink failed, or took nothing in as many writes in a row as the bound says.
     ensures cause { result ≡ Status.Fault → HasWriteCause O.failures O.idle sink.old sink.new }
     ensures row { O.most_idle sink.new ≤ max (O.most_idle sink.old) MAX_IDLE_WRITES }
 {
-    match text_of(alloc, table, book, events) {
+    match text_of(alloc, table, registry, events) {
         Ok(walk) => tell(sink, &walk.text, walk_status(walk.refused)),
         Err(AllocError) => tell(sink, b"no memory\n", Status::NoMemory),
     }

@@ -1,7 +1,19 @@
-use Rattle.tab_law.specs.Books.{NamedIsHigh}
-use Rattle.tab_walk.proofs.WalkLemmas.{AreSteps-length}
+use Rattle.std.proofs.Common.{[]}
+use Rattle.std.proofs.lemmas.List.{take_more, take_all}
+use Rattle.tab_walk.proofs.WalkLemmas.{HasRun-start, HasRun-more, HasRun-text}
 use Rattle.tab_walk.proofs.walk.run_text.Goals as goal
 
--- there is one step for each event
-pub put_steps-requires : goal.put_steps-requires
-put_steps-requires c = rw c.deref.ensures.value (AreSteps-length (NamedIsHigh c.args.book.now) _ _ _ _ _ c.in_ok-steps.ensures.steps)
+pub loop-event-init : goal.loop-event-init
+loop-event-init g c = rw (c.new-text.ensures.items, c.new-room.ensures) (HasRun-start c.args.bound.now.table c.args.registry.now.book)
+
+-- one more step is printed
+pub loop-event-preserved : goal.loop-event-preserved
+loop-event-preserved g c =
+    let put = rw (c.table.ensures, c.laws.ensures) at c.in_ok-put_step.ensures in
+    rw (take_more c.args.events.now c.loop-event.event-index (record { kind = 0; facts = [] }) c.loop-event-test.true, put)
+    (HasRun-more c.args.bound.now.table c.args.registry.now.book _ _ _ _ _ c.loop-event.invariant c.step_into.ensures)
+
+pub returns : goal.returns
+returns g c =
+    let whole = take_all c.loop-event.event-index c.args.events.now c.loop-event-test.false in
+    HasRun-text c.args.bound.now.table c.args.registry.now.book c.args.events.now c.loop-event.text.items c.loop-event.machine (rw whole at c.loop-event.invariant)

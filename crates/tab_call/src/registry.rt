@@ -1,0 +1,139 @@
+ghost use Rattle.std.specs.Prelude.{◌≡◌, ◌<◌, ◌++◌, ◌∷◌, [], None, length, map, OnOk, OnErr, IfErr};
+ghost use Rattle.base_list.specs.Adding.{error_of};
+ghost use Rattle.base_list.specs.Named.{refusal};
+ghost use Rattle.tab_law.specs.Books.{guard_answer, ActPermits};
+
+use crate::stored::{StoredAct, StoredGuard};
+use base_list::{AddError, Refused};
+use std::alloc::Global;
+use tab_law::{Acted, LawBook, MAX_ACTIONS, MAX_GUARDS, MAX_KINDS, Scene};
+
+/// Kinds of events, and callbacks of guards and of actions, each under its name. Nothing is ever taken out, so a
+/// place stays that of its name. The book has each callback's law in the callback's place.
+///
+/// In: `add_kind`, `add_guard`, `add_act`. Looks: `laws`, `ask`, `act`.
+pub struct Registry {
+    alloc: Global,
+    pub book: LawBook,
+    guards: Vec<StoredGuard>,
+    acts: Vec<StoredAct>,
+    ghost guards_kept: { map (λ stored. stored.law) guards.items ≡ map (λ entry. entry.value) book.guards },
+    ghost acts_kept: { map (λ stored. stored.law) acts.items ≡ map (λ entry. entry.value) book.acts },
+}
+
+// A derived `drop` is proved anew, field by field, at each way out of each function that holds it; this one is a call.
+impl Drop for Registry {
+    fn drop(self) {
+        let Registry {
+            alloc: _,
+            book,
+            guards,
+            acts,
+        } = self;
+    }
+}
+
+impl Registry {
+    /// A registry without names. Takes no memory.
+    pub fn new(alloc: Global) -> Registry
+        ensures { result.book ≡ record { kinds = []; guards = []; acts = [] } }
+    {
+        Registry {
+            alloc,
+            book: LawBook::new(alloc),
+            guards: Vec::new(alloc),
+            acts: Vec::new(alloc),
+        }
+    }
+
+    /// The laws of the callbacks, each in its callback's place, and the kinds.
+    pub fn laws(&self) -> &LawBook
+        ensures { result.now ≡ self.now.book }
+    {
+        &self.book
+    }
+
+    /// What the callback of the guard at a place answers: what its law says.
+    pub fn ask(&self, place: usize, scene: &Scene) -> bool
+        requires { place < length self.now.book.guards }
+        ensures { result ≡ guard_answer self.now.book scene.now place }
+    {
+        self.guards[place].ask(scene)
+    }
+
+    /// What the callback of the action at a place answers: something that its law permits.
+    pub fn act(&self, place: usize, scene: &Scene) -> Acted
+        requires { place < length self.now.book.acts }
+        ensures { ActPermits self.now.book place scene.now result.regs result.deeds }
+    {
+        self.acts[place].act(scene)
+    }
+
+    /// Adds a kind of events.
+    pub fn add_kind(&mut self, name: &[u8]) -> Result<(), AddError>
+        ensures ok { OnOk result (self.new.book ≡ record self.old.book { kinds = self.old.book.kinds ++ record { name = name.now; value = tt } ∷ [] }) }
+        ensures free { OnOk result (refusal MAX_KINDS name.now self.old.book.kinds ≡ None) }
+        ensures fault { IfErr result (λ e. e ≡ error_of (refusal MAX_KINDS name.now self.old.book.kinds)) }
+        ensures err { OnErr result (self.new.book ≡ self.old.book) }
+    {
+        self.book.add_kind(name)
+    }
+
+    /// Adds a guard's callback, or hands it back. `Taken` comes before `Full`, and both before want of memory.
+    pub fn add_guard(&mut self, name: &[u8], guard: StoredGuard) -> Result<(), Refused<StoredGuard>>
+        ensures ok { OnOk result (self.new.book ≡ record self.old.book { guards = self.old.book.guards ++ record { name = name.now; value = guard.law } ∷ [] }) }
+        ensures free { OnOk result (refusal MAX_GUARDS name.now self.old.book.guards ≡ None) }
+        ensures fault { IfErr result (λ r. r.error ≡ error_of (refusal MAX_GUARDS name.now self.old.book.guards)) }
+        ensures back { IfErr result (λ r. r.back ≡ guard) }
+        ensures err { OnErr result (self.new.book ≡ self.old.book) }
+    {
+        if let Some(fault) = self.book.guards().refusal(MAX_GUARDS, name) {
+            let error = AddError::Fault(fault);
+            return Err(Refused { error, back: guard });
+        }
+        let error = AddError::NoMemory;
+        let Ok(law) = guard.law.copy(self.alloc) else {
+            return Err(Refused { error, back: guard });
+        };
+        if self.guards.try_reserve(1).is_err() {
+            return Err(Refused { error, back: guard });
+        }
+        if let Err(refused) = self.book.add_guard(name, law) {
+            let error = refused.error;
+            return Err(Refused { error, back: guard });
+        }
+        match self.guards.push(guard) {
+            Ok(()) => Ok(()),
+            Err(_) => unreachable!(),
+        }
+    }
+
+    /// Adds an action's callback, or hands it back. `Taken` comes before `Full`, and both before want of memory.
+    pub fn add_act(&mut self, name: &[u8], act: StoredAct) -> Result<(), Refused<StoredAct>>
+        ensures ok { OnOk result (self.new.book ≡ record self.old.book { acts = self.old.book.acts ++ record { name = name.now; value = act.law } ∷ [] }) }
+        ensures free { OnOk result (refusal MAX_ACTIONS name.now self.old.book.acts ≡ None) }
+        ensures fault { IfErr result (λ r. r.error ≡ error_of (refusal MAX_ACTIONS name.now self.old.book.acts)) }
+        ensures back { IfErr result (λ r. r.back ≡ act) }
+        ensures err { OnErr result (self.new.book ≡ self.old.book) }
+    {
+        if let Some(fault) = self.book.acts().refusal(MAX_ACTIONS, name) {
+            let error = AddError::Fault(fault);
+            return Err(Refused { error, back: act });
+        }
+        let error = AddError::NoMemory;
+        let Ok(law) = act.law.copy(self.alloc) else {
+            return Err(Refused { error, back: act });
+        };
+        if self.acts.try_reserve(1).is_err() {
+            return Err(Refused { error, back: act });
+        }
+        if let Err(refused) = self.book.add_act(name, law) {
+            let error = refused.error;
+            return Err(Refused { error, back: act });
+        }
+        match self.acts.push(act) {
+            Ok(()) => Ok(()),
+            Err(_) => unreachable!(),
+        }
+    }
+}
