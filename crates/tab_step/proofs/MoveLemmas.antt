@@ -28,7 +28,7 @@ use Rattle.tab_step.specs.declared.machine.Event.{Event}
 
 -- a row that stands for none
 pub no_row : Row
-no_row = record { state = 0; kind = 0; guards = []; actions = []; next = 0; line = 0 }
+no_row = record { state = 0; kind = 0; guards = []; actions = []; next = 0 }
 
 -- a run goes on by one more action
 pub Runs-more : {A : Type 0} (Answers : A → Scene → List ℕ → List Deed → Type 0) (facts : List ℕ) (actions : List A) (before : List ℕ) (chain : List (List ℕ)) (deeds : List Deed) (action : A) (after : List ℕ) (own : List Deed) → Runs Answers facts actions before chain deeds → Answers action (scene_of (end_of before chain) facts) after own → Runs Answers facts (actions ++ action ∷ []) before (chain ++ after ∷ []) (deeds ++ own)
