@@ -8,7 +8,7 @@ ghost use Rattle.dia_avp.specs.Writing.{HasNumbers, MeansAvp, MeansAvps, IsReadB
 use crate::avp::{Avp, AvpView};
 use crate::avp_list::AvpList;
 use crate::fault::WriteError;
-use crate::length::{has_long, is_long, length_of, encoded_len_of};
+use crate::length::{encoded_len_of, has_long, is_long, length_of};
 use base_codes::AVP_HEADER_LEN;
 use byteorder::{BigEndian, ByteOrder};
 

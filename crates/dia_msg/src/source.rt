@@ -16,7 +16,7 @@ use crate::rules::Rule;
 use crate::typed::{TypedAvp, TypedAvps};
 use dia_avp::{AvpList, AvpView, Octets};
 use dia_dict::Dictionary;
-use dia_tree::{group_list, canonical_avp};
+use dia_tree::{canonical_avp, group_list};
 use std::alloc::{AllocError, Global};
 
 /// What stands for an AVP that is missing.

@@ -81,12 +81,7 @@ fn put_header(out: &mut Vec<u8>, widths: Widths) -> Result<(), AllocError>
 
 /// Puts a row's line.
 #[tactic(auto, unfolding(crate::specs::Printed::row_line))]
-fn put_row(
-    out: &mut Vec<u8>,
-    table: &Table,
-    row: &Row,
-    widths: Widths,
-) -> Result<(), AllocError>
+fn put_row(out: &mut Vec<u8>, table: &Table, row: &Row, widths: Widths) -> Result<(), AllocError>
     requires { IsRowOf table.now row.now }
     ensures { OnOk result (out.new.items ≡ out.old.items ++ row_line table.now widths row.now) }
 {

@@ -5,8 +5,8 @@ use base_list::{AddError, AddFault, Octets};
 use std::alloc::{AllocError, Global};
 use std::test::Fail;
 use tab_law::{
-    ActLaw, Atom, Chain, Change, Deed, Deeds, Field, GuardLaw, LawBook, MAX_ACTIONS, MAX_GUARDS,
-    MAX_KINDS, Numbers, PLACES, Scene, Term, Test, high, holds, permits,
+    ActLaw, Atom, Chain, Change, Deed, Field, GuardLaw, LawBook, MAX_ACTIONS, MAX_GUARDS,
+    MAX_KINDS, Numbers, PLACES, Scene, Term, Terms, Test, emitted, high, holds, permits,
 };
 
 /// The field of an answer's request number, and of its Result-Code.
@@ -107,10 +107,8 @@ fn number(value: u64) -> Term {
 }
 
 /// Arguments that are all 0 but the first.
-fn arguments(first: Term) -> [Term; PLACES] {
-    let mut terms = [number(0); PLACES];
-    terms[0] = first;
-    terms
+fn arguments(alloc: Global, first: Term) -> Result<Terms, AllocError> {
+    Terms::from_slice(alloc, &[first])
 }
 
 /// A deed whose arguments are all 0 but the first.
@@ -135,7 +133,7 @@ fn reserve(alloc: Global) -> Result<ActLaw, AllocError> {
     changes.push(Change::Set(GRANTED, number(9)))?;
     changes.push(Change::Pick(GRANTED, number(1), offered))?;
     changes.push(Change::Set(UNIT, before))?;
-    changes.push(Change::Emit(DeedCode::Reserve.number(), arguments(after)))?;
+    changes.push(Change::Emit(DeedCode::Reserve.number(), arguments(alloc, after)?))?;
     Ok(ActLaw::new(changes))
 }
 
@@ -149,9 +147,7 @@ fn offered() -> Scene {
 
 /// Whether these registers and one deed that reserves so many units are permitted.
 fn may_reserve(law: &ActLaw, regs: &[u64; PLACES], units: u64) -> bool {
-    let mut deeds = Deeds::new();
-    deeds.push(deed(DeedCode::Reserve, units));
-    permits(law, &offered(), regs, &deeds)
+    permits(law, &offered(), regs, &[deed(DeedCode::Reserve, units)])
 }
 
 #[test]
@@ -176,7 +172,7 @@ fn a_pick_may_be_any_value_of_its_range(rt: HostRuntime) -> Result<(), Fail> {
         assert!(rt; !may_reserve(&law, &regs, units), "another register stays");
     }
     assert!(rt;
-        !permits(&law, &offered(), &acted.regs, &Deeds::new()),
+        !permits(&law, &offered(), &acted.regs, &[]),
         "the deed is owed"
     );
     Ok(())
@@ -191,7 +187,8 @@ fn ends(alloc: Global) -> Result<ActLaw, AllocError> {
     changes.push(Change::Set(2, Term::Difference(one, most)))?;
     changes.push(Change::Set(3, Term::Least(most, one)))?;
     for argument in 0..5u64 {
-        changes.push(Change::Emit(DeedCode::Service.number(), arguments(number(argument))))?;
+        let terms = arguments(alloc, number(argument))?;
+        changes.push(Change::Emit(DeedCode::Service.number(), terms))?;
     }
     Ok(ActLaw::new(changes))
 }
@@ -207,6 +204,69 @@ fn sums_stop_at_the_ends_and_the_first_four_emits_count(rt: HostRuntime) -> Resu
     let other = reserve(rt.alloc())?;
     assert!(rt; kept.is_same(&law));
     assert!(rt; !kept.is_same(&other));
+    Ok(())
+}
+
+/// Five deeds with a condition: a fact, or the register that the action sets, isn't 0. The second and the last have
+/// the condition 0.
+fn with_conditions(alloc: Global) -> Result<ActLaw, AllocError> {
+    let mut changes = Vec::new(alloc);
+    changes.push(Change::Set(63, number(7)))?;
+    for atom in [
+        Atom::Fact(63),
+        Atom::Fact(62),
+        Atom::NewRegister(63),
+        Atom::Constant(1),
+        Atom::Constant(1),
+    ] {
+        let terms = arguments(alloc, Term::Just(atom))?;
+        changes.push(Change::EmitIf(atom, DeedCode::Service.number(), terms))?;
+    }
+    Ok(ActLaw::new(changes))
+}
+
+#[test]
+fn a_condition_that_is_0_emits_nothing_and_counts(rt: HostRuntime) -> Result<(), Fail> {
+    let law = with_conditions(rt.alloc())?;
+    let mut scene = blank();
+    scene.facts[63] = 5;
+    let acted = high(&law, &scene);
+    let wanted = [
+        deed(DeedCode::Service, 5),
+        deed(DeedCode::Service, 7),
+        deed(DeedCode::Service, 1),
+    ];
+    assert!(rt; acted.regs[63] == 7);
+    assert!(rt; acted.deeds.as_slice() == wanted.as_slice());
+    assert!(rt; permits(&law, &scene, &acted.regs, &wanted));
+    assert!(rt; !permits(&law, &scene, &acted.regs, &wanted[..2]));
+    assert!(rt; emitted(&law, &scene, &scene.regs).len() == 2);
+    assert!(rt; law.copy(rt.alloc())?.is_same(&law));
+    Ok(())
+}
+
+/// As many arguments as a deed has, and the last of them.
+fn widest(alloc: Global) -> Result<ActLaw, AllocError> {
+    let mut terms = Vec::new(alloc);
+    for place in 0..PLACES as u8 {
+        terms.push(Term::Just(Atom::Fact(place)))?;
+    }
+    let mut changes = Vec::new(alloc);
+    changes.push(Change::Emit(
+        DeedCode::Service.number(),
+        Terms::from_slice(alloc, terms.as_slice())?,
+    ))?;
+    Ok(ActLaw::new(changes))
+}
+
+#[test]
+fn a_deed_has_64_arguments(rt: HostRuntime) -> Result<(), Fail> {
+    let law = widest(rt.alloc())?;
+    let mut scene = blank();
+    scene.facts[63] = 9;
+    let deeds = high(&law, &scene).deeds;
+    assert!(rt; deeds.len() == 1);
+    assert!(rt; deeds.as_slice()[0].a == scene.facts);
     Ok(())
 }
 

@@ -1,14 +1,19 @@
-//! Steps: which row takes an event, what its actions leave, and which tables are bound.
+//! Steps over stored callbacks: which row takes an event, what its actions leave, and which tables are bound.
 
 ghost use Rattle.std.specs.Prelude.{IfOk};
+ghost use Rattle.tab_law.specs.Acts.{Permits};
 ghost use Rattle.tab_step.specs.Bind.{IsBoundTo};
 
 use base_codes::{DeedCode, session_fact, session_register};
-use base_list::AddError;
+use base_list::{AddError, AddFault};
 use std::alloc::{AllocError, Global};
 use std::test::Fail;
-use tab_law::{ActLaw, Atom, Change, Deed, Field, GuardLaw, LawBook, PLACES, Term, Test};
-use tab_step::{Bound, Event, MachineState, Stepped, Unbound, bind, run, step};
+use tab_call::{Ask, Do, Registry, StoredAct, StoredGuard};
+use tab_law::{
+    ActLaw, Acted, Atom, Change, Deed, Field, GuardLaw, LawBook, PLACES, Scene, Term, Terms, Test,
+    emitted, high, holds, permits,
+};
+use tab_step::{Bound, Event, MachineState, Stepped, Unbound, bind, is_step, run, step, step_into};
 use tab_text::parse;
 
 /// A client that waits for its answer.
@@ -36,10 +41,9 @@ fn equal(alloc: Global, fact: u8, atom: Atom) -> Result<GuardLaw, AllocError> {
 }
 
 /// The deed of that code whose arguments are all 0 but the first.
-fn emit(code: DeedCode, first: Term) -> Change {
-    let mut terms = [number(0); PLACES];
-    terms[0] = first;
-    Change::Emit(code.number(), terms)
+fn emit(alloc: Global, code: DeedCode, first: Term) -> Result<Change, AllocError> {
+    let terms = Terms::from_slice(alloc, &[first])?;
+    Ok(Change::Emit(code.number(), terms))
 }
 
 /// Keeps what the service is told, and tells it.
@@ -47,18 +51,17 @@ fn service(alloc: Global, value: u64) -> Result<ActLaw, AllocError> {
     let register = session_register::SERVICE as u8;
     let mut changes = Vec::new(alloc);
     changes.push(Change::Set(register, number(value)))?;
-    changes.push(emit(DeedCode::Service, number(value)))?;
+    changes.push(emit(alloc, DeedCode::Service, number(value))?)?;
     Ok(ActLaw::new(changes))
 }
 
 /// The first register becomes one more, and is in four deeds.
 fn four(alloc: Global) -> Result<ActLaw, AllocError> {
     let more = Term::Sum(Atom::Register(1), Atom::Constant(1));
-    let deed = emit(DeedCode::Undial, Term::Just(Atom::NewRegister(1)));
     let mut changes = Vec::new(alloc);
     changes.push(Change::Set(1, more))?;
     for _ in 0..4u8 {
-        changes.push(deed)?;
+        changes.push(emit(alloc, DeedCode::Undial, Term::Just(Atom::NewRegister(1)))?)?;
     }
     Ok(ActLaw::new(changes))
 }
@@ -76,9 +79,20 @@ fn add_client(alloc: Global, book: &mut LawBook) -> Result<(), AddError> {
     Ok(())
 }
 
-fn client_book(alloc: Global) -> Result<LawBook, AddError> {
+/// Adds the kind Go, guards that say yes where register 0 is 0, and an action of four deeds.
+fn add_busy(alloc: Global, book: &mut LawBook) -> Result<(), AddError> {
+    book.add_kind(b"Go")?;
+    for name in [b"a", b"b", b"c", b"d"] {
+        book.add_guard(name, equal(alloc, 0, Atom::Register(0))?)?;
+    }
+    book.add_act(b"Four", four(alloc)?)?;
+    Ok(())
+}
+
+fn full_book(alloc: Global) -> Result<LawBook, AddError> {
     let mut book = LawBook::new(alloc);
     add_client(alloc, &mut book)?;
+    add_busy(alloc, &mut book)?;
     Ok(book)
 }
 
@@ -135,22 +149,24 @@ fn are_outcomes(steps: &[Stepped], wanted: &[Outcome]) -> bool {
 }
 
 /// The row that takes an event at the start.
-fn row_of(bound: &Bound, book: &LawBook, event: Event) -> Option<u16>
-    requires { IsBoundTo bound.now book.now }
+fn row_of(bound: &Bound, registry: &Registry, event: Event) -> Option<u16>
+    requires { IsBoundTo bound.now registry.now.book }
 {
-    step(bound, book, &start(), event).row
+    step(bound, registry, &start(), event).row
 }
 
-#[test]
-fn a_client_waits_until_it_is_granted(rt: HostRuntime) -> Result<(), Fail> {
-    let book = client_book(rt.alloc())?;
-    let bound = bound_to(rt.alloc(), CLIENT, &book)?;
-    for (request, code, row) in [(0, 5012, 1), (0, 2001, 0), (1, 2001, 1)] {
-        assert!(rt;
-            row_of(&bound, &book, event(0, request, code)) == Some(row),
-            "{request} {code}"
-        );
-    }
+/// Whether answers with these numbers and codes are taken by these rows.
+fn are_taken(bound: &Bound, registry: &Registry) -> bool
+    requires { IsBoundTo bound.now registry.now.book }
+{
+    row_of(bound, registry, event(0, 0, 5012)) == Some(1)
+        && row_of(bound, registry, event(0, 0, 2001)) == Some(0)
+        && row_of(bound, registry, event(0, 1, 2001)) == Some(1)
+}
+
+/// Whether a client waits until it is granted.
+fn waits(alloc: Global, registry: &Registry) -> Result<bool, Fail> {
+    let bound = bound_to(alloc, CLIENT, registry.laws())?;
     let events = [
         event(0, 0, 5012),
         event(0, 1, 2001),
@@ -163,19 +179,8 @@ fn a_client_waits_until_it_is_granted(rt: HostRuntime) -> Result<(), Fail> {
         (None, 0, 2, 1, 0),
         (Some(0), 1, 1, 30, 1),
     ];
-    let steps = run(rt.alloc(), &bound, &book, &start(), &events)?;
-    assert!(rt; are_outcomes(steps.as_slice(), &wanted));
-    Ok(())
-}
-
-/// Adds the kind Go, guards that say yes where register 0 is 0, and an action of four deeds.
-fn add_busy(alloc: Global, book: &mut LawBook) -> Result<(), AddError> {
-    book.add_kind(b"Go")?;
-    for name in [b"a", b"b", b"c", b"d"] {
-        book.add_guard(name, equal(alloc, 0, Atom::Register(0))?)?;
-    }
-    book.add_act(b"Four", four(alloc)?)?;
-    Ok(())
+    let steps = run(alloc, &bound, registry, &start(), &events)?;
+    Ok(are_taken(&bound, registry) && are_outcomes(steps.as_slice(), &wanted))
 }
 
 /// Whether register 1 counts on from 1 in a chain.
@@ -209,14 +214,36 @@ fn is_full(stepped: &Stepped) -> bool {
         && counts_in_fours(deeds)
 }
 
-#[test]
-fn eight_actions_with_four_deeds_each_fill_a_step(rt: HostRuntime) -> Result<(), Fail> {
-    let mut book = LawBook::new(rt.alloc());
-    add_busy(rt.alloc(), &mut book)?;
-    let bound = bound_to(rt.alloc(), BUSY, &book)?;
-    let stepped = step(&bound, &book, &start(), event(0, 0, 0));
-    assert!(rt; is_full(&stepped));
-    Ok(())
+/// Whether eight actions with four deeds each fill a step, and room that was full is as good as new.
+fn fills(alloc: Global, registry: &Registry) -> Result<bool, Fail> {
+    let bound = bound_to(alloc, BUSY, registry.laws())?;
+    let mut room = Stepped::new();
+    step_into(&bound, registry, &start(), &event(2, 0, 0), &mut room);
+    let was_full = is_full(&room);
+    step_into(&bound, registry, &start(), &event(1, 0, 0), &mut room);
+    Ok(was_full && is_outcome(&room, (None, 0, 0, 1, 0)) && room.chain.is_empty())
+}
+
+/// Whether a step is judged as one until its row, its state, a register, its chain or a deed is another.
+fn is_judged(alloc: Global, registry: &Registry) -> Result<bool, Fail> {
+    let bound = bound_to(alloc, CLIENT, registry.laws())?;
+    let told = event(0, 0, 2001);
+    let mut room = step(&bound, registry, &start(), told);
+    let book = registry.laws();
+    let was = is_step(&bound, book, &start(), &told, &room);
+    room.row = Some(1);
+    let row = is_step(&bound, book, &start(), &told, &room);
+    room.row = Some(0);
+    room.after.state = 0;
+    let state = is_step(&bound, book, &start(), &told, &room);
+    room.after.state = 1;
+    room.after.regs[63] = 1;
+    let register = is_step(&bound, book, &start(), &told, &room);
+    room.after.regs[63] = 0;
+    let again = is_step(&bound, book, &start(), &told, &room);
+    room.chain.clear();
+    let chain = is_step(&bound, book, &start(), &told, &room);
+    Ok(was && again && !row && !state && !register && !chain)
 }
 
 /// Whether that is the first name of the client's table that a book lacks.
@@ -273,19 +300,99 @@ fn long_text(alloc: Global) -> Result<String, AllocError> {
     Ok(text)
 }
 
-/// The table of that text, bound to a book.
-fn long_bound(alloc: Global, book: &LawBook) -> Result<Bound, Fail>
-    ensures { IfOk result (λ bound. IsBoundTo bound book.now) }
-{
+/// Whether the last of 512 rows takes an event.
+fn takes_the_last(alloc: Global, registry: &Registry) -> Result<bool, Fail> {
     let text = long_text(alloc)?;
-    bound_to(alloc, text.as_str(), book)
+    let bound = bound_to(alloc, text.as_str(), registry.laws())?;
+    let stepped = step(&bound, registry, &start(), event(1, 0, 0));
+    Ok(is_outcome(&stepped, (Some(511), 1, 2, 30, 2)))
 }
 
 #[test]
-fn the_last_of_512_rows_takes_an_event(rt: HostRuntime) -> Result<(), Fail> {
-    let book = client_book(rt.alloc())?;
-    let bound = long_bound(rt.alloc(), &book)?;
-    let stepped = step(&bound, &book, &start(), event(1, 0, 0));
-    assert!(rt; is_outcome(&stepped, (Some(511), 1, 2, 30, 2)));
+fn steps_over_callbacks_that_answer_by_their_laws(rt: HostRuntime) -> Result<(), Fail> {
+    let alloc = rt.alloc();
+    let book = full_book(alloc)?;
+    let mut registry = Registry::new(alloc);
+    for name in [b"CCA-I".as_slice(), b"Tx", b"Go"] {
+        registry.add_kind(name)?;
+    }
+    for place in 0..book.guards().len() {
+        let entry = book.guards().at(place);
+        let own = entry.value.copy(alloc)?;
+        let ask: Ask = Box::new(alloc, move |scene: &Scene| holds(&own, scene))?;
+        let stored = StoredGuard::new(entry.value.copy(alloc)?, ask);
+        assert!(rt; registry.add_guard(entry.name.as_slice(), stored).is_ok());
+    }
+    for place in 0..book.acts().len() {
+        let entry = book.acts().at(place);
+        let own = entry.value.copy(alloc)?;
+        let act: Do = Box::new(alloc, move |scene: &Scene| high(&own, scene))?;
+        let stored = StoredAct::new(entry.value.copy(alloc)?, act);
+        assert!(rt; registry.add_act(entry.name.as_slice(), stored).is_ok());
+    }
+    assert!(rt; waits(alloc, &registry)?);
+    assert!(rt; fills(alloc, &registry)?);
+    assert!(rt; is_judged(alloc, &registry)?);
+    assert!(rt; takes_the_last(alloc, &registry)?);
+    Ok(())
+}
+
+/// A row with one action.
+const PICKING: &str = "  State  Event  Action  Next\n  Wait   Go     Pick    Wait\n";
+
+/// Register 3 becomes any value from 1 to 3.
+fn pick(alloc: Global) -> Result<ActLaw, AllocError> {
+    let mut changes = Vec::new(alloc);
+    changes.push(Change::Pick(3, number(1), number(3)))?;
+    Ok(ActLaw::new(changes))
+}
+
+/// An answer that a law permits, with that value in register 3 if it is permitted there.
+fn choose(law: &ActLaw, scene: &Scene, value: u64) -> Acted
+    ensures { Permits law.now scene.now result.regs result.deeds }
+{
+    let highest = high(law, scene);
+    let mut regs = highest.regs;
+    regs[3] = value;
+    let deeds = emitted(law, scene, &regs);
+    if permits(law, scene, &regs, deeds.as_slice()) {
+        Acted { regs, deeds }
+    } else {
+        highest
+    }
+}
+
+/// Register 3 after a step whose action picks.
+fn picked(alloc: Global, registry: &Registry) -> Result<u64, Fail> {
+    let bound = bound_to(alloc, PICKING, registry.laws())?;
+    Ok(step(&bound, registry, &start(), event(0, 0, 0)).after.regs[3])
+}
+
+#[test]
+fn a_closure_picks_and_one_of_the_same_name_comes_back(rt: HostRuntime) -> Result<(), Fail> {
+    let alloc = rt.alloc();
+    let law = pick(alloc)?;
+    let mut registry = Registry::new(alloc);
+    registry.add_kind(b"Go")?;
+    let own = law.copy(alloc)?;
+    let two: Do = Box::new(alloc, move |scene: &Scene| choose(&own, scene, 2))?;
+    let first = registry.add_act(b"Pick", StoredAct::new(law.copy(alloc)?, two));
+    assert!(rt; first.is_ok());
+    assert!(rt; picked(alloc, &registry)? == 2);
+    let own = law.copy(alloc)?;
+    let one: Do = Box::new(alloc, move |scene: &Scene| choose(&own, scene, 1))?;
+    match registry.add_act(b"Pick", StoredAct::new(law, one)) {
+        Ok(()) => assert!(rt; false),
+        Err(refused) => {
+            let scene = Scene {
+                regs: [9; PLACES],
+                facts: [0; PLACES],
+            };
+            assert!(rt; refused.error == AddError::Fault(AddFault::Taken));
+            assert!(rt; refused.back.act(&scene).regs[3] == 1);
+        }
+    }
+    assert!(rt; registry.laws().acts().len() == 1);
+    assert!(rt; picked(alloc, &registry)? == 2);
     Ok(())
 }

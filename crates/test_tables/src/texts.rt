@@ -354,7 +354,11 @@ const MESSAGES: [(TextCode, u8, &str); 8] = [
         5,
         "line 7: wanted names of at most 40 bytes, a letter and then letters, digits, - / or _, an Event as `Kind` or `Kind when guard and guard`, and an Action as `-` or names with commas between",
     ),
-    (TextCode::TooManyRows, 6, "line 7: wanted at most 4,096 rows"),
+    (
+        TextCode::TooManyRows,
+        6,
+        "line 7: wanted at most 4,096 rows",
+    ),
     (
         TextCode::TooManyNames,
         7,

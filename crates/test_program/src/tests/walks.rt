@@ -2,7 +2,10 @@
 use bench_device::{Counting, Status};
 use std::alloc::Global;
 use std::test::Fail;
-use tab_law::{ActLaw, Atom, Change, Field, GuardLaw, LawBook, PLACES, Term, Test};
+use tab_call::{Ask, Do, Registry, StoredAct, StoredGuard};
+use tab_law::{
+    ActLaw, Atom, Change, Field, GuardLaw, LawBook, Scene, Term, Terms, Test, high, holds,
+};
 use tab_walk::walk_on;
 
 const TABLE: &str = "  State  Event                        Action         Next
@@ -19,8 +22,7 @@ fn equal(alloc: Global, field: Field, atom: Atom) -> Result<GuardLaw, Fail> {
 
 /// The action that keeps which service it hands out.
 fn service(alloc: Global, kind: u64) -> Result<ActLaw, Fail> {
-    let mut terms = [Term::Just(Atom::Constant(0)); PLACES];
-    terms[0] = Term::Just(Atom::Constant(kind));
+    let terms = Terms::from_slice(alloc, &[Term::Just(Atom::Constant(kind))])?;
     let mut changes = Vec::new(alloc);
     changes.push(Change::Set(10, Term::Just(Atom::Constant(kind))))?;
     changes.push(Change::Emit(30, terms))?;
@@ -44,14 +46,14 @@ fn client_book(alloc: Global) -> Result<LawBook, Fail> {
 /// Whether a walk prints this text and ends so.
 fn walks(
     alloc: Global,
-    book: &LawBook,
+    registry: &Registry,
     table: &str,
     events: &str,
     printed: &str,
     wanted: Status,
 ) -> bool {
     let mut sink = Counting::new(Vec::new(alloc));
-    let status = walk_on(alloc, table.as_bytes(), book, events, &mut sink);
+    let status = walk_on(alloc, table.as_bytes(), registry, events, &mut sink);
     sink.device.as_slice() == printed.as_bytes() && status == wanted
 }
 
@@ -66,6 +68,17 @@ Tx Wait Wait row -
   Unlisted
 CCA-I Wait Done row 0
   Service 1
+";
+
+/// A deed whose last argument is the last of 64.
+const TO_THE_LAST: &str = "\
+Tx Wait Wait row -
+  Unlisted 0 0 0 0 0 0 0 0 0 0 0 0 0 0 0 0 0 0 0 0 0 0 0 0 0 0 0 0 0 0 0 0 0 0 0 0 0 0 0 0 0 0 0 0 0 0 0 0 0 0 0 0 0 0 0 0 0 0 0 0 0 0 0 5
+";
+
+/// A name of 40 bytes.
+const LONG: &str = "  State  Event                                     Action  Next
+  Wait   abcdefghijabcdefghijabcdefghijabcdefghij  -       Wait
 ";
 
 const NO_HEADER: &str = "  Wait CCA-I - Wait\n";
@@ -85,12 +98,21 @@ const WALKS: &[(&str, &str, &str, Status)] = &[
     (NO_HEADER, "", "line 1 fault 1\n", Status::Refused),
     (UNKNOWN, "", "unbound Start\n", Status::Refused),
     (
+        LONG,
+        "",
+        "unbound abcdefghijabcdefghijabcdefghijabcdefghij\n",
+        Status::Refused,
+    ),
+    (
         TABLE,
         "CCA-I 12=2001\nCCA-U\n",
         "bad line 2\n",
         Status::Refused,
     ),
-    (TABLE, "CCA-I 16=1\n", "bad line 1\n", Status::Refused),
+    // No event: nothing is stepped, and nothing is wrong.
+    (TABLE, "", "", Status::Done),
+    (TABLE, "Tx 63=5\n", TO_THE_LAST, Status::Done),
+    (TABLE, "CCA-I 64=1\n", "bad line 1\n", Status::Refused),
     (TABLE, "CCA-I 12=1 12=1\n", "bad line 1\n", Status::Refused),
     (TABLE, "CCA-I 12\n", "bad line 1\n", Status::Refused),
     (
@@ -103,9 +125,28 @@ const WALKS: &[(&str, &str, &str, Status)] = &[
 
 #[test]
 fn each_step_and_its_deeds_are_printed_or_the_first_refusal(rt: HostRuntime) -> Result<(), Fail> {
-    let book = client_book(rt.alloc())?;
+    let alloc = rt.alloc();
+    let book = client_book(alloc)?;
+    let mut registry = Registry::new(alloc);
+    for name in [b"CCA-I".as_slice(), b"Tx"] {
+        registry.add_kind(name)?;
+    }
+    for place in 0..book.guards().len() {
+        let entry = book.guards().at(place);
+        let own = entry.value.copy(alloc)?;
+        let ask: Ask = Box::new(alloc, move |scene: &Scene| holds(&own, scene))?;
+        let stored = StoredGuard::new(entry.value.copy(alloc)?, ask);
+        assert!(rt; registry.add_guard(entry.name.as_slice(), stored).is_ok());
+    }
+    for place in 0..book.acts().len() {
+        let entry = book.acts().at(place);
+        let own = entry.value.copy(alloc)?;
+        let act: Do = Box::new(alloc, move |scene: &Scene| high(&own, scene))?;
+        let stored = StoredAct::new(entry.value.copy(alloc)?, act);
+        assert!(rt; registry.add_act(entry.name.as_slice(), stored).is_ok());
+    }
     for (table, events, printed, status) in WALKS {
-        let is_printed = walks(rt.alloc(), &book, table, events, printed, *status);
+        let is_printed = walks(alloc, &registry, table, events, printed, *status);
         assert!(rt; is_printed, "of {events}");
     }
     Ok(())
