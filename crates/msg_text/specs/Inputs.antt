@@ -1,5 +1,5 @@
 -- What is printed of an input: its messages in order, and then how reading it ended.
-use Rattle.std.specs.Prelude.{◌≡◌, ◌⊎◌, ℕ, Bool, false, List, [], ◌∷◌, ◌++◌, Option, Some, None}
+use Rattle.std.specs.Prelude.{◌≡◌, ◌⊎◌, ◌≤◌, ℕ, Bool, false, List, [], ◌∷◌, ◌++◌, length, Option, Some, None}
 use Rattle.std.specs.Io.KnownBytes.{Appends, Consumes, IsAtEnd}
 use Rattle.dia_frame.specs.Frames.{Frames, fault_of}
 use Rattle.dia_frame.specs.declared.fault.FrameFault.{FrameFault}
@@ -66,12 +66,31 @@ pub record BrokenText (text lines : List ℕ) : Type 0 where
   pub half : Option ℕ
   pub before : FrontText text half None lines
 
+-- The text means some octets, whose messages begin with these, which are printed.
+pub record ShortText (text lines : List ℕ) (refused : Bool) : Type 0 where
+  pub half : Option ℕ
+  pub octets : List ℕ
+  pub messages : List (List ℕ)
+  pub others : List (List ℕ)
+  pub rest : List ℕ
+  pub meaning : Means None text octets half
+  pub frames : Frames octets 4096 (messages ++ others) rest
+  pub printed : PrintsAll dictionary messages lines refused
+
+-- Memory ran out: what is printed are the first messages of a front of the text, without which it has at most 65,536 characters.
+pub record HaltedText (text lines : List ℕ) (refused : Bool) : Type 0 where
+  pub front : List ℕ
+  pub back : List ℕ
+  pub joined : text ≡ front ++ back
+  pub near : length back ≤ 65536
+  pub before : ShortText front lines refused
+
 -- the lines of a text's messages, by how reading it ended, and whether one of them is a fault; `AtEnd` says that nothing is left to read
 abbrev pub IsPrintedOf : Type 0 → List ℕ → List ℕ → End → Bool → Type 0
 IsPrintedOf AtEnd text lines Whole refused = AtEnd × WholeText text lines refused
 IsPrintedOf AtEnd text lines (Refused refusals.BadHex) refused = (AtEnd × OddText text lines) ⊎ BadText text lines
 IsPrintedOf AtEnd text lines (Refused (refusals.Frame fault)) refused = FaultyText text lines fault
-IsPrintedOf AtEnd text lines (Refused refusals.NoMemory) refused = Unit {0}
+IsPrintedOf AtEnd text lines (Refused refusals.NoMemory) refused = HaltedText text lines refused
 IsPrintedOf AtEnd text lines ReadFailed refused = BrokenText text lines
 IsPrintedOf AtEnd text lines TooManyReads refused = BrokenText text lines
 

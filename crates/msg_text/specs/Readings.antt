@@ -1,11 +1,11 @@
 -- What a reading holds of the text that was read so far.
 use Rattle.std.specs.Prelude.{◌≡◌, ℕ, Bool, false, List, [], ◌∷◌, ◌++◌, Option, Some, None, Result, Ok, Err}
 use Rattle.std.specs.Io.KnownBytes.{Appends, Consumes, IsAtEnd}
-use Rattle.dia_frame.specs.Frames.{fault_of}
-use Rattle.dia_frame.specs.Framer.{FramerState, Holds}
+use Rattle.dia_frame.specs.Frames.{Frames}
+use Rattle.dia_frame.specs.Framer.{FramerState, Shows}
 use Rattle.dia_frame.specs.declared.fault.FrameFault.{FrameFault}
 use Rattle.bench_text.specs.Digits.{Means, is_hex_text}
-use Rattle.msg_text.specs.Inputs.{IsPrintedOf, OddText, WholeText}
+use Rattle.msg_text.specs.Inputs.{IsPrintedOf, OddText, ShortText, WholeText}
 use Rattle.msg_text.specs.Printed.{PrintsAll, dictionary}
 use Rattle.msg_text.specs.Reports.{Gains}
 use Rattle.msg_text.specs.declared.ends.Refusal.{Refusal}
@@ -15,12 +15,11 @@ use Rattle.msg_text.specs.declared.report.Report.{Report}
 use Rattle.msg_text.specs.declared.reading.Reading.{Reading}
 
 -- The messages of these octets were taken: their lines are those written out and those that are kept, and the Framer
--- holds the rest, which shows this fault or none.
+-- shows this fault or none.
 pub record Stands (framer : FramerState) (report : Report) (octets written : List ℕ) (fault : Option FrameFault) : Type 0 where
   pub messages : List (List ℕ)
-  pub frames : Holds framer 4096 messages octets
+  pub frames : Shows framer 4096 messages octets fault
   pub none_waits : framer.waiting ≡ []
-  pub shown : fault_of 4096 framer.rest ≡ fault
   pub printed : PrintsAll dictionary messages (written ++ report.out.items) report.refused
   pub known : report.dictionary ≡ dictionary
 
@@ -38,14 +37,33 @@ pub record PrintsWaiting (framer framer' : FramerState) (report report' : Report
   pub gained : Gains report report' text refused
   pub emptied : framer' ≡ record framer { waiting = [] }
 
--- by what taking a piece answered: no fault is shown, or this one, and a piece has no bad characters
-abbrev pub TakesPiece : Result (Unit {0}) Refusal → (Option FrameFault → Type 0) → Type 0
-TakesPiece (Ok done) Stood = Stood None
-TakesPiece (Err refusals.BadHex) Stood = ⊥
-TakesPiece (Err (refusals.Frame fault)) Stood = Stood (Some fault)
-TakesPiece (Err refusals.NoMemory) Stood = Unit {0}
+-- Memory ran out: of the messages that waited those in front were printed behind the others, and no line of the next.
+pub record PrintsFront (framer : FramerState) (report report' : Report) : Type 0 where
+  pub front : List (List ℕ)
+  pub back : List (List ℕ)
+  pub text : List ℕ
+  pub refused : Bool
+  pub waiting : framer.waiting ≡ front ++ back
+  pub printed : PrintsAll report.dictionary front text refused
+  pub gained : Gains report report' text refused
 
--- by what taking a text answered: all of it was taken, or its front up to a bad character, or up to a frame fault
+-- Memory ran out: of the messages of these octets those that were printed before, and some more, are printed.
+pub record Halts (before : List (List ℕ)) (report : Report) (octets written : List ℕ) : Type 0 where
+  pub more : List (List ℕ)
+  pub others : List (List ℕ)
+  pub rest : List ℕ
+  pub frames : Frames octets 4096 ((before ++ more) ++ others) rest
+  pub printed : PrintsAll dictionary (before ++ more) (written ++ report.out.items) report.refused
+
+-- by what taking a piece answered: no fault is shown, or this one, or memory ran out; a piece has no bad characters
+abbrev pub TakesPiece : Result (Unit {0}) Refusal → (Option FrameFault → Type 0) → (Halted : Type 0) → Type 0
+TakesPiece (Ok done) Stood Halted = Stood None
+TakesPiece (Err refusals.BadHex) Stood Halted = ⊥
+TakesPiece (Err (refusals.Frame fault)) Stood Halted = Stood (Some fault)
+TakesPiece (Err refusals.NoMemory) Stood Halted = Halted
+
+-- by what taking a text answered: all of it was taken, or its front up to a bad character, or up to a frame fault, or up to where
+-- memory ran out
 abbrev pub TakesText : Result (Unit {0}) Refusal → Reading → (before text written : List ℕ) → Type 0
 TakesText (Ok done) new before text written = SoFar new (before ++ text) written None
 TakesText (Err refusals.BadHex) new before text written =
@@ -53,14 +71,16 @@ TakesText (Err refusals.BadHex) new before text written =
     × SoFar new (before ++ front) written None
 TakesText (Err (refusals.Frame fault)) new before text written =
     (front : List ℕ) × (back : List ℕ) × (text ≡ front ++ back) × SoFar new (before ++ front) written (Some fault)
-TakesText (Err refusals.NoMemory) new before text written = Unit {0}
+TakesText (Err refusals.NoMemory) new before text written =
+    (front : List ℕ) × (back : List ℕ) × (text ≡ front ++ back)
+    × ShortText (before ++ front) (written ++ new.report.out.items) new.report.refused
 
--- by what the end answered: the text is printed whole, or leaves a digit over
+-- by what the end answered: the text is printed whole, or leaves a digit over, or memory ran out for its last message
 abbrev pub Finishes : Result (Unit {0}) Refusal → Reading → (text written : List ℕ) → Type 0
 Finishes (Ok done) new text written = WholeText text (written ++ new.report.out.items) new.report.refused
 Finishes (Err refusals.BadHex) new text written = OddText text (written ++ new.report.out.items)
 Finishes (Err (refusals.Frame fault)) new text written = ⊥
-Finishes (Err refusals.NoMemory) new text written = Unit {0}
+Finishes (Err refusals.NoMemory) new text written = ShortText text (written ++ new.report.out.items) new.report.refused
 
 -- A text was read, and some of its lines were written out; with those that are kept they are the lines of the text.
 pub record IsPoured {I O : Type 0} (remaining : I → Option (List ℕ)) (contents : O → Option (List ℕ)) (source source' : I) (sink sink' : O) (reading : Reading) (end : End) : Type 0 where

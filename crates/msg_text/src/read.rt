@@ -25,6 +25,7 @@ fn pour<I: ByteSource, O: ByteSink>(
     sink: &mut O,
 ) -> Result<End, WriteFault>
     requires room { 0 < length text.old }
+    requires few { length text.old ≤ TEXT }
     requires start { SoFar reading.old [] [] None }
     requires reads { I.reads source.old + MAX_READS < 2 ^ 64 }
     requires read_failures { I.failures source.old < 2 ^ 64 - 1 }

@@ -1,5 +1,5 @@
 //! What is known of an input while it is read: its octets, its messages, and what they print.
-ghost use Rattle.std.specs.Prelude.{◌≡◌, ◌≢◌, ◌++◌, ◌<◌, ℕ, List, [], None, IfOk, OnOk};
+ghost use Rattle.std.specs.Prelude.{◌≡◌, ◌≢◌, ◌++◌, ◌<◌, ℕ, List, [], None, IfOk, OnOk, OnErr};
 ghost use Rattle.std.specs.Option.{ForSome};
 ghost use Rattle.msg_text.specs.Ends.{IsLast};
 
@@ -23,7 +23,7 @@ pub(crate) struct Reading {
 }
 
 impl Reading {
-    ghost use Rattle.msg_text.specs.Readings.{Finishes, PrintsWaiting, SoFar, Stands, TakesPiece, TakesText};
+    ghost use Rattle.msg_text.specs.Readings.{Finishes, Halts, PrintsFront, PrintsWaiting, SoFar, Stands, TakesPiece, TakesText};
     ghost use Rattle.msg_text.specs.Inputs.{IsPrintedOf};
 
     /// Nothing is read yet.
@@ -63,6 +63,7 @@ impl Reading {
     fn print_waiting(&mut self) -> Result<(), AllocError>
         ensures half { self.new.half ≡ self.old.half }
         ensures printed { OnOk result (PrintsWaiting self.old.framer self.new.framer self.old.report self.new.report) }
+        ensures halted { OnErr result (PrintsFront self.old.framer self.old.report self.new.report) }
     {
         while let Some(frame) = self.framer.next_frame() {
             self.report.message(frame.as_slice())?;
@@ -73,8 +74,9 @@ impl Reading {
     // The messages that a piece completes are printed, also where the octets behind them show a fault.
     fn take_piece(&mut self, piece: &[u8]) -> Result<(), Refusal>
         ensures half { self.new.half ≡ self.old.half }
-        ensures stands { (octets written : List ℕ) → Stands self.old.framer self.old.report octets written None
-            → TakesPiece result (Stands self.new.framer self.new.report (octets ++ piece.now) written) }
+        ensures stands { (octets written : List ℕ) (before : Stands self.old.framer self.old.report octets written None)
+            → TakesPiece result (Stands self.new.framer self.new.report (octets ++ piece.now) written)
+            (Halts before.messages self.new.report (octets ++ piece.now) written) }
     {
         let fed = self.framer.feed(piece);
         self.print_waiting()?;

@@ -1,10 +1,10 @@
-use Rattle.std.proofs.Common.{◌<◌, ◌++◌, ◌∙◌, [], List, ℕ, length, take, arith}
+use Rattle.std.proofs.Common.{◌<◌, ◌≤◌, ◌++◌, ◌∙◌, [], List, ℕ, length, take, arith}
 use Rattle.std.specs.Io.KnownBytes.{Consumes, IsAtEnd}
 use Rattle.std.proofs.lemmas.List.{append-nil}
 use Rattle.std.proofs.KnownBytes.{Appends-trans, Consumes-trans}
 use Rattle.bench_device.specs.declared.device.DeviceFailed.{DeviceFailed}
 use Rattle.msg_text.proofs.EndLemmas.{Consumes-given, Consumes-none, EndsBy-last, IsAtEnd-given}
-use Rattle.msg_text.proofs.ReadLemmas.{IsPrintedOf-at_end, IsPrintedOf-taken}
+use Rattle.msg_text.proofs.ReadLemmas.{IsPrintedOf-at_end, IsPrintedOf-taken, front_is_no_longer}
 use Rattle.msg_text.proofs.read.pour.Goals as goal
 
 -- a read that gave nothing found the end
@@ -43,12 +43,14 @@ returns-in-Err-take_text-clause-report g c =
     let written = c.reads.invariant.6 in
     let came : Consumes (g.I.ByteSource.remaining c.reads.source) (g.I.ByteSource.remaining c.read.new.self) (take arm.count c.read.new.buffer) =
     Consumes-given DeviceFailed _ _ arm.field-0 arm.count c.read.new.buffer arm.field-0-is arm.ensures.octets in
+    let shorter = front_is_no_longer arm.count c.read.new.buffer in
+    let few : length (take arm.count c.read.new.buffer) ≤ 65536 = omega arith in
     record {
       text = read ++ take arm.count c.read.new.buffer;
       written = written;
       read = Consumes-trans _ _ _ read (take arm.count c.read.new.buffer) c.reads.invariant.7 came;
       taken = c.reads.invariant.8;
-      printed = IsPrintedOf-taken _ c.take_text.new.self read (take arm.count c.read.new.buffer) written c.in-Err-take_text.refusal (c.in-Err-take_text.ensures read written c.reads.invariant.9);
+      printed = IsPrintedOf-taken _ c.take_text.new.self read (take arm.count c.read.new.buffer) written c.in-Err-take_text.refusal few (c.in-Err-take_text.ensures read written c.reads.invariant.9);
     }
 
 -- the text that came was taken, and its lines were written out
