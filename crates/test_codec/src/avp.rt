@@ -539,8 +539,8 @@ fn is_copied(alloc: Global) -> Result<bool, AllocError> {
     Ok(
         octets.len() == 3
             && !octets.is_empty()
-            && octets.copy(alloc)?.as_slice() == b"abc"
-            && Octets::from_slice(alloc, &[7; 33])?.as_slice() == [7; 33],
+            && octets.copy(alloc)?.as_slice() == b"abc".as_slice()
+            && Octets::from_slice(alloc, &[7; 33])?.as_slice() == [7; 33].as_slice(),
     )
 }
 
