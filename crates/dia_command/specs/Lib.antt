@@ -1,0 +1,8 @@
+pub mod Header
+pub mod Value
+pub mod Format
+pub mod Field
+pub mod Command
+pub mod Encoding
+pub mod Framing
+pub mod Answer
