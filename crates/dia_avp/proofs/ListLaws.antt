@@ -1,5 +1,6 @@
 -- There is one reading of octets.
-use Rattle.std.proofs.Common.{◌≡◌, ℕ, ◌+◌, ◌<◌, ◌≤◌, Bool, true, false, ltb, eqb, List, [], ◌∷◌, ◌++◌, length, Result, Ok, Err, cond, refl, sym, ap, subst, ◌∙◌, arith, inl, inr}
+use Rattle.std.proofs.Common.{◌≡◌, ℕ, ◌+◌, ◌<◌, ◌≤◌, Bool, true, false, ltb, eqb, List, [], ◌∷◌, ◌++◌, length, drop, Some, None, Result, Ok, Err, cond, refl, sym, ap, subst, ◌∙◌, arith, inl, inr}
+use Rattle.std.specs.Prelude.{slice_get}
 use Rattle.std.proofs.lemmas.Bool.{le-ltb, ltb-false, lt-ltb, ltb-true, ne_eqb, eq-eqb}
 use Rattle.std.proofs.lemmas.List.{length-append}
 use Rattle.dia_avp.specs.declared.fault.FaultCode.{FaultCode}
@@ -110,6 +111,19 @@ same_first octets a b x y s t =
 -- no AVP is at the front of no octets
 pub starts : (a : Avp) (next octets : List ℕ) → octets ≡ [] → AvpThen octets a next → ⊥
 starts a next octets e t = omega (arith, shorter octets a next t, ap length e)
+
+-- the AVP at the front is the first of the list, and the rest of the list follows
+pub next_first : (octets : List ℕ) (a : Avp) (rest : List ℕ) (list : List Avp) → AvpThen octets a rest → Avps octets list → (Some a ≡ slice_get list 0) × Avps rest (drop 1 list)
+next_first octets a rest [] t h = absurd (starts a rest octets h t)
+next_first octets a rest (b ∷ list) t h =
+    let s = same_first octets a b rest h.0 t h.1 in
+    let first = s.0 in
+    (cc, subst (λ (o : List ℕ). Avps o list) (sym s.1) h.2)
+
+-- where none is at the front, the list is empty
+pub next_none : (octets : List ℕ) (code : FaultCode) (list : List Avp) → Broken octets code → Avps octets list → (None ≡ slice_get list 0) × Avps octets (drop 1 list)
+next_none octets code [] w h = (refl, h)
+next_none octets code (b ∷ list) w h = absurd (not_broken octets b h.0 code h.1 w)
 
 pub same_lists : (xs ys : List Avp) (octets : List ℕ) → Avps octets xs → Avps octets ys → xs ≡ ys
 same_lists [] [] octets h k = refl

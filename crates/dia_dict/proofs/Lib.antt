@@ -1,4 +1,4 @@
-pub mod KeyedLemmas
+pub mod PlaceLemmas
 pub mod TwiceLemmas
 pub mod FieldLemmas
 pub mod BaseLemmas

@@ -62,6 +62,7 @@ base =
     ∷ of_base 449 (codes "Final-Unit-Action") Enumerated
     ∷ of_base 450 (codes "Subscription-Id-Type") Enumerated
     ∷ of_base 455 (codes "Multiple-Services-Indicator") Enumerated
+    ∷ of_base 456 (codes "Multiple-Services-Credit-Control") Grouped
     ∷ of_base 458 (codes "User-Equipment-Info") Grouped
     ∷ of_base 459 (codes "User-Equipment-Info-Type") Enumerated
     ∷ of_base 460 (codes "User-Equipment-Info-Value") OctetString

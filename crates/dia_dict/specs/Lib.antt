@@ -1,4 +1,3 @@
 pub mod Kind
-pub mod Keyed
 pub mod Base
 pub mod Dictionary

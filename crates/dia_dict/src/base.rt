@@ -4,7 +4,7 @@ use crate::definition::AvpKind;
 
 /// AVP Code, name and type of each AVP, none of a vendor (RFC 6733 section 4.5, RFC 8506 section 8). Failed-AVP and
 /// Proxy-Info, which RFC 6733 makes Grouped, are kept as octets and not looked into.
-pub(crate) const BASE: [(u32, &str, AvpKind); 55] = [
+pub(crate) const BASE: [(u32, &str, AvpKind); 56] = [
     (1, "User-Name", AvpKind::Utf8String),
     (55, "Event-Timestamp", AvpKind::Time),
     (257, "Host-IP-Address", AvpKind::Address),
@@ -56,6 +56,7 @@ pub(crate) const BASE: [(u32, &str, AvpKind); 55] = [
     (449, "Final-Unit-Action", AvpKind::Enumerated),
     (450, "Subscription-Id-Type", AvpKind::Enumerated),
     (455, "Multiple-Services-Indicator", AvpKind::Enumerated),
+    (456, "Multiple-Services-Credit-Control", AvpKind::Grouped),
     (458, "User-Equipment-Info", AvpKind::Grouped),
     (459, "User-Equipment-Info-Type", AvpKind::Enumerated),
     (460, "User-Equipment-Info-Value", AvpKind::OctetString),

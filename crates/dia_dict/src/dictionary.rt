@@ -28,9 +28,9 @@ impl Model for Dictionary {
 
     ghost Value = { List Definition };
 
-    ghost view = { λ d. drop 55 d.table };
+    ghost view = { λ d. drop 56 d.table };
 
-    ghost invariant = { λ d. d.table ≡ known (drop 55 d.table) };
+    ghost invariant = { λ d. d.table ≡ known (drop 56 d.table) };
 }
 
 impl Dictionary {

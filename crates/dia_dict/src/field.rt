@@ -4,7 +4,7 @@ ghost use Rattle.std.specs.Prelude.{◌≡◌, None, Some, IfOk, IfErr, OnOk};
 ghost use Rattle.dia_dict.specs.Kind.{fault_of_field, data_fault, IsValueOf};
 
 use crate::definition::AvpKind;
-use dia_avp::{Address, AvpView, FieldFault};
+use dia_avp::{Address, AvpView, AvpsIn, FieldFault};
 
 /// The value of an AVP's data, where it was read.
 #[derive(Clone, Copy, Debug, PartialEq, Eq)]
@@ -19,8 +19,8 @@ pub enum Field<'a> {
     Identity(&'a [u8]),
     /// An Address.
     Address(Address<'a>),
-    /// A group's octets, which are at most 128 whole AVPs.
-    Group(&'a [u8]),
+    /// A group's AVPs, at most 128.
+    Group(AvpsIn<'a>),
     /// An OctetString.
     Octets(&'a [u8]),
 }

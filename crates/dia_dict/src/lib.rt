@@ -7,7 +7,6 @@ mod definition;
 mod dictionary;
 mod fault;
 mod field;
-mod key;
 mod table;
 
 pub use definition::{AvpKind, Definition};

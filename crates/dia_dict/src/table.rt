@@ -1,38 +1,53 @@
 //! Definitions in order of adding, found by AVP Code and vendor.
 
-ghost use Rattle.std.specs.Prelude.{◌≡◌, false, None, Some, [], ◌∷◌, ◌++◌, IfOk, OnOk, OnErr, IfErr, length, slice_get};
+ghost use Rattle.std.specs.Prelude.{◌≡◌, ◌<◌, false, None, Some, [], ◌∷◌, ◌++◌, IfOk, OnOk, OnErr, IfErr, length, slice_get};
 ghost use Rattle.std.specs.Option.{option_copied};
 ghost use Rattle.base_list.specs.Adding.{error_of};
+ghost use Rattle.dia_dict.specs.Dictionary.{is_of as is_definition_of};
 
 use crate::base::BASE;
 use crate::definition::{AvpKind, Definition};
-use crate::key::Key;
 use base_list::{AddError, AddFault, Octets};
-use indexmap::IndexMap;
 use std::alloc::{AllocError, Global};
 use std::marker::Model;
 
 /// The most definitions that a dictionary has.
 pub const MAX_DEFINITIONS: usize = 256;
 
-/// Definitions in order of adding, none twice. A contract sees them as that list.
+/// How many slots codes and vendors are spread over: those of the base protocol and of credit control have one each.
+const SLOTS: usize = 512;
+
+/// Definitions in order of adding, none twice. A contract sees them as that list. `places` has for each slot the place
+/// of the definition that came there last, which is looked at before it is used.
 #[derive(Drop)]
 pub(crate) struct Table {
-    map: IndexMap<Key, Definition>,
+    definitions: Vec<Definition>,
+    places: [u8; SLOTS],
 }
 
 impl Model for Table {
     ghost use Rattle.std.specs.Prelude.{List};
-    ghost use Rattle.indexmap.specs.IndexMap.{values};
     ghost use Rattle.dia_dict.specs.declared.definition.Definition.{Definition};
-    ghost use Rattle.dia_dict.specs.Keyed.{AreKeyed};
     ghost use Rattle.dia_dict.specs.Dictionary.{NoneTwice};
 
     ghost Value = { List Definition };
 
-    ghost view = { λ t. values t.map };
+    ghost view = { λ t. t.definitions.items };
 
-    ghost invariant = { λ t. AreKeyed t.map.entries × NoneTwice (values t.map) };
+    ghost invariant = { λ t. NoneTwice t.definitions.items };
+}
+
+// The slot of a code and a vendor.
+fn slot_of(code: u32, vendor: Option<u32>) -> usize
+    ensures { result < 512 }
+{
+    (code ^ vendor.unwrap_or(0)) as usize % SLOTS
+}
+
+fn is_of(definition: &Definition, code: u32, vendor: Option<u32>) -> bool
+    ensures { result ≡ is_definition_of code vendor definition.now }
+{
+    code == definition.code && vendor.unwrap_or(0) == definition.vendor.unwrap_or(0)
 }
 
 impl Table {
@@ -43,7 +58,8 @@ impl Table {
         ensures { result ≡ [] }
     {
         Table {
-            map: IndexMap::new(alloc),
+            definitions: Vec::new(alloc),
+            places: [0; SLOTS],
         }
     }
 
@@ -53,8 +69,10 @@ impl Table {
         ensures ok { OnOk result (self.new ≡ self.old ++ definition ∷ []) }
         ensures err { OnErr result (self.new ≡ self.old) }
     {
-        let key = Key::new(definition.code, definition.vendor);
-        self.map.insert(key, definition)?;
+        let slot = slot_of(definition.code, definition.vendor);
+        let place = (self.definitions.len() % 256) as u8;
+        self.definitions.push(definition)?;
+        self.places[slot] = place;
         Ok(())
     }
 
@@ -90,10 +108,10 @@ impl Table {
         if self.find(code, vendor).is_some() || self.by_name(name).is_some() {
             return Err(AddError::Fault(AddFault::Taken));
         }
-        if self.map.len() >= MAX_DEFINITIONS {
+        if self.definitions.len() >= MAX_DEFINITIONS {
             return Err(AddError::Fault(AddFault::Full));
         }
-        let name = Octets::from_slice(*self.map.allocator(), name.as_bytes())?;
+        let name = Octets::from_slice(*self.definitions.allocator(), name.as_bytes())?;
         self.append(Definition {
             code,
             vendor,
@@ -107,15 +125,19 @@ impl Table {
     pub fn find(&self, code: u32, vendor: Option<u32>) -> Option<&Definition>
         ensures { option_copied result ≡ definition_of self.now code vendor }
     {
-        self.map.get(&Key::new(code, vendor))
+        let place = self.places[slot_of(code, vendor)];
+        match self.at(place as usize) {
+            Some(definition) if is_of(definition, code, vendor) => Some(definition),
+            _ => self.definitions.iter().find(|d| is_of(d, code, vendor)),
+        }
     }
 
     /// The definition of a name.
     pub fn by_name(&self, name: &str) -> Option<&Definition>
         ensures { option_copied result ≡ definition_named self.now name.now }
     {
-        self.map
-            .values()
+        self.definitions
+            .iter()
             .find(|d| d.name.as_slice() == name.as_bytes())
     }
 
@@ -124,9 +146,6 @@ impl Table {
         ensures place { option_copied result ≡ slice_get self.now place }
         ensures once { NoneTwice self.now }
     {
-        match self.map.get_index(place) {
-            None => None,
-            Some((_, definition)) => Some(definition),
-        }
+        self.definitions.get(place)
     }
 }

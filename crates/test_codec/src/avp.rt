@@ -1,7 +1,7 @@
 //! AVPs: what is read, what is written, and the data of one as a value.
 
 use dia_avp::{
-    Address, Avp, AvpList, AvpView, FieldFault, GroupError, Octets, ReadError, WriteError,
+    Address, Avp, AvpList, AvpView, AvpsIn, FieldFault, GroupError, Octets, ReadError, WriteError,
     address_of, first_avp, group_of, identity_of, put_avp, put_avps, put_group, read_avps, text_of,
     u32_of, u64_of, write_avp, write_avps,
 };
@@ -431,10 +431,20 @@ fn is_group_of(alloc: Global, avp: &Avp, depth: u8, size: Result<usize, FieldFau
     }
 }
 
-/// Whether a view's data are a group, or have this fault.
+/// How many AVPs there are, one after the other.
+fn avps_in(avps: AvpsIn<'_>) -> usize {
+    let mut left = avps;
+    let mut count = 0;
+    while count < 1_000 && left.next().is_some() {
+        count += 1;
+    }
+    count
+}
+
+/// Whether a view's data are a group of so many AVPs, or have this fault.
 fn is_group_in(view: &AvpView<'_>, depth: u8, size: Result<usize, FieldFault>) -> bool {
     match view.as_group(depth) {
-        Ok(octets) => size.is_ok() && octets == view.octets,
+        Ok(avps) => size == Ok(avps_in(avps)),
         Err(fault) => size == Err(fault),
     }
 }

@@ -1,7 +1,7 @@
 //! The dictionary: what it has, what may be added, and the value of data by its type.
 
 use base_list::{AddError, AddFault};
-use dia_avp::{Address, AvpView};
+use dia_avp::{Address, AvpView, AvpsIn};
 use dia_dict::{AvpKind, Definition, DictFault, Dictionary, Field};
 use std::alloc::Global;
 use std::test::Fail;
@@ -57,6 +57,7 @@ const KNOWN: &[(u32, &str, AvpKind)] = &[
     (437, "Requested-Service-Unit", AvpKind::Grouped),
     (443, "Subscription-Id", AvpKind::Grouped),
     (446, "Used-Service-Unit", AvpKind::Grouped),
+    (456, "Multiple-Services-Credit-Control", AvpKind::Grouped),
     (458, "User-Equipment-Info", AvpKind::Grouped),
     (55, "Event-Timestamp", AvpKind::Time),
     (411, "CC-Correlation-Id", AvpKind::OctetString),
@@ -108,7 +109,7 @@ fn unknown(dictionary: &Dictionary) -> Option<&'static str> {
 fn each_avp_of_the_base_is_found_by_code_and_by_name(rt: HostRuntime) -> Result<(), Fail> {
     let dictionary = Dictionary::base(rt.alloc())?;
     assert!(rt; unknown(&dictionary) == None);
-    assert!(rt; dictionary.find(456, None).is_none());
+    assert!(rt; dictionary.find(457, None).is_none());
     assert!(rt; dictionary.by_name("origin-host").is_none());
     Ok(())
 }
@@ -121,7 +122,7 @@ fn adds_both(dictionary: &mut Dictionary) -> bool {
         && dictionary
             .add(9999, Some(10_415), "Vendor-Test", AvpKind::OctetString)
             .is_ok()
-        && is_named(dictionary.at(55), 9999, None, "Test")
+        && is_named(dictionary.at(56), 9999, None, "Test")
         && is_named(
             dictionary.by_name("Vendor-Test"),
             9999,
@@ -151,7 +152,7 @@ fn refuses_what_is_taken(dictionary: &mut Dictionary) -> bool {
             return false;
         }
     }
-    dictionary.at(56).is_none()
+    dictionary.at(57).is_none()
         && dictionary.by_name("Another").is_none()
         && dictionary.find(9999, None).is_none()
         && is_of(dictionary.find(278, None), AvpKind::Unsigned32)
@@ -167,30 +168,32 @@ fn a_definition_is_added_last_where_code_and_name_are_free(rt: HostRuntime) -> R
     Ok(())
 }
 
-/// Adds 1000 to 1200.
-fn add_201(alloc: Global, dictionary: &mut Dictionary) -> Result<(), Fail> {
-    for code in 1000..1201u32 {
+/// Adds 1000 to 1199.
+fn add_200(alloc: Global, dictionary: &mut Dictionary) -> Result<(), Fail> {
+    for code in 1000..1200u32 {
         let name = format!(in alloc; "Test-{code}")?;
         dictionary.add(code, None, name.as_str(), AvpKind::Grouped)?;
     }
     Ok(())
 }
 
-/// Whether a dictionary has 256 definitions, 1200 the last, and takes no more.
+/// Whether a dictionary has 256 definitions, 1199 the last, and takes no more.
 fn is_full(dictionary: &mut Dictionary) -> bool {
     let full = dictionary.add(1201, None, "Test-1201", AvpKind::Grouped);
-    let taken = dictionary.add(1200, None, "Test-1201", AvpKind::Grouped);
+    let taken = dictionary.add(1199, None, "Test-1201", AvpKind::Grouped);
     full == Err(AddError::Fault(AddFault::Full))
         && taken == Err(AddError::Fault(AddFault::Taken))
-        && is_named(dictionary.at(255), 1200, None, "Test-1200")
+        && is_named(dictionary.at(255), 1199, None, "Test-1199")
         && dictionary.at(256).is_none()
         && dictionary.find(1201, None).is_none()
+        && is_of(dictionary.find(1, None), AvpKind::Utf8String)
+        && is_of(dictionary.find(1025, None), AvpKind::Grouped)
 }
 
 #[test]
 fn a_dictionary_has_256_definitions_at_most(rt: HostRuntime) -> Result<(), Fail> {
     let mut dictionary = Dictionary::base(rt.alloc())?;
-    add_201(rt.alloc(), &mut dictionary)?;
+    add_200(rt.alloc(), &mut dictionary)?;
     assert!(rt; is_full(&mut dictionary));
     Ok(())
 }
@@ -247,7 +250,12 @@ const VALUES: &[(u32, bool, &[u8], Result<Field<'static>, DictFault>)] = &[
         })),
     ),
     // Subscription-Id, Failed-AVP with octets that are no AVP.
-    (443, true, &TYPE_0, Ok(Field::Group(&TYPE_0))),
+    (
+        443,
+        true,
+        &TYPE_0,
+        Ok(Field::Group(AvpsIn { octets: &TYPE_0 })),
+    ),
     (279, true, &[0xff], Ok(Field::Octets(&[0xff]))),
     // Data that the type does not have, and AVPs that the dictionary does not have.
     (415, true, b"123", Err(DictFault::BadLength)),

@@ -1,6 +1,7 @@
-use dia_avp::{AvpView, WriteError, write_avp, write_avps};
+use base_fixed::FixedList;
+use dia_avp::{AvpView, MAX_AVPS, WriteError, write_avp, write_avps};
 use dia_dict::{AvpKind, Dictionary};
-use dia_tree::{FaultView, MsgFault, first_fault, group_list, missing_fault, canonical_avp};
+use dia_tree::{FaultView, MsgFault, canonical_avp, group_list, missing_fault, survey};
 use std::alloc::{AllocError, Global};
 use std::test::Fail;
 
@@ -42,6 +43,13 @@ const ZERO_VENDOR: [u8; 12] = [0, 0, 1, 0x16, 0xe0, 0, 0, 12, 0, 0, 0x28, 0];
 const GROUP: [u8; 20] = [
     0, 0, 1, 0xbe, 0x40, 0, 0, 20, 0, 0, 1, 8, 0x40, 0, 0, 9, 0x61, 0, 0, 0,
 ];
+
+/// CC-Request-Type of an EVENT request and of an UPDATE request, and Requested-Action 4, which no EVENT request may have.
+const EVENT: [u8; 12] = [0, 0, 1, 0xa0, 0x40, 0, 0, 12, 0, 0, 0, 4];
+
+const UPDATE: [u8; 12] = [0, 0, 1, 0xa0, 0x40, 0, 0, 12, 0, 0, 0, 2];
+
+const ACTION: [u8; 12] = [0, 0, 1, 0xb4, 0x40, 0, 0, 12, 0, 0, 0, 4];
 
 /// An AVP without flags but M.
 fn view_of(code: u32, vendor: Option<u32>, data: &[u8]) -> AvpView<'_> {
@@ -99,6 +107,12 @@ fn is_fault(alloc: Global, fault: Option<FaultView<'_>>, number: u32, failed: &[
             Err(_) => false,
         },
     }
+}
+
+/// The first fault of a message's AVPs.
+fn first_fault<'a>(dictionary: &Dictionary, credit: bool, octets: &'a [u8]) -> Option<FaultView<'a>> {
+    let mut avps = FixedList::new();
+    survey(dictionary, credit, octets, &mut avps)
 }
 
 /// Two parts of octets, the least and the greatest number of groups that they stand in, what stands behind, the number of
@@ -220,9 +234,10 @@ fn value_fails(
     event: bool,
     number: u32,
 ) -> Result<bool, WriteError> {
+    let behind: &[u8] = if event { &EVENT } else { &UPDATE };
     for levels in 0..5usize {
-        let octets = nested(alloc, avp, levels)?;
-        let fault = first_fault(dictionary, event, &octets);
+        let octets = joined(alloc, &nested(alloc, avp, levels)?, behind)?;
+        let fault = first_fault(dictionary, true, &octets);
         let is_numbered = match &fault {
             None => number == 0,
             Some(view) => view.result.number() == number,
@@ -248,17 +263,67 @@ fn value_holds(
             && value_fails(alloc, dictionary, &own, false, else_where)?
             && is_fault(
                 alloc,
-                first_fault(dictionary, true, &of_vendor),
-                5001,
-                &of_vendor,
-            )
-            && is_fault(
-                alloc,
                 first_fault(dictionary, false, &of_vendor),
                 5001,
                 &of_vendor,
             ),
     )
+}
+
+/// Parts of octets, whether they are of a Credit-Control-Request, and the number of their fault.
+type EventRow = ([[u8; 12]; 3], bool, u32);
+
+/// Only the first CC-Request-Type counts, wherever it stands.
+const EVENTS: &[EventRow] = &[
+    ([EVENT, ACTION, HOST], true, 5004),
+    ([ACTION, HOST, EVENT], true, 5004),
+    ([ACTION, EVENT, UPDATE], true, 5004),
+    ([EVENT, UPDATE, ACTION], true, 5004),
+    ([UPDATE, EVENT, ACTION], true, 0),
+    ([ACTION, UPDATE, EVENT], true, 0),
+    ([ACTION, HOST, UNKNOWN], true, 0),
+    ([EVENT, ACTION, HOST], false, 0),
+];
+
+/// Whether a Requested-Action of 4 has the fault of a row.
+fn event_holds(alloc: Global, dictionary: &Dictionary, row: &EventRow) -> Result<bool, AllocError> {
+    let (parts, credit, number) = row;
+    let octets = joined(alloc, &joined(alloc, &parts[0], &parts[1])?, &parts[2])?;
+    let failed: &[u8] = if *number == 0 { b"" } else { &ACTION };
+    let fault = first_fault(dictionary, *credit, &octets);
+    Ok(is_fault(alloc, fault, *number, failed))
+}
+
+#[test]
+fn requested_action_counts_where_the_first_cc_request_type_is_4(rt: HostRuntime) -> Result<(), Fail> {
+    let dictionary = Dictionary::base(rt.alloc())?;
+    for row in EVENTS {
+        assert!(rt; event_holds(rt.alloc(), &dictionary, row)?);
+    }
+    Ok(())
+}
+
+/// Whether octets are AVPs without fault, of these codes.
+fn lists(dictionary: &Dictionary, octets: &[u8], codes: &[u32]) -> bool {
+    let mut avps = FixedList::new();
+    survey(dictionary, true, octets, &mut avps).is_none()
+        && avps.len() == codes.len()
+        && avps
+            .as_slice()
+            .iter()
+            .zip(codes)
+            .all(|(avp, code)| avp.code == *code)
+}
+
+#[test]
+fn avps_without_fault_are_listed_where_they_lie(rt: HostRuntime) -> Result<(), Fail> {
+    let alloc = rt.alloc();
+    let dictionary = Dictionary::base(alloc)?;
+    let octets = joined(alloc, &joined(alloc, &HOST, &GROUP)?, &UNKNOWN)?;
+    assert!(rt; lists(&dictionary, &octets, &[264, 446, 9999]));
+    assert!(rt; lists(&dictionary, &[], &[]));
+    assert!(rt; lists(&dictionary, &full_list(alloc)?, &[9999; MAX_AVPS]));
+    Ok(())
 }
 
 /// Whether the values that credit control does not know are refused.
