@@ -6,8 +6,12 @@
 //! | `kind`, `format` | which commands there are, and their AVPs in order: the data that all else goes by |
 //! | `value`, `text`, `typed` | values of AVPs |
 //! | `command` | commands as values |
+//! | `values` | from a command to its fields, in the order of its format |
+//! | `write` | from a command to octets |
+//! | `answer` | the answer that tells the fault of a request |
 #![tactic(auto)]
 
+mod answer;
 mod command;
 mod format;
 mod header;
@@ -15,7 +19,10 @@ mod kind;
 mod text;
 mod typed;
 mod value;
+mod values;
+mod write;
 
+pub use answer::error_answer;
 pub use base_codes::ResultCode;
 pub use command::{
     CapabilitiesExchangeAnswer, CapabilitiesExchangeRequest, Command, CreditControlAnswer,
@@ -29,3 +36,4 @@ pub use kind::{CommandKind, application_of};
 pub use text::Text;
 pub use typed::{Identity, TypedAvp, TypedAvps};
 pub use value::{RequestType, RequestedAction};
+pub use write::write_message;
