@@ -7,3 +7,4 @@ pub mod Values
 pub mod Encoding
 pub mod Framing
 pub mod Answer
+pub mod Laws

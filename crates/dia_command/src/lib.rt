@@ -9,6 +9,7 @@
 //! | `values` | from a command to its fields, in the order of its format |
 //! | `write` | from a command to octets |
 //! | `answer` | the answer that tells the fault of a request |
+//! | `laws` | that header, fields and rest fix a command, and that what was read is written again |
 #![tactic(auto)]
 
 mod answer;
@@ -16,6 +17,7 @@ mod command;
 mod format;
 mod header;
 mod kind;
+mod laws;
 mod text;
 mod typed;
 mod value;
@@ -33,6 +35,7 @@ pub use dia_tree::MsgFault;
 pub use format::{AvpFormat, format_of};
 pub use header::{Flags, Header, header_of};
 pub use kind::{CommandKind, application_of};
+pub use laws::{same_command, written_again};
 pub use text::Text;
 pub use typed::{Identity, TypedAvp, TypedAvps};
 pub use value::{RequestType, RequestedAction};
