@@ -110,7 +110,11 @@ fn is_fault(alloc: Global, fault: Option<FaultView<'_>>, number: u32, failed: &[
 }
 
 /// The first fault of a message's AVPs.
-fn first_fault<'a>(dictionary: &Dictionary, credit: bool, octets: &'a [u8]) -> Option<FaultView<'a>> {
+fn first_fault<'a>(
+    dictionary: &Dictionary,
+    credit: bool,
+    octets: &'a [u8],
+) -> Option<FaultView<'a>> {
     let mut avps = FixedList::new();
     survey(dictionary, credit, octets, &mut avps)
 }
@@ -295,7 +299,9 @@ fn event_holds(alloc: Global, dictionary: &Dictionary, row: &EventRow) -> Result
 }
 
 #[test]
-fn requested_action_counts_where_the_first_cc_request_type_is_4(rt: HostRuntime) -> Result<(), Fail> {
+fn requested_action_counts_where_the_first_cc_request_type_is_4(
+    rt: HostRuntime,
+) -> Result<(), Fail> {
     let dictionary = Dictionary::base(rt.alloc())?;
     for row in EVENTS {
         assert!(rt; event_holds(rt.alloc(), &dictionary, row)?);
