@@ -1,0 +1,12 @@
+pub mod Codes
+pub mod Contents
+pub mod Lines
+pub mod Words
+pub mod Cells
+pub mod Rows
+pub mod Parts
+pub mod Faults
+pub mod Pieces
+pub mod Reading
+pub mod Rooms
+pub mod Reader

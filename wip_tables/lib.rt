@@ -1,0 +1,28 @@
+//! The text of a state machine's table: rows of State, Event, Action and Next.
+#![tactic(auto)]
+
+mod cells;
+mod fault;
+mod header;
+mod limits;
+mod lines;
+mod name;
+mod parsing;
+mod pieces;
+mod reader;
+mod room;
+mod row;
+mod spelling;
+mod table;
+mod tokens;
+
+pub use fault::{ParseError, TextCode, TextFault};
+pub use limits::{
+    MAX_ACTIONS, MAX_GUARDS, MAX_KINDS, MAX_NAME, MAX_ROW_ACTIONS, MAX_ROW_GUARDS, MAX_ROWS,
+    MAX_STATES, MAX_TEXT,
+};
+pub use name::NameList;
+pub use parsing::parse;
+pub use pieces::{Found, Pieces, Words};
+pub use row::{Places, Row};
+pub use table::Table;
