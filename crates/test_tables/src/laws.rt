@@ -254,7 +254,7 @@ fn widest(alloc: Global) -> Result<ActLaw, AllocError> {
     let mut changes = Vec::new(alloc);
     changes.push(Change::Emit(
         DeedCode::Service.number(),
-        Terms::from_slice(alloc, terms.as_slice())?,
+        Terms::from_slice(alloc, &terms[..terms.len().min(PLACES)])?,
     ))?;
     Ok(ActLaw::new(changes))
 }
