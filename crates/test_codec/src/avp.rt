@@ -434,11 +434,12 @@ fn is_group_of(alloc: Global, avp: &Avp, depth: u8, size: Result<usize, FieldFau
 /// How many AVPs there are, one after the other.
 fn avps_in(avps: AvpsIn<'_>) -> usize {
     let mut left = avps;
-    let mut count = 0;
-    while count < 1_000 && left.next().is_some() {
-        count += 1;
+    for count in 0..1_000 {
+        if left.next().is_none() {
+            return count;
+        }
     }
-    count
+    1_000
 }
 
 /// Whether a view's data are a group of so many AVPs, or have this fault.
