@@ -80,7 +80,7 @@ fn is_bad_length(alloc: Global, high: u8, low: u8) -> bool {
     framer.feed(&[1, 0, high]) == Ok(0)
         && framer.feed(&[low]) == LENGTH
         && framer.feed(&DWR) == BROKEN
-        && framer.rest_len() == 4
+        && framer.rest_len() == 0
         && framer.next_frame().is_none()
 }
 
@@ -114,7 +114,7 @@ fn keeps_two_frames(alloc: Global) -> bool {
         && framer.next_frame().is_some()
         && framer.next_frame().is_some()
         && framer.next_frame().is_none()
-        && framer.rest_len() == 2
+        && framer.rest_len() == 0
 }
 
 #[test]
