@@ -3,11 +3,13 @@
 //!
 //! | Module | What it names |
 //! |---|---|
+//! | `avp_code` | AVP Codes |
 //! | `peer_fact`, `peer_register` | places of a peer's events and machine |
 //! | `session_fact`, `session_register` | places of a session's events and machine, client or server |
 //! | `slot` | places of one service of several, in facts and in registers |
 #![tactic(auto)]
 
+pub mod avp_code;
 mod command_code;
 mod deed_code;
 mod length;

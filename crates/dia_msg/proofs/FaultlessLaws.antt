@@ -5,8 +5,8 @@ use Rattle.std.proofs.lemmas.Bool.{le-ltb, ltb-false, eq-eqb, eqb-true}
 use Rattle.dia_tree.specs.declared.fault.MsgFault.{MsgFault}
 use Rattle.base_codes.specs.declared.result_code.ResultCode.{ResultCode}
 use Rattle.base_codes.specs.declared.result_code.ResultCode.TheVariants.{InvalidMessageLength, UnsupportedVersion, CommandUnsupported, ApplicationUnsupported}
-use Rattle.dia_msg.specs.declared.rules.CommandKind.{CommandKind}
-use Rattle.dia_msg.specs.Header.{header_in}
+use Rattle.dia_command.specs.declared.kind.CommandKind.{CommandKind}
+use Rattle.dia_command.specs.Header.{header_in}
 use Rattle.dia_msg.specs.Faults.{fault_if, is_bad_length, is_bad_application, kind_in, header_faults}
 
 pub none_both : (xs ys : List MsgFault) → xs ++ ys ≡ [] → (xs ≡ []) × (ys ≡ [])

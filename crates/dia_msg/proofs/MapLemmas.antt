@@ -1,12 +1,11 @@
 -- Rules over AVPs that are each changed, but for code and vendor.
-use Rattle.std.proofs.Common.{◌≡◌, ◌==◌, ◌&&◌, ℕ, Bool, true, false, cond, not, List, [], ◌∷◌, ◌++◌, length, map, take, filter, All, refl, sym, ap, ◌∙◌, arith}
-use Rattle.std.specs.Prelude.{is_none}
+use Rattle.std.proofs.Common.{◌≡◌, ℕ, Bool, true, false, cond, not, List, [], ◌∷◌, length, map, take, filter, All, refl, sym, ap, ◌∙◌}
 use Rattle.std.proofs.lemmas.List.{map-append, length-map}
 use Rattle.std.proofs.lemmas.List.Elements.{All-head, All-tail, filter_passes}
-use Rattle.std.proofs.lemmas.Bool.{eqb-true}
 use Rattle.dia_avp.specs.declared.avp.Avp.{Avp}
-use Rattle.dia_msg.specs.declared.rules.Rule.{Rule}
-use Rattle.dia_msg.specs.Rules.{is_coded, is_for, taken, left_by, without_first, groups, untaken, is_missing, missing}
+use Rattle.dia_command.specs.declared.format.AvpFormat.{AvpFormat}
+use Rattle.dia_tree.specs.Faults.{is_coded}
+use Rattle.dia_msg.specs.Taken.{is_for, taken, left_by, without_first, untaken, is_missing, missing}
 use Rattle.dia_msg.proofs.SpreadLemmas.{spread}
 
 abbrev pub Test : Type 0
@@ -48,38 +47,38 @@ leaves-each : (several : Bool) (f : Avp → Avp) (p : Test) (list : List Avp) �
 leaves-each true f p list keeps = filter-each f (λ a. not (p a)) list (λ a. ap not (keeps a))
 leaves-each false f p list keeps = without-each f p list keeps
 
-pub taken-each : (f : Avp → Avp) (r : Rule) (list : List Avp) → KeepsHeads f → taken r (map f list) ≡ map f (taken r list)
+pub taken-each : (f : Avp → Avp) (r : AvpFormat) (list : List Avp) → KeepsHeads f → taken r (map f list) ≡ map f (taken r list)
 taken-each f r list keeps = took-each r.several f (is_for r) list (λ a. keeps a r.code)
 
-left-each : (f : Avp → Avp) (r : Rule) (list : List Avp) → KeepsHeads f → left_by r (map f list) ≡ map f (left_by r list)
+left-each : (f : Avp → Avp) (r : AvpFormat) (list : List Avp) → KeepsHeads f → left_by r (map f list) ≡ map f (left_by r list)
 left-each f r list keeps = leaves-each r.several f (is_for r) list (λ a. keeps a r.code)
 
-pub untaken-each : (f : Avp → Avp) (rules : List Rule) (list : List Avp) → KeepsHeads f → untaken rules (map f list) ≡ map f (untaken rules list)
+pub untaken-each : (f : Avp → Avp) (formats : List AvpFormat) (list : List Avp) → KeepsHeads f → untaken formats (map f list) ≡ map f (untaken formats list)
 untaken-each f [] list keeps = refl
-untaken-each f (r ∷ rules) list keeps = rw (left-each f r list keeps) (untaken-each f rules (left_by r list) keeps)
+untaken-each f (r ∷ formats) list keeps = rw (left-each f r list keeps) (untaken-each f formats (left_by r list) keeps)
 
-pub spread-each : (f : Avp → Avp) (rules : List Rule) (list : List Avp) → KeepsHeads f → spread rules (map f list) ≡ map f (spread rules list)
+pub spread-each : (f : Avp → Avp) (formats : List AvpFormat) (list : List Avp) → KeepsHeads f → spread formats (map f list) ≡ map f (spread formats list)
 spread-each f [] list keeps = refl
-spread-each f (r ∷ rules) list keeps =
-    rw (taken-each f r list keeps, left-each f r list keeps, spread-each f rules (left_by r list) keeps) (sym (map-append f (taken r list) (spread rules (left_by r list))))
+spread-each f (r ∷ formats) list keeps =
+    rw (taken-each f r list keeps, left-each f r list keeps, spread-each f formats (left_by r list) keeps) (sym (map-append f (taken r list) (spread formats (left_by r list))))
 
--- a rule is missing where none is taken
+-- an entry is missing where none is taken
 abbrev pub Same : List Avp → List Avp → Type 0
-Same xs ys = (r : Rule) → length (taken r xs) ≡ length (taken r ys)
+Same xs ys = (r : AvpFormat) → length (taken r xs) ≡ length (taken r ys)
 
-missing-head : (r : Rule) (rules : List Rule) (xs ys : List Avp) (b : Bool) → is_missing xs r ≡ b → is_missing ys r ≡ b → missing rules xs ≡ missing rules ys → missing (r ∷ rules) xs ≡ missing (r ∷ rules) ys
-missing-head r rules xs ys true e k next = rw (e, k) (ap (λ (l : List Rule). r ∷ l) next)
-missing-head r rules xs ys false e k next = rw (e, k) next
+missing-head : (r : AvpFormat) (formats : List AvpFormat) (xs ys : List Avp) (b : Bool) → is_missing xs r ≡ b → is_missing ys r ≡ b → missing formats xs ≡ missing formats ys → missing (r ∷ formats) xs ≡ missing (r ∷ formats) ys
+missing-head r formats xs ys true e k next = rw (e, k) (ap (λ (l : List AvpFormat). r ∷ l) next)
+missing-head r formats xs ys false e k next = rw (e, k) next
 
 -- where as many are taken, the same are missing
-pub missing-same : (rules : List Rule) (xs ys : List Avp) → Same xs ys → missing rules xs ≡ missing rules ys
+pub missing-same : (formats : List AvpFormat) (xs ys : List Avp) → Same xs ys → missing formats xs ≡ missing formats ys
 missing-same [] xs ys same = refl
-missing-same (r ∷ rules) xs ys same =
+missing-same (r ∷ formats) xs ys same =
     let k : is_missing ys r ≡ is_missing xs r = rw (same r) refl in
-    missing-head r rules xs ys (is_missing xs r) refl k (missing-same rules xs ys same)
+    missing-head r formats xs ys (is_missing xs r) refl k (missing-same formats xs ys same)
 
-pub missing-each : (f : Avp → Avp) (rules : List Rule) (list : List Avp) → KeepsHeads f → missing rules (map f list) ≡ missing rules list
-missing-each f rules list keeps = missing-same rules (map f list) list (λ r. rw (taken-each f r list keeps) (length-map (taken r list) f))
+pub missing-each : (f : Avp → Avp) (formats : List AvpFormat) (list : List Avp) → KeepsHeads f → missing formats (map f list) ≡ missing formats list
+missing-each f formats list keeps = missing-same formats (map f list) list (λ r. rw (taken-each f r list keeps) (length-map (taken r list) f))
 
 each-same : (f : Avp → Avp) (p : Test) (list : List Avp) → ((a : Avp) → p a ≡ true → f a ≡ a) → All (λ a. p a ≡ true) list → map f list ≡ list
 each-same f p [] same h = refl

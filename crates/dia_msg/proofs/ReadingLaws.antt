@@ -1,47 +1,195 @@
--- There is one reading of a message, and it is what the steps of reading found.
-use Rattle.std.proofs.Common.{◌≡◌, ◌==◌, ◌&&◌, ℕ, Bool, List, [], ◌∷◌, ◌++◌, drop, map, Option, None, Some, Result, Ok, Err, refl, sym, ap, subst, ◌∙◌}
-use Rattle.std.specs.Prelude.{slice_get, IsSome, IsErrOf}
+-- The steps of reading find the first fault, or the command.
+use Rattle.std.proofs.Common.{◌≡◌, ◌||◌, ◌&&◌, ◌<◌, ◌^◌, ℕ, Bool, true, false, not, ◌==◌, cond, List, [], ◌∷◌, ◌++◌, length, drop, map, filter, Option, None, Some, Result, Ok, Err, All, refl, sym, ap, subst, ◌∙◌, inl}
+use Rattle.std.specs.Prelude.{slice_get, nat_lt, is_some, IsErrOf, IsErrAnd}
 use Rattle.std.specs.Option.{option_map, option_map_or}
+use Rattle.std.proofs.lemmas.List.Elements.{All-head, All-tail}
 use Rattle.dia_avp.specs.declared.avp.Avp.{Avp}
+use Rattle.dia_avp.specs.Avps.{Avps}
 use Rattle.dia_avp.specs.Reading.{avps_in}
+use Rattle.dia_avp.specs.Encoding.{length_of}
 use Rattle.dia_avp.proofs.Bytes.{IsBytes, IsBytes-drop}
-use Rattle.dia_avp.proofs.PartLaws.{avps_in-bytes, avps_in-short}
+use Rattle.dia_avp.proofs.PartLaws.{avps_in-only, avps_in-all, avps_in-bytes, avps_in-short}
 use Rattle.dia_dict.specs.declared.definition.Definition.{Definition}
 use Rattle.dia_dict.specs.Dictionary.{known}
 use Rattle.dia_tree.specs.declared.fault.MsgFault.{MsgFault}
-use Rattle.dia_tree.specs.Faults.{group_faults, missing_fault}
-use Rattle.dia_tree.specs.Canonical.{canonical}
-use Rattle.dia_tree.proofs.FaultLaws.{each_good}
-use Rattle.dia_msg.specs.declared.command.Command.{Command}
+use Rattle.base_codes.specs.declared.result_code.ResultCode.TheVariants.{UnableToComply}
+use Rattle.dia_tree.specs.Faults.{fault, is_coded, group_faults, missing_fault, IsGood, HasMessageFaults}
+use Rattle.dia_tree.specs.Canonical.{canonical, IsCanonical, AreEach}
+use Rattle.dia_tree.proofs.CanonicalRelation.{IsCanonical-takes, IsCanonical-again}
+use Rattle.dia_tree.proofs.FaultLaws.{each_good, left_none}
+use Rattle.dia_tree.proofs.RelationLaws.{HasMessageFaults-again}
+use Rattle.dia_command.specs.declared.command.Command.{Command}
+use Rattle.dia_command.specs.declared.header.Header.{Header}
+use Rattle.dia_command.specs.declared.kind.CommandKind.{CommandKind}
+use Rattle.dia_command.specs.declared.kind.CommandKind.TheVariants as kinds
+use Rattle.dia_command.specs.declared.format.AvpFormat.{AvpFormat}
+use Rattle.dia_command.specs.Header.{header_in}
+use Rattle.dia_command.specs.Format.{kind_coded, format_of}
+use Rattle.dia_command.specs.Command.{kind_of, rest_of, fields}
 use Rattle.dia_msg.specs.declared.fault.MsgError.{MsgError}
 use Rattle.dia_msg.specs.declared.fault.MsgError.TheVariants as msg_errors
-use Rattle.dia_msg.specs.declared.header.Flags.{Flags}
-use Rattle.dia_msg.specs.declared.header.Header.{Header}
-use Rattle.dia_msg.specs.declared.rules.CommandKind.{CommandKind}
-use Rattle.dia_msg.specs.declared.rules.Rule.{Rule}
-use Rattle.dia_msg.specs.Header.{header_in}
-use Rattle.dia_msg.specs.Rules.{rules_of, groups, untaken, missing}
-use Rattle.dia_msg.specs.Command.{kind_of, fields, made}
-use Rattle.dia_msg.specs.Faults.{header_faults, kind_in, whole_avps, has_event_type, is_event, read_as, kind_read, rules_in, faults}
-use Rattle.dia_msg.specs.Reading.{Means, IsReading, IsOnlyReading, UnlessNoMemory, MayNeedMemory}
-use Rattle.dia_msg.specs.Steps.{IsErrorOf, made_by}
-use Rattle.dia_msg.proofs.FieldLemmas.{Source}
-use Rattle.dia_msg.proofs.KindLemmas.{fields_back, kind_of-made}
+use Rattle.dia_msg.specs.Taken.{missing, groups, untaken}
+use Rattle.dia_msg.specs.Faults.{header_faults, is_credit, is_event, has_failed, answer_as, read_as, kind_read, format_read, has_services, instances, has_twice, missing_faults, services_faults, HasFaults}
+use Rattle.dia_msg.specs.Reading.{AreFields, Means, IsReading, IsOnlyReading, UnlessNoMemory, MayNeedMemory}
+use Rattle.dia_msg.specs.Source.{IsBuilt}
+use Rattle.dia_msg.specs.Walk.{whole_avps, groups_in, later_faults, faults, IsErrorOf, IsOutcome}
+use Rattle.dia_msg.proofs.SpreadLemmas.{untaken-All}
+use Rattle.dia_command.proofs.SameLaws.{same}
+use Rattle.dia_msg.proofs.FieldLaws.{same_fields}
+use Rattle.dia_msg.proofs.RelationLaws.{HasFaults-takes, HasFaults-again, first_takes, first_again}
 
--- the command of a kind that a message means
-abbrev meaning : List Definition → List ℕ → CommandKind → Command
-meaning d octets kind = made d kind (header_in octets) (groups (rules_in octets) (whole_avps octets)) (map (canonical d 4) (untaken (rules_in octets) (whole_avps octets)))
+-- the kind as which AVPs are read, and its format
+abbrev some_kind : CommandKind → Option CommandKind
+some_kind k = Some k
 
-same_meaning : (d : List Definition) (octets : List ℕ) (x y : Command) → Means d octets x → Means d octets y → x ≡ y
-same_meaning d octets x y m n =
-    let p = m.kind in
-    let q = n.kind in
-    let e : kind_of x ≡ kind_of y = cc in
-    m.is_made ∙ ap (meaning d octets) e ∙ sym n.is_made
+pub kind_known : (header : Header) (list : List Avp) (command kind : CommandKind) → kind_coded header.command header.flags.request ≡ Some command → kind ≡ read_as command header.flags list → kind_read header list ≡ Some kind
+kind_known header list command kind e is = ap (λ (o : Option CommandKind). option_map (λ k. read_as k header.flags list) o) e ∙ ap some_kind (sym is)
 
-none_first : (fs : List MsgFault) (f : MsgFault) → fs ≡ [] → slice_get fs 0 ≡ Some f → ⊥
-none_first [] f e k = cc
-none_first (x ∷ fs) f e k = cc
+pub format_known : (header : Header) (list : List Avp) (kind : CommandKind) → kind_read header list ≡ Some kind → format_read header list ≡ format_of kind (is_event header list)
+format_known header list kind e = ap (λ (o : Option CommandKind). option_map_or (λ k. format_of k (is_event header list)) o []) e
+
+abbrev instances_by : Option CommandKind → List Avp → List Avp
+instances_by o list = cond (option_map_or has_services o false) (filter (is_coded 456) list) []
+
+first_front : (xs ys : List MsgFault) (f : MsgFault) → slice_get xs 0 ≡ Some f → slice_get (xs ++ ys) 0 ≡ Some f
+first_front [] ys f e = absurd cc
+first_front (x ∷ xs) ys f e = e
+
+first_mapped : (g : AvpFormat → MsgFault) (formats : List AvpFormat) (f : AvpFormat) → slice_get formats 0 ≡ Some f → slice_get (map g formats) 0 ≡ Some (g f)
+first_mapped g [] f e = absurd cc
+first_mapped g (x ∷ formats) f e = let is : x ≡ f = cc in rw is refl
+
+-- the first fault is one that is missing
+pub later_missing : (d : List Definition) (header : Header) (list : List Avp) (kind : CommandKind) (f : AvpFormat) → kind_read header list ≡ Some kind
+    → Some f ≡ slice_get (missing (format_of kind (is_event header list)) list) 0 → slice_get (later_faults d header list) 0 ≡ Some (missing_fault d f.code)
+later_missing d header list kind f e first =
+    first_front (missing_faults d (format_read header list) list) _ (missing_fault d f.code)
+    (rw (format_known header list kind e) (first_mapped (λ (q : AvpFormat). missing_fault d q.code) (missing (format_of kind (is_event header list)) list) f (sym first)))
+
+pub none_first : (formats : List AvpFormat) → None ≡ slice_get formats 0 → formats ≡ []
+none_first [] e = refl
+none_first (f ∷ formats) e = absurd cc
+
+abbrev most : Bool → ℕ
+most event = cond event 0 4
+
+few_enough : (event : Bool) → nat_lt (most event) 0 ≡ false
+few_enough true = refl
+few_enough false = refl
+
+abbrev is_faulty : Bool → List Avp → Bool
+is_faulty event list = nat_lt (most event) (length (groups_in list)) || has_twice (groups_in list)
+
+services_by : (s : Bool) (event b : Bool) (list : List Avp) → is_faulty event list ≡ b → services_faults event (groups_in (cond s list [])) ≡ cond (s && b) (fault UnableToComply None ∷ []) []
+services_by true event true list e = rw e refl
+services_by true event false list e = rw e refl
+services_by false event b list e = rw (few_enough event) refl
+
+services_are : (header : Header) (list : List Avp) (kind : CommandKind) (b : Bool) → kind_read header list ≡ Some kind → is_faulty (is_event header list) (filter (is_coded 456) list) ≡ b
+    → services_faults (is_event header list) (groups_in (instances header list)) ≡ cond (has_services kind && b) (fault UnableToComply None ∷ []) []
+services_are header list kind b e is =
+    ap (λ (o : Option CommandKind). services_faults (is_event header list) (groups_in (instances_by o list))) e ∙ services_by (has_services kind) (is_event header list) b (filter (is_coded 456) list) is
+
+-- none is missing: the faults are those of the services
+later_services : (d : List Definition) (header : Header) (list : List Avp) (kind : CommandKind) (b : Bool) → kind_read header list ≡ Some kind → None ≡ slice_get (missing (format_of kind (is_event header list)) list) 0
+    → is_faulty (is_event header list) (filter (is_coded 456) list) ≡ b → later_faults d header list ≡ cond (has_services kind && b) (fault UnableToComply None ∷ []) []
+later_services d header list kind b e none is =
+    let complete : missing (format_read header list) list ≡ [] = rw (format_known header list kind e) (none_first (missing (format_of kind (is_event header list)) list) none) in
+    rw (services_are header list kind b e is) (ap (λ (fs : List AvpFormat). map (λ f. missing_fault d f.code) fs ++ cond (has_services kind && b) (fault UnableToComply None ∷ []) []) complete)
+
+pub later_faulty : (d : List Definition) (header : Header) (list : List Avp) (kind : CommandKind) (b : Bool) → kind_read header list ≡ Some kind → None ≡ slice_get (missing (format_of kind (is_event header list)) list) 0
+    → is_faulty (is_event header list) (filter (is_coded 456) list) ≡ b → (has_services kind && b) ≡ true → slice_get (later_faults d header list) 0 ≡ Some (fault UnableToComply None)
+later_faulty d header list kind b e none is both = rw (later_services d header list kind b e none is, both) refl
+
+pub later_none : (d : List Definition) (header : Header) (list : List Avp) (kind : CommandKind) (b : Bool) → kind_read header list ≡ Some kind → None ≡ slice_get (missing (format_of kind (is_event header list)) list) 0
+    → is_faulty (is_event header list) (filter (is_coded 456) list) ≡ b → (has_services kind && b) ≡ false → later_faults d header list ≡ []
+later_none d header list kind b e none is neither = rw (later_services d header list kind b e none is, neither) refl
+
+-- an error that tells the first fault
+pub outcome_error : (added : List Definition) (header : Header) (list : List Avp) (f : MsgFault) (e : MsgError) → slice_get (later_faults (known added) header list) 0 ≡ Some f → IsErrorOf f e → IsOutcome added header list (Err e)
+outcome_error added header list f msg_errors.NoMemory first h = λ g other. let same : f ≡ g = cc in rw (← same) h
+outcome_error added header list f (msg_errors.Fault g) first h = rw h first
+
+pub outcome_memory : (added : List Definition) (header : Header) (list : List Avp) → later_faults (known added) header list ≡ [] → IsOutcome added header list (Err msg_errors.NoMemory)
+outcome_memory added header list none = λ g other. let no : slice_get (later_faults (known added) header list) 0 ≡ None = rw none refl in absurd cc
+
+-- each AVP in its canonical encoding
+pub AreEach-takes : (d : List Definition) (n : ℕ) (list : List Avp) → All (λ a. IsBytes a.octets) list → AreEach (IsCanonical d n) list (map (canonical d n) list)
+AreEach-takes d n [] h = refl
+AreEach-takes d n (a ∷ list) h =
+    (canonical d n a, map (canonical d n) list, IsCanonical-takes d n a (All-head (λ x. IsBytes x.octets) a list h), AreEach-takes d n list (All-tail (λ x. IsBytes x.octets) a list h), refl)
+
+both : (x y : Avp) (xs ys : List Avp) → x ≡ y → xs ≡ ys → x ∷ xs ≡ y ∷ ys
+both x y xs ys e f = rw (e, f) refl
+
+pub AreEach-again : (d : List Definition) (n : ℕ) (list from : List Avp) → AreEach (IsCanonical d n) list from → from ≡ map (canonical d n) list
+AreEach-again d n [] from h = h
+AreEach-again d n (a ∷ list) from h = h.4 ∙ both _ _ _ _ (IsCanonical-again d n a h.0 h.2) (AreEach-again d n list h.1 h.3)
+
+-- what the steps before found: the header and the AVPs have no fault
+pub record Sound (d : List Definition) (octets : List ℕ) : Type 0 where
+  pub header : header_faults octets ≡ []
+  pub inner : group_faults d (is_event (header_in octets) (whole_avps octets)) 5 (drop 20 octets) ≡ []
+
+pub faults_later : (d : List Definition) (octets : List ℕ) → Sound d octets → faults d octets ≡ later_faults d (header_in octets) (whole_avps octets)
+faults_later d octets s = rw (s.header, s.inner) refl
+
+-- the command that was built is what the octets mean
+pub built_reading : (added : List Definition) (octets : List ℕ) (kind : CommandKind) (c : Command) → IsBytes octets → Sound (known added) octets → later_faults (known added) (header_in octets) (whole_avps octets) ≡ []
+    → kind_read (header_in octets) (whole_avps octets) ≡ Some kind → IsBuilt added (format_read (header_in octets) (whole_avps octets)) (whole_avps octets) kind (header_in octets) c → IsReading (known added) octets (Ok c)
+built_reading added octets kind c fits s none read built =
+    let d = known added in
+    let body = drop 20 octets in
+    let bytes = IsBytes-drop 20 octets fits in
+    let header = header_in octets in
+    let list = whole_avps octets in (
+      subst (λ (fs : List MsgFault). HasFaults d octets fs) (faults_later d octets s ∙ none) (HasFaults-takes d octets bytes),
+      record {
+        avps = list;
+        whole = avps_in-all body bytes (left_none d (is_event header list) 4 body s.inner);
+        kind = read ∙ ap some_kind (sym built.kind_is);
+        header = built.header_is;
+        fields_are = built.fields_are;
+        rest = rw built.rest_is (AreEach-takes d 4 (untaken (format_read header list) list) (untaken-All (λ a. IsBytes a.octets) (format_read header list) list (avps_in-bytes body bytes)));
+      },
+    )
+
+pub outcome_reading : (added : List Definition) (octets : List ℕ) (r : Result Command MsgError) → IsBytes octets → Sound (known added) octets → IsOutcome added (header_in octets) (whole_avps octets) r → UnlessNoMemory r (IsReading (known added) octets)
+outcome_reading added octets (Ok c) fits s h = built_reading added octets h.1 c fits s h.0 h.2 h.3
+outcome_reading added octets (Err msg_errors.NoMemory) fits s h = tt
+outcome_reading added octets (Err (msg_errors.Fault g)) fits s h = first_takes (known added) octets g fits (rw (faults_later (known added) octets s) h)
+
+pub outcome_may : (added : List Definition) (octets : List ℕ) (r : Result Command MsgError) → Sound (known added) octets → IsOutcome added (header_in octets) (whole_avps octets) r → r ≡ Err msg_errors.NoMemory → MayNeedMemory (known added) octets
+outcome_may added octets (Ok c) s h e = absurd cc
+outcome_may added octets (Err msg_errors.NoMemory) s h e = λ f k. h f (rw (← faults_later (known added) octets s) (first_again (known added) octets f k))
+outcome_may added octets (Err (msg_errors.Fault g)) s h e = absurd cc
+
+some_same : (x y : CommandKind) → Some x ≡ Some y → x ≡ y
+some_same x y e = cc
+
+some_fault : (x y : MsgFault) → Some x ≡ Some y → x ≡ y
+some_fault x y e = cc
+
+no_first : (fs : List MsgFault) → None ≡ slice_get fs 0 → fs ≡ []
+no_first [] e = refl
+no_first (f ∷ fs) e = absurd cc
+
+-- there is one reading
+same_command : (d : List Definition) (octets : List ℕ) (c b : Command) → Means d octets c → Means d octets b → c ≡ b
+same_command d octets c b m n =
+    let h = header_in octets in
+    let p : avps_in (drop 20 octets) ≡ (m.avps, []) = avps_in-only (drop 20 octets) m.avps [] m.whole (inl refl) in
+    let q : avps_in (drop 20 octets) ≡ (n.avps, []) = avps_in-only (drop 20 octets) n.avps [] n.whole (inl refl) in
+    let one : n.avps ≡ m.avps = ap (λ (x : List Avp × List ℕ). x.0) (sym q ∙ p) in
+    let kinds : kind_read h m.avps ≡ Some (kind_of b) = subst (λ (l : List Avp). kind_read h l ≡ Some (kind_of b)) one n.kind in
+    let kind : kind_of c ≡ kind_of b = some_same (kind_of c) (kind_of b) (sym m.kind ∙ kinds) in
+    let values = subst (λ (l : List Avp). AreFields d (fields b) (groups (format_read h l) l)) one n.fields_are in
+    let rest = subst (λ (l : List Avp). AreEach (IsCanonical d 4) (untaken (format_read h l) l) (rest_of b)) one n.rest in
+    same c b kind (m.header ∙ sym n.header) (same_fields d c b _ m.fields_are values kind) (AreEach-again d 4 _ (rest_of c) m.rest ∙ sym (AreEach-again d 4 _ (rest_of b) rest))
+
+none_is_first : (fs : List MsgFault) (f : MsgFault) → [] ≡ fs → slice_get fs 0 ≡ Some f → ⊥
+none_is_first [] f e k = cc
+none_is_first (x ∷ fs) f e k = cc
 
 abbrev meant : Command → Result Command MsgFault
 meant c = Ok c
@@ -49,179 +197,93 @@ meant c = Ok c
 abbrev faulty : MsgFault → Result Command MsgFault
 faulty f = Err f
 
--- what octets are read as is one
-pub one_reading : (d : List Definition) (octets : List ℕ) (x y : Result Command MsgFault) → IsReading d octets x → IsReading d octets y → y ≡ x
-one_reading d octets (Ok c) (Ok b) h k = ap meant (same_meaning d octets b c k.1 h.1)
-one_reading d octets (Ok c) (Err g) h k = absurd (none_first (faults d octets) g h.0 k)
-one_reading d octets (Err f) (Ok b) h k = absurd (none_first (faults d octets) f k.0 h)
-one_reading d octets (Err f) (Err g) h k = let e : f ≡ g = cc in ap faulty (sym e)
+one_reading : (d : List Definition) (octets : List ℕ) (x y : Result Command MsgFault) → IsReading d octets x → IsReading d octets y → y ≡ x
+one_reading d octets (Ok c) (Ok b) h k = ap meant (same_command d octets b c k.1 h.1)
+one_reading d octets (Ok c) (Err g) h k = absurd (none_is_first (faults d octets) g (HasFaults-again d octets [] h.0) (first_again d octets g k))
+one_reading d octets (Err f) (Ok b) h k = absurd (none_is_first (faults d octets) f (HasFaults-again d octets [] k.0) (first_again d octets f h))
+one_reading d octets (Err f) (Err g) h k =
+    let e : f ≡ g = some_fault f g (sym (first_again d octets f h) ∙ first_again d octets g k) in
+    ap faulty (sym e)
 
 pub only_reading : (d : List Definition) (octets : List ℕ) (r : Result Command MsgError) → UnlessNoMemory r (IsReading d octets) → UnlessNoMemory r (IsOnlyReading d octets)
 only_reading d octets (Ok c) h = λ other k. one_reading d octets (Ok c) other h k
 only_reading d octets (Err msg_errors.NoMemory) h = tt
 only_reading d octets (Err (msg_errors.Fault f)) h = λ other k. one_reading d octets (Err f) other h k
 
-first_front : (xs ys : List MsgFault) (f : MsgFault) → slice_get xs 0 ≡ Some f → slice_get (xs ++ ys) 0 ≡ Some f
-first_front [] ys f e = absurd cc
-first_front (x ∷ xs) ys f e = e
-
+-- a fault of the header, or of the AVPs, is the first
 first_after : (xs ys : List MsgFault) (o : Option MsgFault) → xs ≡ [] → slice_get ys 0 ≡ o → slice_get (xs ++ ys) 0 ≡ o
 first_after [] ys o none e = e
 first_after (x ∷ xs) ys o none e = absurd cc
 
--- a fault of the header is the first
-pub header_first : (d : List Definition) (octets : List ℕ) (f : MsgFault) → slice_get (header_faults octets) 0 ≡ Some f → IsReading d octets (Err f)
-header_first d octets f e = first_front (header_faults octets) _ f e
+pub header_first : (d : List Definition) (octets : List ℕ) (f : MsgFault) → IsBytes octets → slice_get (header_faults octets) 0 ≡ Some f → IsReading d octets (Err f)
+header_first d octets f fits e = first_takes d octets f fits (first_front (header_faults octets) _ f e)
 
--- the faults of the AVPs
-abbrev inner : List Definition → List ℕ → List MsgFault
-inner d octets = group_faults d (is_event octets) 5 (drop 20 octets)
+pub inner_first : (d : List Definition) (octets : List ℕ) (fs : List MsgFault) (f : MsgFault) → IsBytes octets → header_faults octets ≡ [] → HasMessageFaults d (is_credit (header_in octets)) (drop 20 octets) fs → Some f ≡ slice_get fs 0 → IsReading d octets (Err f)
+inner_first d octets fs f fits none h first =
+    let is : fs ≡ group_faults d (is_event (header_in octets) (whole_avps octets)) 5 (drop 20 octets) = HasMessageFaults-again d (is_credit (header_in octets)) (drop 20 octets) fs h in
+    first_takes d octets f fits (first_after (header_faults octets) _ (Some f) none (first_front (group_faults d (is_event (header_in octets) (whole_avps octets)) 5 (drop 20 octets)) _ f (rw (← is) (sym first))))
 
-abbrev gone : List Definition → List ℕ → List MsgFault
-gone d octets = map (λ r. missing_fault d r.code) (missing (rules_in octets) (whole_avps octets))
+pub inner_none : (d : List Definition) (octets : List ℕ) (fs : List MsgFault) → HasMessageFaults d (is_credit (header_in octets)) (drop 20 octets) fs → None ≡ slice_get fs 0
+    → group_faults d (is_event (header_in octets) (whole_avps octets)) 5 (drop 20 octets) ≡ []
+inner_none d octets fs h none = sym (HasMessageFaults-again d (is_credit (header_in octets)) (drop 20 octets) fs h) ∙ no_first fs none
 
--- then one of the AVPs
-pub group_first : (d : List Definition) (octets : List ℕ) (f : MsgFault) → header_faults octets ≡ [] → slice_get (group_faults d (is_event octets) 5 (drop 20 octets)) 0 ≡ Some f → IsReading d octets (Err f)
-group_first d octets f none e = first_after (header_faults octets) (inner d octets ++ gone d octets) (Some f) none (first_front (inner d octets) (gone d octets) f e)
-
--- the kind as which a message is read, and its rules
-abbrev kind_from : List ℕ → Option CommandKind → Option CommandKind
-kind_from octets kind = option_map (λ k. read_as k (header_in octets).flags (whole_avps octets)) kind
-
-pub kind_read-is : (octets : List ℕ) (command : CommandKind) → kind_in octets ≡ Some command → kind_read octets ≡ Some (read_as command (header_in octets).flags (whole_avps octets))
-kind_read-is octets command e = ap (kind_from octets) e
-
-abbrev rules_from : List ℕ → Option CommandKind → List Rule
-rules_from octets kind = option_map_or (λ k. rules_of k (is_event octets)) kind []
-
-pub rules_in-is : (octets : List ℕ) (kind : CommandKind) → kind_read octets ≡ Some kind → rules_in octets ≡ rules_of kind (is_event octets)
-rules_in-is octets kind e = ap (rules_from octets) e
-
-abbrev some_kind : CommandKind → Option CommandKind
-some_kind k = Some k
-
--- what the steps before the last found
-pub record Checked (d : List Definition) (octets : List ℕ) (command kind : CommandKind) : Type 0 where
-  pub known : kind_in octets ≡ Some command
-  pub sound : header_faults octets ≡ []
-  pub good : group_faults d (is_event octets) 5 (drop 20 octets) ≡ []
-  pub read : kind ≡ read_as command (header_in octets).flags (whole_avps octets)
-
-checked_kind : (d : List Definition) (octets : List ℕ) (command kind : CommandKind) → Checked d octets command kind → kind_read octets ≡ Some kind
-checked_kind d octets command kind c = kind_read-is octets command c.known ∙ ap some_kind (sym c.read)
-
-first_mapped : (g : Rule → MsgFault) (rules : List Rule) (r : Rule) → slice_get rules 0 ≡ Some r → slice_get (map g rules) 0 ≡ Some (g r)
-first_mapped g [] r e = absurd cc
-first_mapped g (x ∷ rules) r e = let is : x ≡ r = cc in rw is refl
-
--- then one that is missing
-pub missing_first : (d : List Definition) (octets : List ℕ) (command kind : CommandKind) (r : Rule) → Checked d octets command kind
-    → slice_get (missing (rules_of kind (is_event octets)) (whole_avps octets)) 0 ≡ Some r → IsReading d octets (Err (missing_fault d r.code))
-missing_first d octets command kind r c e =
-    let rules = rules_in-is octets kind (checked_kind d octets command kind c) in
-    let one = subst (λ (rs : List Rule). slice_get (missing rs (whole_avps octets)) 0 ≡ Some r) (sym rules) e in
-    first_after (header_faults octets) (inner d octets ++ gone d octets) (Some (missing_fault d r.code)) c.sound
-    (first_after (inner d octets) (gone d octets) (Some (missing_fault d r.code)) c.good
-    (first_mapped (λ (q : Rule). missing_fault d q.code) (missing (rules_in octets) (whole_avps octets)) r one))
-
--- AVPs without a fault
-pub source : (d : List Definition) (octets : List ℕ) → IsBytes octets → group_faults d (is_event octets) 5 (drop 20 octets) ≡ [] → Source d (is_event octets) (whole_avps octets)
-source d octets fits good =
-    let body = drop 20 octets in
-    let bytes = IsBytes-drop 20 octets fits in
-    record {
-      fits = λ k a lt. record {
-        good = each_good d (is_event octets) 4 body good k a lt;
-        bytes = avps_in-bytes body bytes k a lt;
-        short = avps_in-short body bytes k a lt;
-      };
-    }
-
-pub all_none : (xs ys zs : List MsgFault) → xs ≡ [] → ys ≡ [] → zs ≡ [] → xs ++ (ys ++ zs) ≡ []
-all_none xs ys zs a b c = rw (a, b, c) refl
-
--- and without a fault it is the command that was built
-pub built_reading : (x : List Definition) (octets : List ℕ) (command kind : CommandKind) (c : Command) → IsBytes octets → Checked (known x) octets command kind
-    → missing (rules_of kind (is_event octets)) (whole_avps octets) ≡ [] → c ≡ made_by (known x) kind (header_in octets) (is_event octets) (whole_avps octets) → IsReading (known x) octets (Ok c)
-built_reading x octets command kind c fits check complete is =
-    let d = known x in
-    let h = header_in octets in
-    let list = whole_avps octets in
-    let read = checked_kind d octets command kind check in
-    let rules = rules_in-is octets kind read in
-    let rest = map (canonical d 4) (untaken (rules_of kind (is_event octets)) list) in
-    let own : kind_of c ≡ kind = ap kind_of is ∙ kind_of-made kind d h (groups (rules_of kind (is_event octets)) list) rest in
-    let none : missing (rules_in octets) list ≡ [] = ap (λ (rs : List Rule). missing rs list) rules ∙ complete in (
-      all_none (header_faults octets) (inner d octets) (gone d octets) check.sound check.good (ap (λ (rs : List Rule). map (λ r. missing_fault d r.code) rs) none),
-      record {
-        kind = read ∙ ap some_kind (sym own);
-        is_made = is ∙ ap (λ (rs : List Rule). made d kind h (groups rs list) (map (canonical d 4) (untaken rs list))) (sym rules) ∙ ap (meaning d octets) (sym own);
-        fields_are =
-            ap fields is ∙ fields_back kind x (is_event octets) h list rest (source d octets fits check.good) complete
-            ∙ ap (λ (rs : List Rule). groups rs (map (canonical d 4) list)) (sym rules);
-      },
-    )
-
--- The same as the code has it: a header, whether the message is an EVENT request, its AVPs.
-abbrev event_from : Header → Bool → Bool
-event_from h b = (h.command == 272) && (h.flags.request && b)
-
-pub event_as : (octets : List ℕ) (h : Header) (e : Bool) → h ≡ header_in octets → e ≡ ((h.command == 272) && (h.flags.request && has_event_type (avps_in (drop 20 octets)).0)) → e ≡ is_event octets
-event_as octets h e is by = by ∙ ap (λ (k : Header). event_from k (has_event_type (whole_avps octets))) is
-
-empty : (xs : List MsgFault) → None ≡ slice_get xs 0 → xs ≡ []
-empty [] e = refl
-empty (x ∷ xs) e = absurd cc
-
-pub good_as : (d : List Definition) (octets : List ℕ) (e : Bool) → e ≡ is_event octets → None ≡ slice_get (group_faults d e 5 (drop 20 octets)) 0 → group_faults d (is_event octets) 5 (drop 20 octets) ≡ []
-good_as d octets e is none = subst (λ (b : Bool). group_faults d b 5 (drop 20 octets) ≡ []) is (empty (group_faults d e 5 (drop 20 octets)) none)
-
-pub first_as : (d : List Definition) (octets : List ℕ) (e : Bool) (f : MsgFault) → header_faults octets ≡ [] → e ≡ is_event octets → Some f ≡ slice_get (group_faults d e 5 (drop 20 octets)) 0 → IsReading d octets (Err f)
-first_as d octets e f none is first =
-    group_first d octets f none (subst (λ (b : Bool). slice_get (group_faults d b 5 (drop 20 octets)) 0 ≡ Some f) is (sym first))
-
-abbrev flags_in_header : Header → Flags
-flags_in_header h = h.flags
-
-pub kind_as : (octets : List ℕ) (command kind : CommandKind) (h : Header) (list : List Avp) → h ≡ header_in octets → list ≡ whole_avps octets → kind ≡ read_as command h.flags list → kind ≡ read_as command (header_in octets).flags (whole_avps octets)
-kind_as octets command kind h list is all read =
-    read ∙ ap (λ (f : Flags). read_as command f list) (ap flags_in_header is) ∙ ap (λ (l : List Avp). read_as command (header_in octets).flags l) all
-
-pub missing_as : (octets : List ℕ) (kind : CommandKind) (e : Bool) (list : List Avp) (o : Option Rule) → e ≡ is_event octets → list ≡ whole_avps octets → o ≡ slice_get (missing (rules_of kind e) list) 0
-    → slice_get (missing (rules_of kind (is_event octets)) (whole_avps octets)) 0 ≡ o
-missing_as octets kind e list o is all first =
-    sym (first ∙ ap (λ (b : Bool). slice_get (missing (rules_of kind b) list) 0) is ∙ ap (λ (l : List Avp). slice_get (missing (rules_of kind (is_event octets)) l) 0) all)
-
-pub none_missing : (rules : List Rule) → slice_get rules 0 ≡ None → rules ≡ []
-none_missing [] e = refl
-none_missing (r ∷ rules) e = absurd cc
-
-pub made_as : (d : List Definition) (octets : List ℕ) (kind : CommandKind) (h : Header) (e : Bool) (list : List Avp) (c : Command) → h ≡ header_in octets → e ≡ is_event octets → list ≡ whole_avps octets → c ≡ made_by d kind h e list
-    → c ≡ made_by d kind (header_in octets) (is_event octets) (whole_avps octets)
-made_as d octets kind h e list c is event all made =
-    made ∙ ap (λ (k : Header). made_by d kind k e list) is ∙ ap (λ (b : Bool). made_by d kind (header_in octets) b list) event ∙ ap (λ (l : List Avp). made_by d kind (header_in octets) (is_event octets) l) all
-
--- a fault as a call answers it
 pub error_reading : (d : List Definition) (octets : List ℕ) (f : MsgFault) (e : MsgError) → IsErrorOf f e → IsReading d octets (Err f) → UnlessNoMemory (Err e) (IsReading d octets)
 error_reading d octets f msg_errors.NoMemory h r = tt
 error_reading d octets f (msg_errors.Fault g) h r = subst (λ (x : MsgFault). IsReading d octets (Err x)) (sym h) r
 
 pub error_memory : (d : List Definition) (octets : List ℕ) (f : MsgFault) (e : MsgError) → IsErrorOf f e → IsReading d octets (Err f) → e ≡ msg_errors.NoMemory → MayNeedMemory d octets
 error_memory d octets f e h r out = λ g k.
-    let same : faulty g ≡ faulty f = one_reading d octets (faulty f) (faulty g) r k in
-    let is : g ≡ f = cc in
-    rw is (subst (λ (x : MsgError). IsErrorOf f x) out h)
+    let is : f ≡ g = some_fault f g (sym (first_again d octets f r) ∙ first_again d octets g k) in
+    rw (← is) (subst (λ (x : MsgError). IsErrorOf f x) out h)
 
-missing_failed : (d : List Definition) (rules : List Rule) (f : MsgFault) → slice_get (map (λ r. missing_fault d r.code) rules) 0 ≡ Some f → IsSome f.failed
-missing_failed d [] f e = absurd cc
-missing_failed d (r ∷ rules) f e = let is : missing_fault d r.code ≡ f = cc in rw (← is) refl
+-- an answer that is no ErrorAnswer
+pub kept_answer : (kind : CommandKind) (list : List Avp) (error : Bool) → error ≡ false → has_failed list ≡ false → kind ≡ answer_as kind error list
+kept_answer kind list error e h = rw (e, h) refl
 
-none_before : (xs ys : List MsgFault) (f : MsgFault) → xs ≡ [] → slice_get (xs ++ ys) 0 ≡ Some f → slice_get ys 0 ≡ Some f
-none_before [] ys f none e = e
-none_before (x ∷ xs) ys f none e = absurd cc
+complete_by : (failed : Bool) (kind : CommandKind) (gone : List AvpFormat) → gone ≡ [] → kind ≡ cond (failed && not (length gone == 0)) kinds.ErrorAnswer kind
+complete_by true kind gone e = rw e refl
+complete_by false kind gone e = refl
 
--- where header and AVPs have no fault, a fault has a failed AVP
-pub good_memory : (d : List Definition) (octets : List ℕ) → header_faults octets ≡ [] → group_faults d (is_event octets) 5 (drop 20 octets) ≡ [] → MayNeedMemory d octets
-good_memory d octets none good = λ f k.
-    missing_failed d (missing (rules_in octets) (whole_avps octets)) f
-    (none_before (inner d octets) (gone d octets) f good (none_before (header_faults octets) (inner d octets ++ gone d octets) f none k))
+pub whole_answer : (kind : CommandKind) (list : List Avp) (error : Bool) (o : Option AvpFormat) → error ≡ false → o ≡ slice_get (missing (format_of kind false) list) 0 → is_some o ≡ false → kind ≡ answer_as kind error list
+whole_answer kind list error None e first none = rw e (complete_by (has_failed list) kind (missing (format_of kind false) list) (none_first _ first))
+whole_answer kind list error (Some f) e first none = absurd cc
+
+pub outcome_fault : (added : List Definition) (header : Header) (list : List Avp) (f : MsgFault) (e : MsgError) → slice_get (later_faults (known added) header list) 0 ≡ Some f → e ≡ msg_errors.Fault f → IsOutcome added header list (Err e)
+outcome_fault added header list f e first is = rw is first
+
+pub both_true : (a b : Bool) → a ≡ true → b ≡ true → (a && b) ≡ true
+both_true a b e f = rw (e, f) refl
+
+pub first_false : (a b : Bool) → a ≡ false → (a && b) ≡ false
+first_false a b e = rw e refl
+
+pub second_false : (a b : Bool) → b ≡ false → (a && b) ≡ false
+second_false true b e = e
+second_false false b e = refl
+
+pub fault_reading : (d : List Definition) (octets : List ℕ) (f : MsgFault) (e : MsgError) → e ≡ msg_errors.Fault f → IsReading d octets (Err f) → UnlessNoMemory (Err e) (IsReading d octets)
+fault_reading d octets f e is h = rw is h
+
+-- the AVPs that were surveyed are those of the message, and none has a fault
+pub surveyed : (octets : List ℕ) (list : List Avp) → Avps (drop 20 octets) list → list ≡ whole_avps octets
+surveyed octets list h =
+    let parts : avps_in (drop 20 octets) ≡ (list, []) = avps_in-only (drop 20 octets) list [] h (inl refl) in
+    sym (ap (λ (p : List Avp × List ℕ). p.0) parts)
+
+pub good_avps : (d : List Definition) (octets : List ℕ) (h : Header) (list : List Avp) → h ≡ header_in octets → list ≡ whole_avps octets → group_faults d (is_event (header_in octets) (whole_avps octets)) 5 (drop 20 octets) ≡ []
+    → All (IsGood d (is_event h list) 4) list
+good_avps d octets h list e f none = rw (e, f) (each_good d (is_event (header_in octets) (whole_avps octets)) 4 (drop 20 octets) none)
+
+pub short_avps : (octets : List ℕ) (list : List Avp) → IsBytes octets → list ≡ whole_avps octets → All (λ a. length_of a < 2 ^ 24) list
+short_avps octets list fits f = rw f (avps_in-short (drop 20 octets) (IsBytes-drop 20 octets fits))
+
+pub outcome_as : (added : List Definition) (octets : List ℕ) (h : Header) (list : List Avp) (r : Result Command MsgError) → h ≡ header_in octets → list ≡ whole_avps octets → IsOutcome added h list r → IsOutcome added (header_in octets) (whole_avps octets) r
+outcome_as added octets h list r e f o = subst (λ (l : List Avp). IsOutcome added (header_in octets) l r) f (subst (λ (x : Header). IsOutcome added x list r) e o)
+
+pub outcome_residual : (added : List Definition) (header : Header) (list : List Avp) (r : Result Command MsgError) → later_faults (known added) header list ≡ [] → IsErrAnd r (λ e. e ≡ msg_errors.NoMemory) → IsOutcome added header list r
+outcome_residual added header list (Ok c) none h = absurd h
+outcome_residual added header list (Err e) none h = rw h (outcome_memory added header list none)
+
+pub ran_out : (r : Result Command MsgError) → IsErrOf r msg_errors.NoMemory → r ≡ Err msg_errors.NoMemory
+ran_out (Ok c) h = absurd cc
+ran_out (Err e) h = let is : e ≡ msg_errors.NoMemory = cc in rw is refl

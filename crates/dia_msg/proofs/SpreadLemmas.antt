@@ -1,24 +1,25 @@
--- A list that is written in the order of rules is taken apart as before.
+-- A list that is written in the order of formats is taken apart as before.
 use Rattle.std.proofs.Common.{◌≡◌, ◌==◌, ◌&&◌, ℕ, ◌+◌, Bool, true, false, cond, not, List, [], ◌∷◌, ◌++◌, take, filter, All, refl, ap, subst, ◌∙◌, arith, append_assoc}
 use Rattle.std.specs.Prelude.{sum_by, is_none}
-use Rattle.std.specs.List.{flat_map, list_all}
+use Rattle.std.specs.List.{flat_map}
 use Rattle.std.proofs.lemmas.Bool.{eqb-true}
 use Rattle.std.proofs.lemmas.List.{append-nil}
 use Rattle.std.proofs.lemmas.List.Elements.{All-nil, All-cons, All-head, All-tail, All-append, All-filter, All-take, All-weaker, filter-append, filter_passes}
 use Rattle.std.proofs.lemmas.List.Filters.{sum_by-filter_both}
 use Rattle.std.proofs.lemmas.List.Sums.{sum_by-append, sum_by-cons}
 use Rattle.dia_avp.specs.declared.avp.Avp.{Avp}
-use Rattle.dia_msg.specs.declared.rules.Rule.{Rule}
-use Rattle.dia_msg.specs.Rules.{is_coded, is_for, taken, left_by, without_first, groups, untaken}
+use Rattle.dia_command.specs.declared.format.AvpFormat.{AvpFormat}
+use Rattle.dia_tree.specs.Faults.{is_coded}
+use Rattle.dia_msg.specs.Taken.{is_for, taken, left_by, without_first, groups, untaken, is_new, is_distinct}
 
-abbrev Test : Type 0
+abbrev pub Test : Type 0
 Test = Avp → Bool
 
--- what a rule takes and leaves, by whether several may stand
-abbrev took : Bool → Test → List Avp → List Avp
+-- what an entry takes and leaves, by whether several may stand
+abbrev pub took : Bool → Test → List Avp → List Avp
 took several p list = cond several (filter p list) (take 1 (filter p list))
 
-abbrev leaves : Bool → Test → List Avp → List Avp
+abbrev pub leaves : Bool → Test → List Avp → List Avp
 leaves several p list = cond several (filter (λ a. not (p a)) list) (without_first p list)
 
 -- no AVP passes, all pass
@@ -36,15 +37,15 @@ without_first-All : (P : Avp → Type 0) (p : Test) (list : List Avp) → All P 
 without_first-All P p [] h = h
 without_first-All P p (a ∷ list) h = keep_or_drop P p a list (p a) refl (All-tail P a list h) (All-head P a list h) (without_first-All P p list (All-tail P a list h))
 
-took-All : (P : Avp → Type 0) (several : Bool) (p : Test) (list : List Avp) → All P list → All P (took several p list)
+pub took-All : (P : Avp → Type 0) (several : Bool) (p : Test) (list : List Avp) → All P list → All P (took several p list)
 took-All P true p list h = All-filter p P list h
 took-All P false p list h = All-take P 1 (filter p list) (All-filter p P list h)
 
-took-Passes : (several : Bool) (p : Test) (list : List Avp) → Passes p (took several p list)
+pub took-Passes : (several : Bool) (p : Test) (list : List Avp) → Passes p (took several p list)
 took-Passes true p list = filter_passes p list
 took-Passes false p list = All-take (λ a. p a ≡ true) 1 (filter p list) (filter_passes p list)
 
-leaves-All : (P : Avp → Type 0) (several : Bool) (p : Test) (list : List Avp) → All P list → All P (leaves several p list)
+pub leaves-All : (P : Avp → Type 0) (several : Bool) (p : Test) (list : List Avp) → All P list → All P (leaves several p list)
 leaves-All P true p list h = All-filter (λ a. not (p a)) P list h
 leaves-All P false p list h = without_first-All P p list h
 
@@ -79,7 +80,7 @@ passes-not : (p : Test) (list : List Avp) → Passes p list → filter (λ a. no
 passes-not p [] h = refl
 passes-not p (a ∷ list) h = rw (All-head (λ x. p x ≡ true) a list h) (passes-not p list (All-tail (λ x. p x ≡ true) a list h))
 
-fails_from : (b : Bool) → not b ≡ true → b ≡ false
+pub fails_from : (b : Bool) → not b ≡ true → b ≡ false
 fails_from true e = cc
 fails_from false e = refl
 
@@ -94,7 +95,7 @@ filter_none-fails : (p : Test) (list : List Avp) → filter p list ≡ [] → Fa
 filter_none-fails p [] h = All-nil (λ x. p x ≡ false)
 filter_none-fails p (a ∷ list) h = head_fails p a list (p a) refl h (filter_none-fails p list)
 
--- what was taken is taken again before what comes after it, where that has none for the rule that was left
+-- what was taken is taken again before what comes after it, where that has none for the entry that was left
 one_again : (p : Test) (list after found : List Avp) → filter p list ≡ found → (Fails p (without_first p list) → Fails p after)
     → (took false p (took false p list ++ after) ≡ took false p list) × (leaves false p (took false p list ++ after) ≡ after)
 one_again p list after [] e h =
@@ -115,36 +116,36 @@ again true p list after h =
     )
 again false p list after h = one_again p list after (filter p list) refl h
 
--- the AVPs as they are written: those that each rule takes, then those that none takes
-abbrev pub spread : List Rule → List Avp → List Avp
+-- the AVPs as they are written: those that each entry takes, then those that none takes
+abbrev pub spread : List AvpFormat → List Avp → List Avp
 spread [] list = list
-spread (r ∷ rules) list = taken r list ++ spread rules (left_by r list)
+spread (r ∷ formats) list = taken r list ++ spread formats (left_by r list)
 
 -- what holds of each AVP holds of each that is left, and of each as written
-pub untaken-All : (P : Avp → Type 0) (rules : List Rule) (list : List Avp) → All P list → All P (untaken rules list)
+pub untaken-All : (P : Avp → Type 0) (formats : List AvpFormat) (list : List Avp) → All P list → All P (untaken formats list)
 untaken-All P [] list h = h
-untaken-All P (r ∷ rules) list h = untaken-All P rules (left_by r list) (leaves-All P r.several (is_for r) list h)
+untaken-All P (r ∷ formats) list h = untaken-All P formats (left_by r list) (leaves-All P r.several (is_for r) list h)
 
-pub spread-All : (P : Avp → Type 0) (rules : List Rule) (list : List Avp) → All P list → All P (spread rules list)
+pub spread-All : (P : Avp → Type 0) (formats : List AvpFormat) (list : List Avp) → All P list → All P (spread formats list)
 spread-All P [] list h = h
-spread-All P (r ∷ rules) list h =
-    All-append P (taken r list) (spread rules (left_by r list)) (took-All P r.several (is_for r) list h) (spread-All P rules (left_by r list) (leaves-All P r.several (is_for r) list h))
+spread-All P (r ∷ formats) list h =
+    All-append P (taken r list) (spread formats (left_by r list)) (took-All P r.several (is_for r) list h) (spread-All P formats (left_by r list) (leaves-All P r.several (is_for r) list h))
 
 -- a sum over the AVPs is the sum over them as written
-pub spread-sum : (f : Avp → ℕ) (rules : List Rule) (list : List Avp) → sum_by f (spread rules list) ≡ sum_by f list
+pub spread-sum : (f : Avp → ℕ) (formats : List AvpFormat) (list : List Avp) → sum_by f (spread formats list) ≡ sum_by f list
 spread-sum f [] list = refl
-spread-sum f (r ∷ rules) list =
-    omega (arith, sum_by-append f (taken r list) (spread rules (left_by r list)), spread-sum f rules (left_by r list), took-sum f r.several (is_for r) list)
+spread-sum f (r ∷ formats) list =
+    omega (arith, sum_by-append f (taken r list) (spread formats (left_by r list)), spread-sum f formats (left_by r list), took-sum f r.several (is_for r) list)
 
-rule_again : (r : Rule) (rules : List Rule) (list : List Avp) → (taken r (spread (r ∷ rules) list) ≡ taken r list) × (left_by r (spread (r ∷ rules) list) ≡ spread rules (left_by r list))
-rule_again r rules list = again r.several (is_for r) list (spread rules (left_by r list)) (λ fails. spread-All (λ a. is_for r a ≡ false) rules (left_by r list) fails)
+rule_again : (r : AvpFormat) (formats : List AvpFormat) (list : List Avp) → (taken r (spread (r ∷ formats) list) ≡ taken r list) × (left_by r (spread (r ∷ formats) list) ≡ spread formats (left_by r list))
+rule_again r formats list = again r.several (is_for r) list (spread formats (left_by r list)) (λ fails. spread-All (λ a. is_for r a ≡ false) formats (left_by r list) fails)
 
--- as written, the rules leave the same
-pub untaken-spread : (rules : List Rule) (list : List Avp) → untaken rules (spread rules list) ≡ untaken rules list
+-- as written, the formats leave the same
+pub untaken-spread : (formats : List AvpFormat) (list : List Avp) → untaken formats (spread formats list) ≡ untaken formats list
 untaken-spread [] list = refl
-untaken-spread (r ∷ rules) list = rw (rule_again r rules list).1 (untaken-spread rules (left_by r list))
+untaken-spread (r ∷ formats) list = rw (rule_again r formats list).1 (untaken-spread formats (left_by r list))
 
--- those that pass are those taken and those left, where the rule's test is the same
+-- those that pass are those taken and those left, where the entry's test is the same
 one_own : (p : Test) (a : Avp) (list : List Avp) (b : Bool) → p a ≡ b → filter p (took false p list) ++ filter p (leaves false p list) ≡ filter p list
     → filter p (took false p (a ∷ list)) ++ filter p (leaves false p (a ∷ list)) ≡ filter p (a ∷ list)
 one_own p a list true e next = rw (e, e) refl
@@ -157,7 +158,7 @@ own false p [] = refl
 own false p (a ∷ list) = one_own p a list (p a) refl (own false p list)
 
 -- where it is another, those that pass are all left
-abbrev Apart : Test → Test → Type 0
+abbrev pub Apart : Test → Test → Type 0
 Apart p q = (a : Avp) → q a ≡ true → p a ≡ false
 
 keep_both : (p q : Test) (a : Avp) (list : List Avp) (b c : Bool) → p a ≡ b → q a ≡ c → Apart p q → filter p (filter (λ x. not (q x)) list) ≡ filter p list
@@ -174,7 +175,7 @@ keep_one p q a list false true e f apart next = rw (f, e) refl
 keep_one p q a list true false e f apart next = rw (f, e) (ap (λ (l : List Avp). a ∷ l) next)
 keep_one p q a list false false e f apart next = rw (f, e) next
 
-stay : (several : Bool) (p q : Test) (list : List Avp) → Apart p q → filter p (leaves several q list) ≡ filter p list
+pub stay : (several : Bool) (p q : Test) (list : List Avp) → Apart p q → filter p (leaves several q list) ≡ filter p list
 stay true p q [] apart = refl
 stay true p q (a ∷ list) apart = keep_both p q a list (p a) (q a) refl refl apart (stay true p q list apart)
 stay false p q [] apart = refl
@@ -192,57 +193,49 @@ both_true true b e = refl
 both_true false b e = absurd cc
 
 -- AVPs of another code are no AVPs of this
-apart_codes : (code other : ℕ) → (other == code) ≡ false → Apart (is_coded code) (is_coded other)
+pub apart_codes : (code other : ℕ) → (other == code) ≡ false → Apart (is_coded code) (is_coded other)
 apart_codes code other differ a e =
     let is : a.code ≡ other = eqb-true a.code other (both_true (a.code == other) (is_none a.vendor) e) in
     rw (is, differ) refl
 
-coded_by : (b : Bool) (code : ℕ) (r : Rule) (list : List Avp) → (r.code == code) ≡ b → filter (is_coded code) (taken r list) ++ filter (is_coded code) (left_by r list) ≡ filter (is_coded code) list
+coded_by : (b : Bool) (code : ℕ) (r : AvpFormat) (list : List Avp) → (r.code == code) ≡ b → filter (is_coded code) (taken r list) ++ filter (is_coded code) (left_by r list) ≡ filter (is_coded code) list
 coded_by true code r list e =
     let same : r.code ≡ code = eqb-true r.code code e in
     subst (λ (n : ℕ). filter (is_coded n) (taken r list) ++ filter (is_coded n) (left_by r list) ≡ filter (is_coded n) list) same (own r.several (is_for r) list)
 coded_by false code r list e = other r.several (is_coded code) (is_for r) list (apart_codes code r.code e)
 
 -- as written, the AVPs of one code are in the same order
-pub coded-spread : (code : ℕ) (rules : List Rule) (list : List Avp) → filter (is_coded code) (spread rules list) ≡ filter (is_coded code) list
+pub coded-spread : (code : ℕ) (formats : List AvpFormat) (list : List Avp) → filter (is_coded code) (spread formats list) ≡ filter (is_coded code) list
 coded-spread code [] list = refl
-coded-spread code (r ∷ rules) list =
-    filter-append (is_coded code) (taken r list) (spread rules (left_by r list))
-    ∙ ap (λ (l : List Avp). filter (is_coded code) (taken r list) ++ l) (coded-spread code rules (left_by r list))
+coded-spread code (r ∷ formats) list =
+    filter-append (is_coded code) (taken r list) (spread formats (left_by r list))
+    ∙ ap (λ (l : List Avp). filter (is_coded code) (taken r list) ++ l) (coded-spread code formats (left_by r list))
     ∙ coded_by (r.code == code) code r list refl
 
-pub taken-spread : (r : Rule) (rules : List Rule) (list : List Avp) → taken r (spread rules list) ≡ taken r list
-taken-spread r rules list = rw (coded-spread r.code rules list) refl
+pub taken-spread : (r : AvpFormat) (formats : List AvpFormat) (list : List Avp) → taken r (spread formats list) ≡ taken r list
+taken-spread r formats list = rw (coded-spread r.code formats list) refl
 
-pub groups-spread : (others rules : List Rule) (list : List Avp) → groups others (spread rules list) ≡ groups others list
-groups-spread [] rules list = refl
-groups-spread (r ∷ others) rules list =
-    rw (taken-spread r rules list) (ap (λ (l : List (List Avp)). taken r list ∷ l) (groups-spread others rules list))
+pub groups-spread : (others formats : List AvpFormat) (list : List Avp) → groups others (spread formats list) ≡ groups others list
+groups-spread [] formats list = refl
+groups-spread (r ∷ others) formats list =
+    rw (taken-spread r formats list) (ap (λ (l : List (List Avp)). taken r list ∷ l) (groups-spread others formats list))
 
--- no rule of a list has this code, and no two rules have one
-abbrev is_new : Rule → List Rule → Bool
-is_new r rules = list_all (λ q. not (r.code == q.code)) rules
-
-abbrev pub is_distinct : List Rule → Bool
-is_distinct [] = true
-is_distinct (r ∷ rules) = is_new r rules && is_distinct rules
-
-both_are : (a b : Bool) → (a && b) ≡ true → (a ≡ true) × (b ≡ true)
+pub both_are : (a b : Bool) → (a && b) ≡ true → (a ≡ true) × (b ≡ true)
 both_are true b e = (refl, e)
 both_are false b e = absurd cc
 
-groups-left : (r : Rule) (rules : List Rule) (list : List Avp) → is_new r rules ≡ true → groups rules (left_by r list) ≡ groups rules list
+groups-left : (r : AvpFormat) (formats : List AvpFormat) (list : List Avp) → is_new r formats ≡ true → groups formats (left_by r list) ≡ groups formats list
 groups-left r [] list e = refl
-groups-left r (q ∷ rules) list e =
-    let h = both_are (not (r.code == q.code)) (is_new r rules) e in
+groups-left r (q ∷ formats) list e =
+    let h = both_are (not (r.code == q.code)) (is_new r formats) e in
     let same : filter (is_coded q.code) (left_by r list) ≡ filter (is_coded q.code) list =
     stay r.several (is_coded q.code) (is_for r) list (apart_codes q.code r.code (fails_from (r.code == q.code) h.0)) in
-    rw same (ap (λ (l : List (List Avp)). taken q list ∷ l) (groups-left r rules list h.1))
+    rw same (ap (λ (l : List (List Avp)). taken q list ∷ l) (groups-left r formats list h.1))
 
--- where no two rules have one code, what each takes, and then the rest, is the list as written
-pub spread-is : (rules : List Rule) (list : List Avp) → is_distinct rules ≡ true → flat_map (λ group. group) (groups rules list) ++ untaken rules list ≡ spread rules list
+-- where no two formats have one code, what each takes, and then the rest, is the list as written
+pub spread-is : (formats : List AvpFormat) (list : List Avp) → is_distinct formats ≡ true → flat_map (λ group. group) (groups formats list) ++ untaken formats list ≡ spread formats list
 spread-is [] list e = refl
-spread-is (r ∷ rules) list e =
-    let h = both_are (is_new r rules) (is_distinct rules) e in
-    rw (← groups-left r rules list h.0)
-    (append_assoc (taken r list) (flat_map (λ group. group) (groups rules (left_by r list))) (untaken rules (left_by r list)) ∙ ap (λ (l : List Avp). taken r list ++ l) (spread-is rules (left_by r list) h.1))
+spread-is (r ∷ formats) list e =
+    let h = both_are (is_new r formats) (is_distinct formats) e in
+    rw (← groups-left r formats list h.0)
+    (append_assoc (taken r list) (flat_map (λ group. group) (groups formats (left_by r list))) (untaken formats (left_by r list)) ∙ ap (λ (l : List Avp). taken r list ++ l) (spread-is formats (left_by r list) h.1))

@@ -1,10 +1,6 @@
-pub mod Header
-pub mod Rules
-pub mod Command
+pub mod Taken
+pub mod Sorting
 pub mod Faults
-pub mod Encoding
 pub mod Reading
-pub mod Steps
-pub mod Framing
-pub mod Fields
-pub mod Answer
+pub mod Source
+pub mod Walk

@@ -1,279 +1,216 @@
-//! From the AVPs of a message to its command: each field is made of the AVPs that its rule takes, and the rest of those
-//! that no rule takes.
+//! From the AVPs of a message, sorted by the format of its command, to the command: each field is made of the AVPs that its
+//! entry takes, and the rest of those that no entry takes. The numbers are the places of the fields in the format.
 
-ghost use Rattle.std.specs.Prelude.{◌≡◌, ◌<◌, ◌^◌, All, IfOk, false};
-ghost use Rattle.dia_avp.specs.Encoding.{length_of};
-ghost use Rattle.dia_dict.specs.Dictionary.{known};
-ghost use Rattle.dia_msg.specs.Steps.{seen_all, made_by};
+ghost use Rattle.std.specs.Prelude.{◌≡◌, IfOk, false};
+ghost use Rattle.dia_command.specs.Format.{format_of};
+ghost use Rattle.dia_msg.specs.Sorting.{seen_all};
+ghost use Rattle.dia_msg.specs.Source.{IsReady, IsBuilt};
 
-use crate::command::{
-    CapabilitiesExchangeAnswer, CapabilitiesExchangeRequest, Command, CreditControlAnswer,
-    CreditControlRequest, DeviceWatchdogAnswer, DeviceWatchdogRequest, DisconnectPeerAnswer,
-    DisconnectPeerRequest, ErrorAnswer, ReAuthAnswer, ReAuthRequest,
-};
-use crate::header::Header;
-use crate::rules;
-use crate::rules::CommandKind;
 use crate::source::Source;
+use dia_command::{
+    CapabilitiesExchangeAnswer, CapabilitiesExchangeRequest, Command, CommandKind,
+    CreditControlAnswer, CreditControlRequest, DeviceWatchdogAnswer, DeviceWatchdogRequest,
+    DisconnectPeerAnswer, DisconnectPeerRequest, ErrorAnswer, Header, ReAuthAnswer, ReAuthRequest,
+};
 use std::alloc::AllocError;
 
 impl Source<'_> {
     fn capabilities_exchange_request(&self, header: Header) -> Result<Command, AllocError>
-        requires { All (λ a. length_of a < 2 ^ 24) (seen_all self.now.avps.now) }
-        ensures { IfOk result (λ c. c ≡ made_by (known self.now.dictionary.now) CommandKind.CapabilitiesExchangeRequest header false (seen_all self.now.avps.now)) }
+        requires ready { IsReady self.now.dictionary.now self.now.format.now (seen_all self.now.avps.now) self.now.sorted.now }
+        requires format { self.now.format.now ≡ format_of CommandKind.CapabilitiesExchangeRequest false }
+        ensures { IfOk result (IsBuilt self.now.dictionary.now (format_of CommandKind.CapabilitiesExchangeRequest false) (seen_all self.now.avps.now) CommandKind.CapabilitiesExchangeRequest header) }
     {
-        let rules = rules::capabilities_exchange_request();
-        let [
-            origin_host,
-            origin_realm,
-            host_ip_address,
-            vendor_id,
-            product_name,
-            auth_application_id,
-        ] = rules;
         Ok(Command::Cer(CapabilitiesExchangeRequest {
             header,
-            origin_host: self.octets(origin_host)?,
-            origin_realm: self.octets(origin_realm)?,
-            host_ip_address: self.all_octets(host_ip_address)?,
-            vendor_id: self.number(vendor_id),
-            product_name: self.octets(product_name)?,
-            auth_application_id: self.all_numbers(auth_application_id)?,
-            rest: self.rest(&rules)?,
+            origin_host: self.octets(0)?,
+            origin_realm: self.octets(1)?,
+            host_ip_address: self.octets_all(2)?,
+            vendor_id: self.number(3),
+            product_name: self.text(4)?,
+            auth_application_id: self.number_all(5)?,
+            rest: self.rest()?,
         }))
     }
 
     fn capabilities_exchange_answer(&self, header: Header) -> Result<Command, AllocError>
-        requires { All (λ a. length_of a < 2 ^ 24) (seen_all self.now.avps.now) }
-        ensures { IfOk result (λ c. c ≡ made_by (known self.now.dictionary.now) CommandKind.CapabilitiesExchangeAnswer header false (seen_all self.now.avps.now)) }
+        requires ready { IsReady self.now.dictionary.now self.now.format.now (seen_all self.now.avps.now) self.now.sorted.now }
+        requires format { self.now.format.now ≡ format_of CommandKind.CapabilitiesExchangeAnswer false }
+        ensures { IfOk result (IsBuilt self.now.dictionary.now (format_of CommandKind.CapabilitiesExchangeAnswer false) (seen_all self.now.avps.now) CommandKind.CapabilitiesExchangeAnswer header) }
     {
-        let rules = rules::capabilities_exchange_answer();
-        let [
-            result_code,
-            origin_host,
-            origin_realm,
-            host_ip_address,
-            vendor_id,
-            product_name,
-            auth_application_id,
-        ] = rules;
         Ok(Command::Cea(CapabilitiesExchangeAnswer {
             header,
-            result_code: self.number(result_code),
-            origin_host: self.octets(origin_host)?,
-            origin_realm: self.octets(origin_realm)?,
-            host_ip_address: self.all_octets(host_ip_address)?,
-            vendor_id: self.number(vendor_id),
-            product_name: self.octets(product_name)?,
-            auth_application_id: self.all_numbers(auth_application_id)?,
-            rest: self.rest(&rules)?,
+            result_code: self.number(0),
+            origin_host: self.octets(1)?,
+            origin_realm: self.octets(2)?,
+            host_ip_address: self.octets_all(3)?,
+            vendor_id: self.number(4),
+            product_name: self.text(5)?,
+            auth_application_id: self.number_all(6)?,
+            rest: self.rest()?,
         }))
     }
 
     fn device_watchdog_request(&self, header: Header) -> Result<Command, AllocError>
-        requires { All (λ a. length_of a < 2 ^ 24) (seen_all self.now.avps.now) }
-        ensures { IfOk result (λ c. c ≡ made_by (known self.now.dictionary.now) CommandKind.DeviceWatchdogRequest header false (seen_all self.now.avps.now)) }
+        requires ready { IsReady self.now.dictionary.now self.now.format.now (seen_all self.now.avps.now) self.now.sorted.now }
+        requires format { self.now.format.now ≡ format_of CommandKind.DeviceWatchdogRequest false }
+        ensures { IfOk result (IsBuilt self.now.dictionary.now (format_of CommandKind.DeviceWatchdogRequest false) (seen_all self.now.avps.now) CommandKind.DeviceWatchdogRequest header) }
     {
-        let rules = rules::device_watchdog_request();
-        let [origin_host, origin_realm] = rules;
         Ok(Command::Dwr(DeviceWatchdogRequest {
             header,
-            origin_host: self.octets(origin_host)?,
-            origin_realm: self.octets(origin_realm)?,
-            rest: self.rest(&rules)?,
+            origin_host: self.octets(0)?,
+            origin_realm: self.octets(1)?,
+            rest: self.rest()?,
         }))
     }
 
     fn device_watchdog_answer(&self, header: Header) -> Result<Command, AllocError>
-        requires { All (λ a. length_of a < 2 ^ 24) (seen_all self.now.avps.now) }
-        ensures { IfOk result (λ c. c ≡ made_by (known self.now.dictionary.now) CommandKind.DeviceWatchdogAnswer header false (seen_all self.now.avps.now)) }
+        requires ready { IsReady self.now.dictionary.now self.now.format.now (seen_all self.now.avps.now) self.now.sorted.now }
+        requires format { self.now.format.now ≡ format_of CommandKind.DeviceWatchdogAnswer false }
+        ensures { IfOk result (IsBuilt self.now.dictionary.now (format_of CommandKind.DeviceWatchdogAnswer false) (seen_all self.now.avps.now) CommandKind.DeviceWatchdogAnswer header) }
     {
-        let rules = rules::device_watchdog_answer();
-        let [result_code, origin_host, origin_realm] = rules;
         Ok(Command::Dwa(DeviceWatchdogAnswer {
             header,
-            result_code: self.number(result_code),
-            origin_host: self.octets(origin_host)?,
-            origin_realm: self.octets(origin_realm)?,
-            rest: self.rest(&rules)?,
+            result_code: self.number(0),
+            origin_host: self.octets(1)?,
+            origin_realm: self.octets(2)?,
+            rest: self.rest()?,
         }))
     }
 
     fn disconnect_peer_request(&self, header: Header) -> Result<Command, AllocError>
-        requires { All (λ a. length_of a < 2 ^ 24) (seen_all self.now.avps.now) }
-        ensures { IfOk result (λ c. c ≡ made_by (known self.now.dictionary.now) CommandKind.DisconnectPeerRequest header false (seen_all self.now.avps.now)) }
+        requires ready { IsReady self.now.dictionary.now self.now.format.now (seen_all self.now.avps.now) self.now.sorted.now }
+        requires format { self.now.format.now ≡ format_of CommandKind.DisconnectPeerRequest false }
+        ensures { IfOk result (IsBuilt self.now.dictionary.now (format_of CommandKind.DisconnectPeerRequest false) (seen_all self.now.avps.now) CommandKind.DisconnectPeerRequest header) }
     {
-        let rules = rules::disconnect_peer_request();
-        let [origin_host, origin_realm, disconnect_cause] = rules;
         Ok(Command::Dpr(DisconnectPeerRequest {
             header,
-            origin_host: self.octets(origin_host)?,
-            origin_realm: self.octets(origin_realm)?,
-            disconnect_cause: self.number(disconnect_cause),
-            rest: self.rest(&rules)?,
+            origin_host: self.octets(0)?,
+            origin_realm: self.octets(1)?,
+            disconnect_cause: self.number(2),
+            rest: self.rest()?,
         }))
     }
 
     fn disconnect_peer_answer(&self, header: Header) -> Result<Command, AllocError>
-        requires { All (λ a. length_of a < 2 ^ 24) (seen_all self.now.avps.now) }
-        ensures { IfOk result (λ c. c ≡ made_by (known self.now.dictionary.now) CommandKind.DisconnectPeerAnswer header false (seen_all self.now.avps.now)) }
+        requires ready { IsReady self.now.dictionary.now self.now.format.now (seen_all self.now.avps.now) self.now.sorted.now }
+        requires format { self.now.format.now ≡ format_of CommandKind.DisconnectPeerAnswer false }
+        ensures { IfOk result (IsBuilt self.now.dictionary.now (format_of CommandKind.DisconnectPeerAnswer false) (seen_all self.now.avps.now) CommandKind.DisconnectPeerAnswer header) }
     {
-        let rules = rules::disconnect_peer_answer();
-        let [result_code, origin_host, origin_realm] = rules;
         Ok(Command::Dpa(DisconnectPeerAnswer {
             header,
-            result_code: self.number(result_code),
-            origin_host: self.octets(origin_host)?,
-            origin_realm: self.octets(origin_realm)?,
-            rest: self.rest(&rules)?,
+            result_code: self.number(0),
+            origin_host: self.octets(1)?,
+            origin_realm: self.octets(2)?,
+            rest: self.rest()?,
         }))
     }
 
     fn re_auth_request(&self, header: Header) -> Result<Command, AllocError>
-        requires { All (λ a. length_of a < 2 ^ 24) (seen_all self.now.avps.now) }
-        ensures { IfOk result (λ c. c ≡ made_by (known self.now.dictionary.now) CommandKind.ReAuthRequest header false (seen_all self.now.avps.now)) }
+        requires ready { IsReady self.now.dictionary.now self.now.format.now (seen_all self.now.avps.now) self.now.sorted.now }
+        requires format { self.now.format.now ≡ format_of CommandKind.ReAuthRequest false }
+        ensures { IfOk result (IsBuilt self.now.dictionary.now (format_of CommandKind.ReAuthRequest false) (seen_all self.now.avps.now) CommandKind.ReAuthRequest header) }
     {
-        let rules = rules::re_auth_request();
-        let [
-            session_id,
-            origin_host,
-            origin_realm,
-            destination_realm,
-            destination_host,
-            auth_application_id,
-            re_auth_request_type,
-        ] = rules;
         Ok(Command::Rar(ReAuthRequest {
             header,
-            session_id: self.octets(session_id)?,
-            origin_host: self.octets(origin_host)?,
-            origin_realm: self.octets(origin_realm)?,
-            destination_realm: self.octets(destination_realm)?,
-            destination_host: self.octets(destination_host)?,
-            auth_application_id: self.number(auth_application_id),
-            re_auth_request_type: self.number(re_auth_request_type),
-            rest: self.rest(&rules)?,
+            session_id: self.text(0)?,
+            origin_host: self.octets(1)?,
+            origin_realm: self.octets(2)?,
+            destination_realm: self.octets(3)?,
+            destination_host: self.octets(4)?,
+            auth_application_id: self.number(5),
+            re_auth_request_type: self.number(6),
+            rest: self.rest()?,
         }))
     }
 
     fn re_auth_answer(&self, header: Header) -> Result<Command, AllocError>
-        requires { All (λ a. length_of a < 2 ^ 24) (seen_all self.now.avps.now) }
-        ensures { IfOk result (λ c. c ≡ made_by (known self.now.dictionary.now) CommandKind.ReAuthAnswer header false (seen_all self.now.avps.now)) }
+        requires ready { IsReady self.now.dictionary.now self.now.format.now (seen_all self.now.avps.now) self.now.sorted.now }
+        requires format { self.now.format.now ≡ format_of CommandKind.ReAuthAnswer false }
+        ensures { IfOk result (IsBuilt self.now.dictionary.now (format_of CommandKind.ReAuthAnswer false) (seen_all self.now.avps.now) CommandKind.ReAuthAnswer header) }
     {
-        let rules = rules::re_auth_answer();
-        let [session_id, result_code, origin_host, origin_realm] = rules;
         Ok(Command::Raa(ReAuthAnswer {
             header,
-            session_id: self.octets(session_id)?,
-            result_code: self.number(result_code),
-            origin_host: self.octets(origin_host)?,
-            origin_realm: self.octets(origin_realm)?,
-            rest: self.rest(&rules)?,
+            session_id: self.text(0)?,
+            result_code: self.number(1),
+            origin_host: self.octets(2)?,
+            origin_realm: self.octets(3)?,
+            rest: self.rest()?,
         }))
     }
 
     fn credit_control_request(&self, header: Header, event: bool) -> Result<Command, AllocError>
-        requires { All (λ a. length_of a < 2 ^ 24) (seen_all self.now.avps.now) }
-        ensures { IfOk result (λ c. c ≡ made_by (known self.now.dictionary.now) CommandKind.CreditControlRequest header event (seen_all self.now.avps.now)) }
+        requires ready { IsReady self.now.dictionary.now self.now.format.now (seen_all self.now.avps.now) self.now.sorted.now }
+        requires format { self.now.format.now ≡ format_of CommandKind.CreditControlRequest event }
+        ensures { IfOk result (IsBuilt self.now.dictionary.now (format_of CommandKind.CreditControlRequest event) (seen_all self.now.avps.now) CommandKind.CreditControlRequest header) }
     {
-        let rules = rules::credit_control_request(event);
-        let [
-            session_id,
-            origin_host,
-            origin_realm,
-            destination_realm,
-            auth_application_id,
-            service_context_id,
-            cc_request_type,
-            cc_request_number,
-            subscription_id,
-            requested_action,
-            requested_service_unit,
-            used_service_unit,
-        ] = rules;
         Ok(Command::Ccr(CreditControlRequest {
             header,
-            session_id: self.octets(session_id)?,
-            origin_host: self.octets(origin_host)?,
-            origin_realm: self.octets(origin_realm)?,
-            destination_realm: self.octets(destination_realm)?,
-            auth_application_id: self.number(auth_application_id),
-            service_context_id: self.octets(service_context_id)?,
-            cc_request_type: self.number(cc_request_type),
-            cc_request_number: self.number(cc_request_number),
-            subscription_id: self.all_groups(subscription_id)?,
-            requested_action: self.optional_number(requested_action),
-            requested_service_unit: self.optional_group(requested_service_unit)?,
-            used_service_unit: self.all_groups(used_service_unit)?,
-            rest: self.rest(&rules)?,
+            session_id: self.text(0)?,
+            origin_host: self.octets(1)?,
+            origin_realm: self.octets(2)?,
+            destination_realm: self.octets(3)?,
+            auth_application_id: self.number(4),
+            service_context_id: self.text(5)?,
+            cc_request_type: self.request_type(6),
+            cc_request_number: self.number(7),
+            subscription_id: self.group_all(8)?,
+            requested_action: self.action_perhaps(9),
+            requested_service_unit: self.group_perhaps(10)?,
+            used_service_unit: self.group_all(11)?,
+            multiple_services_indicator: self.number_perhaps(12),
+            multiple_services_credit_control: self.group_all(13)?,
+            rest: self.rest()?,
         }))
     }
 
     fn credit_control_answer(&self, header: Header) -> Result<Command, AllocError>
-        requires { All (λ a. length_of a < 2 ^ 24) (seen_all self.now.avps.now) }
-        ensures { IfOk result (λ c. c ≡ made_by (known self.now.dictionary.now) CommandKind.CreditControlAnswer header false (seen_all self.now.avps.now)) }
+        requires ready { IsReady self.now.dictionary.now self.now.format.now (seen_all self.now.avps.now) self.now.sorted.now }
+        requires format { self.now.format.now ≡ format_of CommandKind.CreditControlAnswer false }
+        ensures { IfOk result (IsBuilt self.now.dictionary.now (format_of CommandKind.CreditControlAnswer false) (seen_all self.now.avps.now) CommandKind.CreditControlAnswer header) }
     {
-        let rules = rules::credit_control_answer();
-        let [
-            session_id,
-            result_code,
-            origin_host,
-            origin_realm,
-            auth_application_id,
-            cc_request_type,
-            cc_request_number,
-            granted_service_unit,
-            final_unit_indication,
-            check_balance_result,
-        ] = rules;
         Ok(Command::Cca(CreditControlAnswer {
             header,
-            session_id: self.octets(session_id)?,
-            result_code: self.number(result_code),
-            origin_host: self.octets(origin_host)?,
-            origin_realm: self.octets(origin_realm)?,
-            auth_application_id: self.number(auth_application_id),
-            cc_request_type: self.number(cc_request_type),
-            cc_request_number: self.number(cc_request_number),
-            granted_service_unit: self.optional_group(granted_service_unit)?,
-            final_unit_indication: self.optional_group(final_unit_indication)?,
-            check_balance_result: self.optional_number(check_balance_result),
-            rest: self.rest(&rules)?,
+            session_id: self.text(0)?,
+            result_code: self.number(1),
+            origin_host: self.octets(2)?,
+            origin_realm: self.octets(3)?,
+            auth_application_id: self.number(4),
+            cc_request_type: self.request_type(5),
+            cc_request_number: self.number(6),
+            granted_service_unit: self.group_perhaps(7)?,
+            final_unit_indication: self.group_perhaps(8)?,
+            check_balance_result: self.number_perhaps(9),
+            multiple_services_credit_control: self.group_all(10)?,
+            rest: self.rest()?,
         }))
     }
 
     fn error_answer(&self, header: Header) -> Result<Command, AllocError>
-        requires { All (λ a. length_of a < 2 ^ 24) (seen_all self.now.avps.now) }
-        ensures { IfOk result (λ c. c ≡ made_by (known self.now.dictionary.now) CommandKind.ErrorAnswer header false (seen_all self.now.avps.now)) }
+        requires ready { IsReady self.now.dictionary.now self.now.format.now (seen_all self.now.avps.now) self.now.sorted.now }
+        requires format { self.now.format.now ≡ format_of CommandKind.ErrorAnswer false }
+        ensures { IfOk result (IsBuilt self.now.dictionary.now (format_of CommandKind.ErrorAnswer false) (seen_all self.now.avps.now) CommandKind.ErrorAnswer header) }
     {
-        let rules = rules::error_answer();
-        let [
-            session_id,
-            origin_host,
-            origin_realm,
-            result_code,
-            failed_avp,
-        ] = rules;
         Ok(Command::ErrorAnswer(ErrorAnswer {
             header,
-            session_id: self.optional_octets(session_id)?,
-            origin_host: self.octets(origin_host)?,
-            origin_realm: self.octets(origin_realm)?,
-            result_code: self.number(result_code),
-            failed_avp: self.optional_octets(failed_avp)?,
-            rest: self.rest(&rules)?,
+            session_id: self.text_perhaps(0)?,
+            origin_host: self.octets(1)?,
+            origin_realm: self.octets(2)?,
+            result_code: self.number(3),
+            failed_avp: self.octets_perhaps(4)?,
+            rest: self.rest()?,
         }))
     }
 
-    /// The command of a kind with a header and these AVPs; `event` where the message is an EVENT request.
-    pub(crate) fn command(
+    /// The command of a kind with a header; `event` where the message is an EVENT request.
+    pub fn command(
         &self,
         kind: CommandKind,
-        header: Header,
         event: bool,
+        header: Header,
     ) -> Result<Command, AllocError>
-        requires { All (λ a. length_of a < 2 ^ 24) (seen_all self.now.avps.now) }
-        ensures { IfOk result (λ c. c ≡ made_by (known self.now.dictionary.now) kind header event (seen_all self.now.avps.now)) }
+        requires ready { IsReady self.now.dictionary.now self.now.format.now (seen_all self.now.avps.now) self.now.sorted.now }
+        requires format { self.now.format.now ≡ format_of kind event }
+        ensures { IfOk result (IsBuilt self.now.dictionary.now (format_of kind event) (seen_all self.now.avps.now) kind header) }
     {
         match kind {
             CommandKind::CapabilitiesExchangeRequest => self.capabilities_exchange_request(header),

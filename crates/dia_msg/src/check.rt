@@ -1,22 +1,12 @@
-//! What a message's header and its first AVPs say of it, without memory.
+//! What a message's header says of it, without memory.
 
-ghost use Rattle.std.specs.Prelude.{◌≡◌, ◌==◌, ◌&&◌, ◌≤◌, [], None, Some, length, IfOk, IfErr, OnOk, slice_get};
-ghost use Rattle.std.specs.Option.{option_map};
-ghost use Rattle.dia_avp.specs.View.{seen};
-ghost use Rattle.dia_avp.specs.Reading.{avps_in};
+ghost use Rattle.std.specs.Prelude.{◌≡◌, ◌≤◌, [], None, Some, length, IfOk, IfErr, OnOk, slice_get};
 ghost use Rattle.dia_tree.specs.Faults.{fault as message_fault};
-ghost use Rattle.dia_msg.specs.Header.{header_in};
-ghost use Rattle.dia_msg.specs.Rules.{first_of};
-ghost use Rattle.dia_msg.specs.Command.{number_of};
-ghost use Rattle.dia_msg.specs.Faults.{kind_in, header_faults, has_event_type};
+ghost use Rattle.dia_command.specs.Header.{header_in};
+ghost use Rattle.dia_msg.specs.Faults.{kind_in, header_faults, is_credit};
 
-use crate::header::{Header, header_of};
-use crate::rules::{CC_REQUEST_TYPE, CommandKind, application_of, is_coded};
 use base_codes::{CommandCode, HEADER_LEN, ResultCode, VERSION};
-use dia_avp::{AvpView, first_avp};
-
-/// The CC-Request-Type of a request that opens no session.
-const EVENT_REQUEST: u32 = 4;
+use dia_command::{CommandKind, Header, application_of, header_of};
 
 /// The header of a message and the kind of its command, or the first fault of the header.
 pub(crate) fn checked_header(octets: &[u8]) -> Result<(Header, CommandKind), ResultCode>
@@ -36,7 +26,7 @@ pub(crate) fn checked_header(octets: &[u8]) -> Result<(Header, CommandKind), Res
     if octets[0] != VERSION {
         return Err(ResultCode::UnsupportedVersion);
     }
-    let Some(kind) = CommandKind::of(header.command, header.flags.request) else {
+    let Some(kind) = CommandKind::coded(header.command, header.flags.request) else {
         return Err(ResultCode::CommandUnsupported);
     };
     if header.application != application_of(header.command) {
@@ -45,41 +35,9 @@ pub(crate) fn checked_header(octets: &[u8]) -> Result<(Header, CommandKind), Res
     Ok((header, kind))
 }
 
-/// The number that an AVP's data is, and 0 where it has not 4 octets.
-pub(crate) fn number_in(avp: &AvpView<'_>) -> u32
-    ensures { result ≡ number_of avp.now.octets.now }
+/// Whether a header is that of a Credit-Control-Request.
+pub(crate) fn is_credit(header: &Header) -> bool
+    ensures { result ≡ is_credit header.now }
 {
-    avp.as_u32().unwrap_or(0)
-}
-
-// The first AVP of a code.
-fn first_in<'a>(octets: &'a [u8], code: u32) -> Option<AvpView<'a>>
-    ensures { option_map seen result ≡ first_of code (avps_in octets.now).0 }
-{
-    let mut rest = octets;
-    while let Ok((avp, after)) = first_avp(rest) {
-        if is_coded(&avp, code) {
-            return Some(avp);
-        }
-        rest = after;
-    }
-    None
-}
-
-fn has_event_type(body: &[u8]) -> bool
-    ensures { result ≡ has_event_type (avps_in body.now).0 }
-{
-    match first_in(body, CC_REQUEST_TYPE) {
-        Some(avp) => number_in(&avp) == EVENT_REQUEST,
-        None => false,
-    }
-}
-
-/// Whether a message is an EVENT request of credit control (RFC 8506 section 8.3); `body` is what stands behind its header.
-pub(crate) fn is_event(header: &Header, body: &[u8]) -> bool
-    ensures { result ≡ ((header.now.command == 272) && (header.now.flags.request && has_event_type (avps_in body.now).0)) }
-{
-    header.command == CommandCode::CreditControl.number()
-        && header.flags.request
-        && has_event_type(body)
+    header.command == CommandCode::CreditControl.number() && header.flags.request
 }

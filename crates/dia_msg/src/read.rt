@@ -1,18 +1,122 @@
 //! The command that octets mean.
 
-ghost use Rattle.std.specs.Prelude.{IfOk, IsErrOf};
+ghost use Rattle.std.specs.Prelude.{◌≡◌, ◌≤◌, ◌<◌, ◌^◌, All, length, false, Some, None, IfOk, IsErrOf};
+ghost use Rattle.dia_avp.specs.Encoding.{length_of};
 ghost use Rattle.dia_dict.specs.Dictionary.{known};
+ghost use Rattle.dia_tree.specs.Faults.{fault, IsGood};
+ghost use Rattle.dia_command.specs.Format.{kind_coded, format_of as format_by};
+ghost use Rattle.dia_msg.specs.Faults.{is_event as is_event_by, has_failed as has_failed_by, answer_as, read_as};
+ghost use Rattle.dia_msg.specs.Sorting.{seen_all, IsSorted};
 ghost use Rattle.dia_msg.specs.Reading.{IsReading, IsOnlyReading, IsReadAgain, UnlessNoMemory, MayNeedMemory};
+ghost use Rattle.dia_msg.specs.Walk.{IsOutcome};
 
-use crate::avps::{missing_rule, read_as, views};
-use crate::check::{checked_header, is_event};
-use crate::command::Command;
+use crate::check::{checked_header, is_credit};
 use crate::fault::{MsgError, error_of};
+use crate::services::{are_faulty, first_number, has_services};
+use crate::sorting::{Sorted, sort};
 use crate::source::Source;
-use base_codes::HEADER_LEN;
+use base_codes::{HEADER_LEN, ResultCode, avp_code};
+use base_fixed::FixedList;
+use dia_avp::AvpView;
+use dia_command::{Command, CommandKind, Header, RequestType, format_of};
 use dia_dict::Dictionary;
-use dia_tree::{MsgFault, first_fault, missing_fault};
+use dia_tree::{MsgFault, missing_fault, survey};
 use std::alloc::Global;
+
+// Whether a message of a header and AVPs is an EVENT request (RFC 8506 section 8.3).
+fn is_event(header: &Header, avps: &[AvpView<'_>]) -> bool
+    ensures { result ≡ is_event_by header.now (seen_all avps.now) }
+{
+    is_credit(header)
+        && first_number(avps, avp_code::CC_REQUEST_TYPE) == Some(RequestType::Event.number())
+}
+
+// Whether the first Result-Code tells no success.
+fn has_failed(avps: &[AvpView<'_>]) -> bool
+    ensures { result ≡ has_failed_by (seen_all avps.now) }
+{
+    match first_number(avps, avp_code::RESULT_CODE) {
+        Some(number) => number / 1000 != 2,
+        None => false,
+    }
+}
+
+// A fault without a failed AVP.
+fn fault_of(code: ResultCode) -> MsgError
+    ensures { result ≡ MsgError.Fault (fault code None) }
+{
+    MsgError::Fault(MsgFault {
+        result: code,
+        failed: None,
+    })
+}
+
+// The kind as which the AVPs of an answer are read, and the AVPs sorted by its format.
+fn answer_sorted(command: CommandKind, error: bool, avps: &[AvpView<'_>]) -> (CommandKind, Sorted)
+    requires { length avps.now ≤ 128 }
+    ensures kind { result.0 ≡ answer_as command error (seen_all avps.now) }
+    ensures sorted { IsSorted (format_by result.0 false) (seen_all avps.now) result.1 }
+{
+    let format = format_of(command, false);
+    let sorted = sort(format, avps);
+    if error || has_failed(avps) && sorted.missing(format).is_some() {
+        let kind = CommandKind::ErrorAnswer;
+        return (kind, sort(format_of(kind, false), avps));
+    }
+    (command, sorted)
+}
+
+// The kind as which AVPs are read, and the AVPs sorted by its format.
+fn sort_as(
+    command: CommandKind,
+    header: &Header,
+    event: bool,
+    avps: &[AvpView<'_>],
+) -> (CommandKind, Sorted)
+    requires few { length avps.now ≤ 128 }
+    requires event { event ≡ is_event_by header.now (seen_all avps.now) }
+    ensures kind { result.0 ≡ read_as command header.now.flags (seen_all avps.now) }
+    ensures sorted { IsSorted (format_by result.0 event) (seen_all avps.now) result.1 }
+{
+    if header.flags.request {
+        return (command, sort(format_of(command, event), avps));
+    }
+    answer_sorted(command, header.flags.error, avps)
+}
+
+// What is made of the AVPs of a message where its header and they have no fault: the first of the other faults, or the
+// command. Memory is asked for by a fault's copy and by the command alone.
+fn outcome(
+    alloc: Global,
+    dictionary: &Dictionary,
+    header: &Header,
+    command: CommandKind,
+    avps: &[AvpView<'_>],
+) -> Result<Command, MsgError>
+    requires known { kind_coded header.now.command header.now.flags.request ≡ Some command }
+    requires few { length avps.now ≤ 128 }
+    requires good { All (IsGood (known dictionary.now) (is_event_by header.now (seen_all avps.now)) 4) (seen_all avps.now) }
+    requires short { All (λ a. length_of a < 2 ^ 24) (seen_all avps.now) }
+    ensures { IsOutcome dictionary.now header.now (seen_all avps.now) result }
+{
+    let event = is_event(header, avps);
+    let (kind, sorted) = sort_as(command, header, event, avps);
+    let format = format_of(kind, event);
+    if let Some(entry) = sorted.missing(format) {
+        return Err(error_of(alloc, &missing_fault(dictionary, entry.code)));
+    }
+    if has_services(kind) && are_faulty(event, avps) {
+        return Err(fault_of(ResultCode::UnableToComply));
+    }
+    let source = Source {
+        alloc,
+        dictionary,
+        format,
+        avps,
+        sorted: &sorted,
+    };
+    Ok(source.command(kind, event, *header)?)
+}
 
 fn reading_of(alloc: Global, dictionary: &Dictionary, octets: &[u8]) -> Result<Command, MsgError>
     ensures reading { UnlessNoMemory result (IsReading (known dictionary.now) octets.now) }
@@ -20,29 +124,18 @@ fn reading_of(alloc: Global, dictionary: &Dictionary, octets: &[u8]) -> Result<C
 {
     let (header, command) = match checked_header(octets) {
         Ok(known) => known,
-        Err(result) => {
-            return Err(MsgError::Fault(MsgFault {
-                result,
-                failed: None,
-            }));
-        }
+        Err(result) => return Err(fault_of(result)),
     };
-    let body = &octets[HEADER_LEN..];
-    let event = is_event(&header, body);
-    if let Some(fault) = first_fault(dictionary, event, body) {
+    let mut avps = FixedList::new();
+    if let Some(fault) = survey(
+        dictionary,
+        is_credit(&header),
+        &octets[HEADER_LEN..],
+        &mut avps,
+    ) {
         return Err(error_of(alloc, &fault));
     }
-    let avps = views(alloc, body)?;
-    let kind = read_as(command, header.flags, &avps);
-    if let Some(rule) = missing_rule(kind, event, &avps) {
-        return Err(error_of(alloc, &missing_fault(dictionary, rule.code)));
-    }
-    let source = Source {
-        alloc,
-        dictionary,
-        avps: &avps,
-    };
-    Ok(source.command(kind, header, event)?)
+    outcome(alloc, dictionary, &header, command, avps.as_slice())
 }
 
 /// The command that the octets of one message mean (RFC 6733 sections 3 and 4), or its first fault.
@@ -55,7 +148,7 @@ pub fn read_message(
     ensures reading { UnlessNoMemory result (IsReading (known dictionary.now) octets.now) }
     ensures only { UnlessNoMemory result (IsOnlyReading (known dictionary.now) octets.now) }
 
-    // A fault without a failed AVP is answered whatever the memory.
+    // A fault without data in its failed AVP is answered whatever the memory.
     ensures memory { IsErrOf result MsgError.NoMemory → MayNeedMemory (known dictionary.now) octets.now }
 
     // The encoding of what was read is read as the same.

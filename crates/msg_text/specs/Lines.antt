@@ -5,8 +5,8 @@ use Rattle.hex.specs.Hex.{encode_lower}
 use Rattle.bench_text.specs.Contents.{content_text}
 use Rattle.dia_avp.specs.declared.avp.Avp.{Avp}
 use Rattle.dia_avp.specs.Avps.{AvpThen, AvpsThen}
-use Rattle.dia_msg.specs.declared.header.Header.{Header}
-use Rattle.dia_msg.specs.declared.header.Flags.{Flags}
+use Rattle.dia_command.specs.declared.header.Header.{Header}
+use Rattle.dia_command.specs.declared.header.Flags.{Flags}
 
 -- a flag's letter, or `-` where it isn't set
 abbrev pub letter : Bool → ℕ → ℕ

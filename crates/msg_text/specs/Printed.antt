@@ -4,12 +4,12 @@ use Rattle.dia_avp.specs.declared.avp.Avp.{Avp}
 use Rattle.dia_avp.specs.Encoding.{length_of, encoded}
 use Rattle.dia_dict.specs.Dictionary.{known}
 use Rattle.dia_dict.specs.declared.definition.Definition.{Definition}
-use Rattle.dia_msg.specs.declared.command.Command.{Command}
+use Rattle.dia_command.specs.declared.command.Command.{Command}
 use Rattle.dia_tree.specs.declared.fault.MsgFault.{MsgFault}
 use Rattle.base_codes.specs.ResultCodes.{number_of}
-use Rattle.dia_msg.specs.Command.{header_of}
+use Rattle.dia_command.specs.Command.{header_of}
 use Rattle.dia_msg.specs.Reading.{IsReading}
-use Rattle.dia_msg.specs.Encoding.{IsTooLong, encode}
+use Rattle.dia_command.specs.Encoding.{IsTooLong, encode}
 use Rattle.msg_text.specs.Lines.{MessageText, fault_line}
 
 -- the octets that are printed of a command: its encoding, and none where 24 bits don't hold its length

@@ -4,4 +4,8 @@
 #[cfg(test)]
 mod message;
 #[cfg(test)]
+mod services;
+#[cfg(test)]
 mod tree;
+#[cfg(test)]
+mod worked;

@@ -2,7 +2,7 @@ use dia_avp::{Avp, Octets, write_avp};
 use dia_dict::{AvpKind, Dictionary};
 use dia_msg::{
     Command, CommandKind, CreditControlRequest, Flags, Header, Identity, MsgError, MsgFault,
-    ResultCode, error_answer, read_message, write_message,
+    RequestType, ResultCode, error_answer, read_message, write_message,
 };
 use std::alloc::{AllocError, Global};
 use std::test::Fail;
@@ -349,10 +349,10 @@ fn has_header(header: &Header) -> bool {
 }
 
 fn has_fields(ccr: &CreditControlRequest) -> bool {
-    ccr.session_id.value.as_slice() == b"c1;1".as_slice()
+    ccr.session_id.value.as_str() == "c1;1"
         && ccr.origin_host.mandatory
         && !ccr.origin_host.protected
-        && ccr.cc_request_type.value == 1
+        && ccr.cc_request_type.value == RequestType::Initial
         && ccr.cc_request_number.value == 7
 }
 
@@ -619,7 +619,7 @@ fn is_answered(
     alloc: Global,
     identity: &Identity,
     header: &Header,
-    session: Option<&[u8]>,
+    session: Option<&str>,
     fault: &MsgFault,
     octets: &[u8],
 ) -> bool {
@@ -650,7 +650,7 @@ fn a_faulty_request_is_answered_by_its_fault(rt: HostRuntime) -> Result<(), Fail
             alloc,
             &identity,
             &asked,
-            Some(b"c1;1"),
+            Some("c1;1"),
             &missing,
             &MISSING_CONTEXT
         )

@@ -1,0 +1,53 @@
+//! AVP Codes (RFC 6733 section 4.5, RFC 8506 section 8) of the AVPs that this project's code names. None has a vendor.
+
+pub const HOST_IP_ADDRESS: u32 = 257;
+
+pub const AUTH_APPLICATION_ID: u32 = 258;
+
+pub const SESSION_ID: u32 = 263;
+
+pub const ORIGIN_HOST: u32 = 264;
+
+pub const VENDOR_ID: u32 = 266;
+
+pub const RESULT_CODE: u32 = 268;
+
+pub const PRODUCT_NAME: u32 = 269;
+
+pub const DISCONNECT_CAUSE: u32 = 273;
+
+pub const FAILED_AVP: u32 = 279;
+
+pub const DESTINATION_REALM: u32 = 283;
+
+pub const RE_AUTH_REQUEST_TYPE: u32 = 285;
+
+pub const DESTINATION_HOST: u32 = 293;
+
+pub const ORIGIN_REALM: u32 = 296;
+
+pub const CC_REQUEST_NUMBER: u32 = 415;
+
+pub const CC_REQUEST_TYPE: u32 = 416;
+
+pub const CHECK_BALANCE_RESULT: u32 = 422;
+
+pub const FINAL_UNIT_INDICATION: u32 = 430;
+
+pub const GRANTED_SERVICE_UNIT: u32 = 431;
+
+pub const RATING_GROUP: u32 = 432;
+
+pub const REQUESTED_ACTION: u32 = 436;
+
+pub const REQUESTED_SERVICE_UNIT: u32 = 437;
+
+pub const SUBSCRIPTION_ID: u32 = 443;
+
+pub const USED_SERVICE_UNIT: u32 = 446;
+
+pub const MULTIPLE_SERVICES_INDICATOR: u32 = 455;
+
+pub const MULTIPLE_SERVICES_CREDIT_CONTROL: u32 = 456;
+
+pub const SERVICE_CONTEXT_ID: u32 = 461;

@@ -1,0 +1,411 @@
+//! Commands as values.
+
+ghost use Rattle.std.specs.Prelude.{◌≡◌};
+ghost use Rattle.dia_command.specs.Command.{header_of, kind_of, rest_of};
+
+use crate::header::Header;
+use crate::kind::CommandKind;
+use crate::text::Text;
+use crate::typed::{TypedAvp, TypedAvps};
+use crate::value::{RequestType, RequestedAction};
+use dia_avp::{AvpList, Octets};
+
+/// A Capabilities-Exchange-Request (RFC 6733 section 5.3.1). `rest` has the AVPs that no field took, in order.
+#[derive(Debug)]
+pub struct CapabilitiesExchangeRequest {
+    pub header: Header,
+    pub origin_host: TypedAvp<Octets>,
+    pub origin_realm: TypedAvp<Octets>,
+    pub host_ip_address: TypedAvps<Octets>,
+    pub vendor_id: TypedAvp<u32>,
+    pub product_name: TypedAvp<Text>,
+    pub auth_application_id: TypedAvps<u32>,
+    pub rest: AvpList,
+}
+
+impl Drop for CapabilitiesExchangeRequest {
+    fn drop(self) {
+        let CapabilitiesExchangeRequest {
+            header: _,
+            origin_host,
+            origin_realm,
+            host_ip_address,
+            vendor_id,
+            product_name,
+            auth_application_id,
+            rest,
+        } = self;
+    }
+}
+
+/// A Capabilities-Exchange-Answer (RFC 6733 section 5.3.2). `rest` has the AVPs that no field took, in order.
+#[derive(Debug)]
+pub struct CapabilitiesExchangeAnswer {
+    pub header: Header,
+    pub result_code: TypedAvp<u32>,
+    pub origin_host: TypedAvp<Octets>,
+    pub origin_realm: TypedAvp<Octets>,
+    pub host_ip_address: TypedAvps<Octets>,
+    pub vendor_id: TypedAvp<u32>,
+    pub product_name: TypedAvp<Text>,
+    pub auth_application_id: TypedAvps<u32>,
+    pub rest: AvpList,
+}
+
+impl Drop for CapabilitiesExchangeAnswer {
+    fn drop(self) {
+        let CapabilitiesExchangeAnswer {
+            header: _,
+            result_code,
+            origin_host,
+            origin_realm,
+            host_ip_address,
+            vendor_id,
+            product_name,
+            auth_application_id,
+            rest,
+        } = self;
+    }
+}
+
+/// A Device-Watchdog-Request (RFC 6733 section 5.5.1). `rest` has the AVPs that no field took, in order.
+#[derive(Debug)]
+pub struct DeviceWatchdogRequest {
+    pub header: Header,
+    pub origin_host: TypedAvp<Octets>,
+    pub origin_realm: TypedAvp<Octets>,
+    pub rest: AvpList,
+}
+
+impl Drop for DeviceWatchdogRequest {
+    fn drop(self) {
+        let DeviceWatchdogRequest {
+            header: _,
+            origin_host,
+            origin_realm,
+            rest,
+        } = self;
+    }
+}
+
+/// A Device-Watchdog-Answer (RFC 6733 section 5.5.2). `rest` has the AVPs that no field took, in order.
+#[derive(Debug)]
+pub struct DeviceWatchdogAnswer {
+    pub header: Header,
+    pub result_code: TypedAvp<u32>,
+    pub origin_host: TypedAvp<Octets>,
+    pub origin_realm: TypedAvp<Octets>,
+    pub rest: AvpList,
+}
+
+impl Drop for DeviceWatchdogAnswer {
+    fn drop(self) {
+        let DeviceWatchdogAnswer {
+            header: _,
+            result_code,
+            origin_host,
+            origin_realm,
+            rest,
+        } = self;
+    }
+}
+
+/// A Disconnect-Peer-Request (RFC 6733 section 5.4.1). `rest` has the AVPs that no field took, in order.
+#[derive(Debug)]
+pub struct DisconnectPeerRequest {
+    pub header: Header,
+    pub origin_host: TypedAvp<Octets>,
+    pub origin_realm: TypedAvp<Octets>,
+    pub disconnect_cause: TypedAvp<u32>,
+    pub rest: AvpList,
+}
+
+impl Drop for DisconnectPeerRequest {
+    fn drop(self) {
+        let DisconnectPeerRequest {
+            header: _,
+            origin_host,
+            origin_realm,
+            disconnect_cause,
+            rest,
+        } = self;
+    }
+}
+
+/// A Disconnect-Peer-Answer (RFC 6733 section 5.4.2). `rest` has the AVPs that no field took, in order.
+#[derive(Debug)]
+pub struct DisconnectPeerAnswer {
+    pub header: Header,
+    pub result_code: TypedAvp<u32>,
+    pub origin_host: TypedAvp<Octets>,
+    pub origin_realm: TypedAvp<Octets>,
+    pub rest: AvpList,
+}
+
+impl Drop for DisconnectPeerAnswer {
+    fn drop(self) {
+        let DisconnectPeerAnswer {
+            header: _,
+            result_code,
+            origin_host,
+            origin_realm,
+            rest,
+        } = self;
+    }
+}
+
+/// A Re-Auth-Request (RFC 6733 section 8.3.1). `rest` has the AVPs that no field took, in order.
+#[derive(Debug)]
+pub struct ReAuthRequest {
+    pub header: Header,
+    pub session_id: TypedAvp<Text>,
+    pub origin_host: TypedAvp<Octets>,
+    pub origin_realm: TypedAvp<Octets>,
+    pub destination_realm: TypedAvp<Octets>,
+    pub destination_host: TypedAvp<Octets>,
+    pub auth_application_id: TypedAvp<u32>,
+    pub re_auth_request_type: TypedAvp<u32>,
+    pub rest: AvpList,
+}
+
+impl Drop for ReAuthRequest {
+    fn drop(self) {
+        let ReAuthRequest {
+            header: _,
+            session_id,
+            origin_host,
+            origin_realm,
+            destination_realm,
+            destination_host,
+            auth_application_id,
+            re_auth_request_type,
+            rest,
+        } = self;
+    }
+}
+
+/// A Re-Auth-Answer (RFC 6733 section 8.3.2). `rest` has the AVPs that no field took, in order.
+#[derive(Debug)]
+pub struct ReAuthAnswer {
+    pub header: Header,
+    pub session_id: TypedAvp<Text>,
+    pub result_code: TypedAvp<u32>,
+    pub origin_host: TypedAvp<Octets>,
+    pub origin_realm: TypedAvp<Octets>,
+    pub rest: AvpList,
+}
+
+impl Drop for ReAuthAnswer {
+    fn drop(self) {
+        let ReAuthAnswer {
+            header: _,
+            session_id,
+            result_code,
+            origin_host,
+            origin_realm,
+            rest,
+        } = self;
+    }
+}
+
+/// A Credit-Control-Request (RFC 8506 section 3.1). `rest` has the AVPs that no field took, in order.
+#[derive(Debug)]
+pub struct CreditControlRequest {
+    pub header: Header,
+    pub session_id: TypedAvp<Text>,
+    pub origin_host: TypedAvp<Octets>,
+    pub origin_realm: TypedAvp<Octets>,
+    pub destination_realm: TypedAvp<Octets>,
+    pub auth_application_id: TypedAvp<u32>,
+    pub service_context_id: TypedAvp<Text>,
+    pub cc_request_type: TypedAvp<RequestType>,
+    pub cc_request_number: TypedAvp<u32>,
+    pub subscription_id: TypedAvps<AvpList>,
+    pub requested_action: Option<TypedAvp<RequestedAction>>,
+    pub requested_service_unit: Option<TypedAvp<AvpList>>,
+    pub used_service_unit: TypedAvps<AvpList>,
+    pub multiple_services_indicator: Option<TypedAvp<u32>>,
+    pub multiple_services_credit_control: TypedAvps<AvpList>,
+    pub rest: AvpList,
+}
+
+impl Drop for CreditControlRequest {
+    fn drop(self) {
+        let CreditControlRequest {
+            header: _,
+            session_id,
+            origin_host,
+            origin_realm,
+            destination_realm,
+            auth_application_id,
+            service_context_id,
+            cc_request_type,
+            cc_request_number,
+            subscription_id,
+            requested_action,
+            requested_service_unit,
+            used_service_unit,
+            multiple_services_indicator: _,
+            multiple_services_credit_control,
+            rest,
+        } = self;
+    }
+}
+
+/// A Credit-Control-Answer (RFC 8506 section 3.2). `rest` has the AVPs that no field took, in order.
+#[derive(Debug)]
+pub struct CreditControlAnswer {
+    pub header: Header,
+    pub session_id: TypedAvp<Text>,
+    pub result_code: TypedAvp<u32>,
+    pub origin_host: TypedAvp<Octets>,
+    pub origin_realm: TypedAvp<Octets>,
+    pub auth_application_id: TypedAvp<u32>,
+    pub cc_request_type: TypedAvp<RequestType>,
+    pub cc_request_number: TypedAvp<u32>,
+    pub granted_service_unit: Option<TypedAvp<AvpList>>,
+    pub final_unit_indication: Option<TypedAvp<AvpList>>,
+    pub check_balance_result: Option<TypedAvp<u32>>,
+    pub multiple_services_credit_control: TypedAvps<AvpList>,
+    pub rest: AvpList,
+}
+
+impl Drop for CreditControlAnswer {
+    fn drop(self) {
+        let CreditControlAnswer {
+            header: _,
+            session_id,
+            result_code,
+            origin_host,
+            origin_realm,
+            auth_application_id,
+            cc_request_type,
+            cc_request_number,
+            granted_service_unit,
+            final_unit_indication,
+            check_balance_result: _,
+            multiple_services_credit_control,
+            rest,
+        } = self;
+    }
+}
+
+/// An answer that tells a fault (RFC 6733 section 7.2). `rest` has the AVPs that no field took, in order.
+#[derive(Debug)]
+pub struct ErrorAnswer {
+    pub header: Header,
+    pub session_id: Option<TypedAvp<Text>>,
+    pub origin_host: TypedAvp<Octets>,
+    pub origin_realm: TypedAvp<Octets>,
+    pub result_code: TypedAvp<u32>,
+    pub failed_avp: Option<TypedAvp<Octets>>,
+    pub rest: AvpList,
+}
+
+impl Drop for ErrorAnswer {
+    fn drop(self) {
+        let ErrorAnswer {
+            header: _,
+            session_id,
+            origin_host,
+            origin_realm,
+            result_code,
+            failed_avp,
+            rest,
+        } = self;
+    }
+}
+
+/// A message, by its command.
+#[derive(Debug)]
+pub enum Command {
+    Cer(CapabilitiesExchangeRequest),
+    Cea(CapabilitiesExchangeAnswer),
+    Dwr(DeviceWatchdogRequest),
+    Dwa(DeviceWatchdogAnswer),
+    Dpr(DisconnectPeerRequest),
+    Dpa(DisconnectPeerAnswer),
+    Rar(ReAuthRequest),
+    Raa(ReAuthAnswer),
+    Ccr(CreditControlRequest),
+    Cca(CreditControlAnswer),
+    ErrorAnswer(ErrorAnswer),
+}
+
+// A derived `drop` is proved anew, field by field, at each way out of each function that holds a command; this one is a call.
+impl Drop for Command {
+    fn drop(self) {
+        match self {
+            Command::Cer(command) => drop(command),
+            Command::Cea(command) => drop(command),
+            Command::Dwr(command) => drop(command),
+            Command::Dwa(command) => drop(command),
+            Command::Dpr(command) => drop(command),
+            Command::Dpa(command) => drop(command),
+            Command::Rar(command) => drop(command),
+            Command::Raa(command) => drop(command),
+            Command::Ccr(command) => drop(command),
+            Command::Cca(command) => drop(command),
+            Command::ErrorAnswer(command) => drop(command),
+        }
+    }
+}
+
+impl Command {
+    /// Which command it is.
+    pub fn kind(&self) -> CommandKind
+        ensures { result ≡ kind_of self.now }
+    {
+        match self {
+            Command::Cer(_) => CommandKind::CapabilitiesExchangeRequest,
+            Command::Cea(_) => CommandKind::CapabilitiesExchangeAnswer,
+            Command::Dwr(_) => CommandKind::DeviceWatchdogRequest,
+            Command::Dwa(_) => CommandKind::DeviceWatchdogAnswer,
+            Command::Dpr(_) => CommandKind::DisconnectPeerRequest,
+            Command::Dpa(_) => CommandKind::DisconnectPeerAnswer,
+            Command::Rar(_) => CommandKind::ReAuthRequest,
+            Command::Raa(_) => CommandKind::ReAuthAnswer,
+            Command::Ccr(_) => CommandKind::CreditControlRequest,
+            Command::Cca(_) => CommandKind::CreditControlAnswer,
+            Command::ErrorAnswer(_) => CommandKind::ErrorAnswer,
+        }
+    }
+
+    /// The header, as it was read or is to be written.
+    pub fn header(&self) -> &Header
+        ensures { result.now ≡ header_of self.now }
+    {
+        match self {
+            Command::Cer(c) => &c.header,
+            Command::Cea(c) => &c.header,
+            Command::Dwr(c) => &c.header,
+            Command::Dwa(c) => &c.header,
+            Command::Dpr(c) => &c.header,
+            Command::Dpa(c) => &c.header,
+            Command::Rar(c) => &c.header,
+            Command::Raa(c) => &c.header,
+            Command::Ccr(c) => &c.header,
+            Command::Cca(c) => &c.header,
+            Command::ErrorAnswer(c) => &c.header,
+        }
+    }
+
+    /// The AVPs that no field took, in order.
+    pub fn rest(&self) -> &AvpList
+        ensures { result.now ≡ rest_of self.now }
+    {
+        match self {
+            Command::Cer(c) => &c.rest,
+            Command::Cea(c) => &c.rest,
+            Command::Dwr(c) => &c.rest,
+            Command::Dwa(c) => &c.rest,
+            Command::Dpr(c) => &c.rest,
+            Command::Dpa(c) => &c.rest,
+            Command::Rar(c) => &c.rest,
+            Command::Raa(c) => &c.rest,
+            Command::Ccr(c) => &c.rest,
+            Command::Cca(c) => &c.rest,
+            Command::ErrorAnswer(c) => &c.rest,
+        }
+    }
+}

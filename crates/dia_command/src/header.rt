@@ -1,0 +1,93 @@
+//! The header of a message (RFC 6733 section 3).
+
+ghost use Rattle.std.specs.Prelude.{◌≡◌, ◌≤◌, ◌<◌, ◌^◌, length};
+ghost use Rattle.dia_command.specs.Header.{header_in, flags_in, flags_octet, header_octets};
+
+use base_codes::{HEADER_LEN, VERSION};
+use byteorder::{BigEndian, ByteOrder};
+
+const REQUEST: u8 = 0x80;
+
+const PROXIABLE: u8 = 0x40;
+
+const ERROR: u8 = 0x20;
+
+const RETRANSMITTED: u8 = 0x10;
+
+/// The Command Flags R, P, E and T. The four reserved bits are ignored on reading and zero on writing.
+#[derive(Clone, Copy, Debug, PartialEq, Eq)]
+pub struct Flags {
+    pub request: bool,
+    pub proxiable: bool,
+    pub error: bool,
+    pub retransmitted: bool,
+}
+
+/// A message's header. `length` is the Message Length as it was read, in octets with padding; writing computes its own.
+/// `command` has 24 bits, of a greater number the lowest are written. `application` is the Application-Id; `hop_by_hop`
+/// and `end_to_end` are the identifiers.
+#[derive(Clone, Copy, Debug, PartialEq, Eq)]
+pub struct Header {
+    pub length: u32,
+    pub flags: Flags,
+    pub command: u32,
+    pub application: u32,
+    pub hop_by_hop: u32,
+    pub end_to_end: u32,
+}
+
+fn flags_of(octet: u8) -> Flags
+    ensures { result ≡ flags_in octet }
+{
+    Flags {
+        request: octet & REQUEST != 0,
+        proxiable: octet & PROXIABLE != 0,
+        error: octet & ERROR != 0,
+        retransmitted: octet & RETRANSMITTED != 0,
+    }
+}
+
+fn octet_of(flags: Flags) -> u8
+    ensures { result ≡ flags_octet flags }
+{
+    let request = if flags.request { REQUEST } else { 0 };
+    let proxiable = if flags.proxiable { PROXIABLE } else { 0 };
+    let error = if flags.error { ERROR } else { 0 };
+    let retransmitted = if flags.retransmitted {
+        RETRANSMITTED
+    } else {
+        0
+    };
+    request + proxiable + error + retransmitted
+}
+
+/// The header at the front of octets.
+pub fn header_of(octets: &[u8]) -> Header
+    requires { 20 ≤ length octets.now }
+    ensures { result ≡ header_in octets.now }
+{
+    Header {
+        length: BigEndian::read_u24(&octets[1..]),
+        flags: flags_of(octets[4]),
+        command: BigEndian::read_u24(&octets[5..]),
+        application: BigEndian::read_u32(&octets[8..]),
+        hop_by_hop: BigEndian::read_u32(&octets[12..]),
+        end_to_end: BigEndian::read_u32(&octets[16..]),
+    }
+}
+
+/// The octets of a header in front of a message of `len` octets.
+pub(crate) fn octets_of(header: &Header, len: u32) -> [u8; HEADER_LEN]
+    requires { len < 2 ^ 24 }
+    ensures { result ≡ header_octets header.now len }
+{
+    let mut octets = [0; 20];
+    octets[0] = VERSION;
+    BigEndian::write_u24(&mut octets[1..], len);
+    octets[4] = octet_of(header.flags);
+    BigEndian::write_u24(&mut octets[5..], header.command & 0xff_ffff);
+    BigEndian::write_u32(&mut octets[8..], header.application);
+    BigEndian::write_u32(&mut octets[12..], header.hop_by_hop);
+    BigEndian::write_u32(&mut octets[16..], header.end_to_end);
+    octets
+}

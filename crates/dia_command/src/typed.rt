@@ -1,0 +1,87 @@
+ghost use Rattle.std.specs.Prelude.{◌≡◌, ◌==◌, [], ◌∷◌, ◌++◌, length, OnOk, OnErr};
+
+use dia_avp::Octets;
+use std::alloc::{AllocError, Global};
+use std::marker::Model;
+
+/// The value of an AVP, with the flags M and P that it was read with or is to be written with (RFC 6733 section 4.1).
+#[derive(Debug)]
+pub struct TypedAvp<T> {
+    pub mandatory: bool,
+    pub protected: bool,
+    pub value: T,
+}
+
+impl<T: Drop> Drop for TypedAvp<T> {
+    fn drop(self) {
+        let TypedAvp {
+            mandatory: _,
+            protected: _,
+            value,
+        } = self;
+    }
+}
+
+/// The values of AVPs of one code, in order. A contract sees them as a list.
+#[derive(Debug, Drop)]
+pub struct TypedAvps<T> {
+    avps: Vec<TypedAvp<T>>,
+}
+
+impl<T> Model for TypedAvps<T> {
+    ghost use Rattle.std.specs.Prelude.{List};
+    ghost use Rattle.dia_command.specs.declared.typed.TypedAvp.{TypedAvp};
+
+    ghost Value = { List (TypedAvp T) };
+
+    ghost view = { λ l. l.avps.items };
+}
+
+impl<T: Drop> TypedAvps<T> {
+    /// No value.
+    pub fn new(alloc: Global) -> TypedAvps<T>
+        ensures { result ≡ [] }
+    {
+        TypedAvps {
+            avps: Vec::new(alloc),
+        }
+    }
+
+    /// How many values there are.
+    pub fn len(&self) -> usize
+        ensures { result ≡ length self.now }
+    {
+        self.avps.len()
+    }
+
+    /// Whether there is none.
+    pub fn is_empty(&self) -> bool
+        ensures { result ≡ (length self.now == 0) }
+    {
+        self.avps.is_empty()
+    }
+
+    /// The values.
+    pub fn as_slice(&self) -> &[TypedAvp<T>]
+        ensures { result.now ≡ self.now }
+    {
+        self.avps.as_slice()
+    }
+
+    /// Adds a value at the end.
+    pub fn push(&mut self, avp: TypedAvp<T>) -> Result<(), AllocError>
+        ensures ok { OnOk result (self.new ≡ self.old ++ avp ∷ []) }
+        ensures err { OnErr result (self.new ≡ self.old) }
+    {
+        self.avps.push(avp)?;
+        Ok(())
+    }
+}
+
+/// Who a node is: its Origin-Host, Origin-Realm and IPv4 address (RFC 6733 sections 6.3, 6.4 and 5.3.5).
+#[derive(Debug, Drop)]
+pub struct Identity {
+    pub host: Octets,
+    pub realm: Octets,
+    pub address: [u8; 4],
+}

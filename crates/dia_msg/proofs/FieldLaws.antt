@@ -1,0 +1,102 @@
+-- The fields that are read from AVPs are one list.
+use Rattle.std.proofs.Common.{◌≡◌, ℕ, List, [], ◌∷◌, map, Some, refl, sym, ap, ◌∙◌}
+use Rattle.dia_avp.specs.declared.avp.Avp.{Avp}
+use Rattle.dia_dict.specs.declared.definition.Definition.{Definition}
+use Rattle.dia_command.specs.declared.command.Command.{Command}
+use Rattle.dia_command.specs.declared.command.Command.TheVariants.{Cer, Cea, Dwr, Dwa, Dpr, Dpa, Rar, Raa, Ccr, Cca, ErrorAnswer}
+use Rattle.dia_command.specs.declared.kind.CommandKind.{CommandKind}
+use Rattle.dia_command.specs.declared.kind.CommandKind.TheVariants as kinds
+use Rattle.dia_command.specs.Field.{Field, Octets, Numbers, Types, Actions, Groups, IsFieldOf}
+use Rattle.dia_command.specs.Command.{kind_of, fields}
+use Rattle.dia_msg.specs.Reading.{AreFields}
+
+some_is : {T : Type 0} (x y : T) → Some x ≡ Some y → x ≡ y
+some_is x y e = cc
+
+all_some : {T : Type 0} (xs ys : List T) → map Some xs ≡ map Some ys → xs ≡ ys
+all_some [] [] e = refl
+all_some [] (y ∷ ys) e = absurd cc
+all_some (x ∷ xs) [] e = absurd cc
+all_some {T = T} (x ∷ xs) (y ∷ ys) e =
+    let first : Some x ≡ Some y = cc in
+    let later : map Some xs ≡ map Some ys = cc in
+    rw (some_is x y first, all_some xs ys later) refl
+
+-- which form of values a field has
+abbrev shape : Field → ℕ
+shape (Octets values) = 0
+shape (Numbers values) = 1
+shape (Types values) = 2
+shape (Actions values) = 3
+shape (Groups values) = 4
+
+one_field : (d : List Definition) (x y : Field) (list : List Avp) → IsFieldOf d x list → IsFieldOf d y list → shape x ≡ shape y → x ≡ y
+one_field d (Octets v) (Octets w) list h k e = ap (λ l. Octets l) (all_some v w (h ∙ sym k))
+one_field d (Octets v) (Numbers w) list h k e = absurd cc
+one_field d (Octets v) (Types w) list h k e = absurd cc
+one_field d (Octets v) (Actions w) list h k e = absurd cc
+one_field d (Octets v) (Groups w) list h k e = absurd cc
+one_field d (Numbers v) (Octets w) list h k e = absurd cc
+one_field d (Numbers v) (Numbers w) list h k e = ap (λ l. Numbers l) (all_some v w (h ∙ sym k))
+one_field d (Numbers v) (Types w) list h k e = absurd cc
+one_field d (Numbers v) (Actions w) list h k e = absurd cc
+one_field d (Numbers v) (Groups w) list h k e = absurd cc
+one_field d (Types v) (Octets w) list h k e = absurd cc
+one_field d (Types v) (Numbers w) list h k e = absurd cc
+one_field d (Types v) (Types w) list h k e = ap (λ l. Types l) (all_some v w (h ∙ sym k))
+one_field d (Types v) (Actions w) list h k e = absurd cc
+one_field d (Types v) (Groups w) list h k e = absurd cc
+one_field d (Actions v) (Octets w) list h k e = absurd cc
+one_field d (Actions v) (Numbers w) list h k e = absurd cc
+one_field d (Actions v) (Types w) list h k e = absurd cc
+one_field d (Actions v) (Actions w) list h k e = ap (λ l. Actions l) (all_some v w (h ∙ sym k))
+one_field d (Actions v) (Groups w) list h k e = absurd cc
+one_field d (Groups v) (Octets w) list h k e = absurd cc
+one_field d (Groups v) (Numbers w) list h k e = absurd cc
+one_field d (Groups v) (Types w) list h k e = absurd cc
+one_field d (Groups v) (Actions w) list h k e = absurd cc
+one_field d (Groups v) (Groups w) list h k e = ap (λ l. Groups l) (all_some v w (h ∙ sym k))
+
+both : (x y : Field) (xs ys : List Field) → x ≡ y → xs ≡ ys → x ∷ xs ≡ y ∷ ys
+both x y xs ys e f = rw (e, f) refl
+
+one_list : (d : List Definition) (xs ys : List Field) (groups : List (List Avp)) → AreFields d xs groups → AreFields d ys groups → map shape xs ≡ map shape ys → xs ≡ ys
+one_list d [] [] groups h k e = refl
+one_list d [] (y ∷ ys) groups h k e = absurd cc
+one_list d (x ∷ xs) [] groups h k e = absurd cc
+one_list d (x ∷ xs) (y ∷ ys) [] h k e = absurd h
+one_list d (x ∷ xs) (y ∷ ys) (g ∷ groups) h k e =
+    let first : shape x ≡ shape y = cc in
+    let later : map shape xs ≡ map shape ys = cc in
+    both x y xs ys (one_field d x y g h.0 k.0 first) (one_list d xs ys groups h.1 k.1 later)
+
+-- the forms of a kind of command
+abbrev shapes : CommandKind → List ℕ
+shapes kinds.CapabilitiesExchangeRequest = 0 ∷ 0 ∷ 0 ∷ 1 ∷ 0 ∷ 1 ∷ []
+shapes kinds.CapabilitiesExchangeAnswer = 1 ∷ 0 ∷ 0 ∷ 0 ∷ 1 ∷ 0 ∷ 1 ∷ []
+shapes kinds.DeviceWatchdogRequest = 0 ∷ 0 ∷ []
+shapes kinds.DeviceWatchdogAnswer = 1 ∷ 0 ∷ 0 ∷ []
+shapes kinds.DisconnectPeerRequest = 0 ∷ 0 ∷ 1 ∷ []
+shapes kinds.DisconnectPeerAnswer = 1 ∷ 0 ∷ 0 ∷ []
+shapes kinds.ReAuthRequest = 0 ∷ 0 ∷ 0 ∷ 0 ∷ 0 ∷ 1 ∷ 1 ∷ []
+shapes kinds.ReAuthAnswer = 0 ∷ 1 ∷ 0 ∷ 0 ∷ []
+shapes kinds.CreditControlRequest = 0 ∷ 0 ∷ 0 ∷ 0 ∷ 1 ∷ 0 ∷ 2 ∷ 1 ∷ 4 ∷ 3 ∷ 4 ∷ 4 ∷ 1 ∷ 4 ∷ []
+shapes kinds.CreditControlAnswer = 0 ∷ 1 ∷ 0 ∷ 0 ∷ 1 ∷ 2 ∷ 1 ∷ 4 ∷ 4 ∷ 1 ∷ 4 ∷ []
+shapes kinds.ErrorAnswer = 0 ∷ 0 ∷ 0 ∷ 1 ∷ 0 ∷ []
+
+shapes_are : (c : Command) → map shape (fields c) ≡ shapes (kind_of c)
+shapes_are (Cer c) = refl
+shapes_are (Cea c) = refl
+shapes_are (Dwr c) = refl
+shapes_are (Dwa c) = refl
+shapes_are (Dpr c) = refl
+shapes_are (Dpa c) = refl
+shapes_are (Rar c) = refl
+shapes_are (Raa c) = refl
+shapes_are (Ccr c) = refl
+shapes_are (Cca c) = refl
+shapes_are (ErrorAnswer c) = refl
+
+-- two commands of one kind whose fields are read from the same AVPs have the same fields
+pub same_fields : (d : List Definition) (c b : Command) (groups : List (List Avp)) → AreFields d (fields c) groups → AreFields d (fields b) groups → kind_of c ≡ kind_of b → fields c ≡ fields b
+same_fields d c b groups h k e = one_list d (fields c) (fields b) groups h k (shapes_are c ∙ ap shapes e ∙ sym (shapes_are b))

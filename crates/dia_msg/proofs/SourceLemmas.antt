@@ -1,0 +1,236 @@
+-- The AVPs that a field is made of are there, and their data are of its type.
+use Rattle.std.proofs.Common.{◌≡◌, ◌==◌, ◌&&◌, ◌||◌, ℕ, zero, suc, ◌+◌, ◌<◌, ◌≤◌, ◌^◌, ◌++◌, append_assoc, Bool, true, false, cond, List, [], ◌∷◌, length, map, take, filter, get_or, Option, None, Some, All, refl, sym, ap, subst, ◌∙◌, arith}
+use Rattle.std.specs.Prelude.{slice_get, is_none, is_some, nat_lt, IsSome, IfSome, IsOk, IfErr, Result, Ok, Err}
+use Rattle.std.specs.List.{flat_map}
+use Rattle.std.proofs.Math.Seq.{take-suc}
+use Rattle.std.proofs.lemmas.List.{append-nil, map-append, length-map}
+use Rattle.std.specs.Option.{option_map, option_to_list}
+use Rattle.std.specs.Str.{is_utf8, IsUtf8}
+use Rattle.std.proofs.lemmas.Bool.{eqb-true, eqb-false, ltb-false}
+use Rattle.std.proofs.lemmas.Option.{slice_get-get_or, get_or_from_slice_get, slice_get_within}
+use Rattle.std.proofs.lemmas.List.Elements.{All-head, All-filter, filter_passes}
+use Rattle.byteorder.specs.Endian.{big_number}
+use Rattle.dia_avp.specs.declared.avp.Avp.{Avp}
+use Rattle.dia_avp.specs.declared.avp.AvpView.{AvpView}
+use Rattle.dia_avp.specs.declared.fault.FieldFault.{FieldFault}
+use Rattle.dia_avp.specs.declared.fault.FieldFault.TheVariants as fieldfaults
+use Rattle.dia_avp.specs.View.{seen}
+use Rattle.dia_avp.specs.Encoding.{length_of}
+use Rattle.dia_avp.proofs.FieldLaws.{not_utf8}
+use Rattle.dia_dict.specs.declared.definition.AvpKind.{AvpKind}
+use Rattle.dia_dict.specs.declared.definition.AvpKind.TheVariants.{Unsigned32, Unsigned64, Enumerated, Utf8String, DiameterIdentity, Address, Grouped, Time, OctetString}
+use Rattle.dia_dict.specs.declared.definition.Definition.{Definition}
+use Rattle.dia_dict.specs.declared.fault.DictFault.TheVariants.{BadLength, BadValue}
+use Rattle.dia_dict.specs.Kind.{least_size}
+use Rattle.dia_dict.specs.Dictionary.{known, definition_of}
+use Rattle.dia_tree.specs.declared.fault.MsgFault.{MsgFault}
+use Rattle.dia_tree.specs.Faults.{fault, is_coded, is_bad_value, least_of, data_faults, own_faults, typed_faults, faults_by, group_faults, IsGood}
+use Rattle.base_codes.specs.declared.result_code.ResultCode.TheVariants.{InvalidAvpValue}
+use Rattle.dia_command.specs.declared.format.AvpFormat.{AvpFormat}
+use Rattle.dia_command.specs.Value.{type_coded}
+use Rattle.dia_command.specs.Field.{type_in}
+use Rattle.dia_msg.specs.declared.sorting.Sorted.{Sorted}
+use Rattle.dia_msg.specs.Taken.{is_for, first_of, taken, is_missing, missing}
+use Rattle.dia_msg.specs.Sorting.{seen_all, placed, all_placed, IsSorted}
+use Rattle.dia_msg.specs.Source.{entry_at, takes, AreNumbers, AreTexts, IsSound}
+
+both_true : (a b : Bool) → (a && b) ≡ true → (a ≡ true) × (b ≡ true)
+both_true true b e = (refl, e)
+both_true false b e = absurd cc
+
+none_is : (v : Option ℕ) → is_none v ≡ true → v ≡ None
+none_is None e = refl
+none_is (Some n) e = absurd cc
+
+pub coded_code : (code : ℕ) (a : Avp) → is_coded code a ≡ true → a.code ≡ code
+coded_code code a e = eqb-true a.code code (both_true (a.code == code) (is_none a.vendor) e).0
+
+pub coded_vendor : (code : ℕ) (a : Avp) → is_coded code a ≡ true → a.vendor ≡ None
+coded_vendor code a e = none_is a.vendor (both_true (a.code == code) (is_none a.vendor) e).1
+
+pub coded_definition : (d : List Definition) (code : ℕ) (a : Avp) → is_coded code a ≡ true → definition_of d a.code a.vendor ≡ definition_of d code None
+coded_definition d code a e =
+    ap (λ (n : ℕ). definition_of d n a.vendor) (coded_code code a e) ∙ ap (λ (v : Option ℕ). definition_of d code v) (coded_vendor code a e)
+
+-- a number without a fault has 4 octets
+four : (event : Bool) (a : Avp) (b : Bool) → (length a.octets == 4) ≡ b → data_faults (cond b None (Some BadLength)) 4 event a ≡ [] → length a.octets ≡ 4
+four event a true e f = eqb-true (length a.octets) 4 e
+four event a false e f = absurd cc
+
+sized : (inside : List ℕ → List MsgFault) (event : Bool) (a : Avp) (kind : AvpKind) → least_size kind ≡ 4 → typed_faults inside kind event a ≡ [] → length a.octets ≡ 4
+sized inside event a Unsigned32 s f = four event a (length a.octets == 4) refl f
+sized inside event a Unsigned64 s f = absurd (omega arith)
+sized inside event a Enumerated s f = four event a (length a.octets == 4) refl f
+sized inside event a Utf8String s f = absurd (omega arith)
+sized inside event a DiameterIdentity s f = absurd (omega arith)
+sized inside event a Address s f = absurd (omega arith)
+sized inside event a Grouped s f = absurd (omega arith)
+sized inside event a Time s f = four event a (length a.octets == 4) refl f
+sized inside event a OctetString s f = absurd (omega arith)
+
+defined : (inside : List ℕ → List MsgFault) (event : Bool) (a : Avp) (definition : Option Definition) → least_of definition ≡ 4 → faults_by inside definition event a ≡ [] → length a.octets ≡ 4
+defined inside event a None s f = absurd (omega arith)
+defined inside event a (Some x) s f = sized inside event a x.kind s f
+
+number_size : (added : List Definition) (event : Bool) (code : ℕ) (a : Avp) → is_coded code a ≡ true → IsGood (known added) event 4 a → AreNumbers added code → length a.octets ≡ 4
+number_size added event code a e good s =
+    defined (group_faults (known added) event 4) event a (definition_of (known added) a.code a.vendor) (ap least_of (coded_definition (known added) code a e) ∙ s) good
+
+-- text without a fault is UTF-8
+valid : (event : Bool) (a : Avp) (b : Bool) → is_utf8 a.octets ≡ b → data_faults (cond b None (Some BadValue)) 0 event a ≡ [] → is_utf8 a.octets ≡ true
+valid event a true e f = e
+valid event a false e f = absurd cc
+
+abbrev kind_of_definition : Option Definition → Option AvpKind
+kind_of_definition definition = option_map (λ d. d.kind) definition
+
+text_by : (inside : List ℕ → List MsgFault) (event : Bool) (a : Avp) (definition : Option Definition) → kind_of_definition definition ≡ Some Utf8String → faults_by inside definition event a ≡ [] → is_utf8 a.octets ≡ true
+text_by inside event a None s f = absurd cc
+text_by inside event a (Some x) s f =
+    let is : x.kind ≡ Utf8String = cc in
+    valid event a (is_utf8 a.octets) refl (subst (λ (k : AvpKind). typed_faults inside k event a ≡ []) is f)
+
+text_valid : (added : List Definition) (event : Bool) (code : ℕ) (a : Avp) → is_coded code a ≡ true → IsGood (known added) event 4 a → AreTexts added code → is_utf8 a.octets ≡ true
+text_valid added event code a e good s =
+    text_by (group_faults (known added) event 4) event a (definition_of (known added) a.code a.vendor) (ap kind_of_definition (coded_definition (known added) code a e) ∙ s) good
+
+-- a CC-Request-Type without a fault is 1 to 4
+no_fault : (b : Bool) (a : Avp) (fs : List MsgFault) (f : MsgFault) → fs ≡ cond b (f ∷ []) [] → fs ≡ [] → b ≡ false
+no_fault true a fs f e h = absurd cc
+no_fault false a fs f e h = refl
+
+or_right : (a b : Bool) → (a || b) ≡ false → b ≡ false
+or_right true b e = absurd cc
+or_right false b e = e
+
+none_left : (n : ℕ) → (n == 1) ≡ false → (n == 2) ≡ false → (n == 3) ≡ false → (n == 4) ≡ false → ((n == 0) || nat_lt 4 n) ≡ false → ⊥
+none_left zero a b c d e = absurd cc
+none_left (suc n) a b c d e =
+    let le : suc n ≤ 4 = ltb-false 4 (suc n) (or_right (suc n == 0) (nat_lt 4 (suc n)) e) in
+    let p = eqb-false (suc n) 1 a in
+    let q = eqb-false (suc n) 2 b in
+    let r = eqb-false (suc n) 3 c in
+    let s = eqb-false (suc n) 4 d in
+    omega (arith, le, p, q, r, s)
+
+is_type : (n : ℕ) (a b c d : Bool) → (n == 1) ≡ a → (n == 2) ≡ b → (n == 3) ≡ c → (n == 4) ≡ d → ((n == 0) || nat_lt 4 n) ≡ false → is_some (type_coded n) ≡ true
+unfolding type_coded
+is_type n true b c d e f g h k = rw e refl
+is_type n false true c d e f g h k = rw (e, f) refl
+is_type n false false true d e f g h k = rw (e, f, g) refl
+is_type n false false false true e f g h k = rw (e, f, g, h) refl
+is_type n false false false false e f g h k = absurd (none_left n e f g h k)
+
+abbrev own_by : Bool → ℕ → Option ℕ → Avp → List MsgFault
+own_by event code vendor a = cond (is_none vendor && is_bad_value event code a.octets) (fault InvalidAvpValue (Some a) ∷ []) []
+
+type_number_by : (event : Bool) (a : Avp) → own_faults event a ≡ [] → a.code ≡ 416 → a.vendor ≡ None → ((big_number 4 a.octets == 0) || nat_lt 4 (big_number 4 a.octets)) ≡ false
+type_number_by event a f c v =
+    let e : own_faults event a ≡ own_by event 416 None a = ap (λ (n : ℕ). own_by event n a.vendor a) c ∙ ap (λ (o : Option ℕ). own_by event 416 o a) v in
+    no_fault _ a (own_faults event a) (fault InvalidAvpValue (Some a)) e f
+
+type_by : (event : Bool) (a : Avp) (b : Bool) → (length a.octets == 4) ≡ b → data_faults (cond b None (Some BadLength)) 4 event a ≡ [] → a.code ≡ 416 → a.vendor ≡ None → is_some (type_in a.octets) ≡ true
+type_by event a true e f c v =
+    let n = big_number 4 a.octets in
+    rw e (is_type n (n == 1) (n == 2) (n == 3) (n == 4) refl refl refl refl (type_number_by event a f c v))
+type_by event a false e f c v = absurd cc
+
+type_good : (added : List Definition) (event : Bool) (a : Avp) → is_coded 416 a ≡ true → IsGood (known added) event 4 a → is_some (type_in a.octets) ≡ true
+type_good added event a own good =
+    let found : definition_of (known added) a.code a.vendor ≡ definition_of (known added) 416 None = coded_definition (known added) 416 a own in
+    let f : faults_by (group_faults (known added) event 4) (definition_of (known added) 416 None) event a ≡ [] =
+    subst (λ (o : Option Definition). faults_by (group_faults (known added) event 4) o event a ≡ []) found good in
+    type_by event a (length a.octets == 4) refl f (coded_code 416 a own) (coded_vendor 416 a own)
+
+-- what the first of a list is, all are
+first_all : (P : Avp → Type 0) (list : List Avp) (a : Avp) → slice_get list 0 ≡ Some a → All P list → P a
+first_all P [] a e h = absurd cc
+first_all P (x ∷ list) a e h = let same : x ≡ a = cc in subst P same (All-head P x list h)
+
+pub sound_first : (added : List Definition) (event : Bool) (code : ℕ) (list : List Avp) (a : Avp) → first_of code list ≡ Some a → All (IsGood (known added) event 4) list → IsSound added code a
+sound_first added event code list a e good =
+    let own = first_all (λ x. is_coded code x ≡ true) (filter (is_coded code) list) a e (filter_passes (is_coded code) list) in
+    let sound = first_all (IsGood (known added) event 4) (filter (is_coded code) list) a e (All-filter (is_coded code) (IsGood (known added) event 4) list good) in
+    record {
+      number = number_size added event code a own sound;
+      text = text_valid added event code a own sound;
+      request_type = λ is. type_good added event a (subst (λ (n : ℕ). is_coded n a ≡ true) is own) sound;
+    }
+
+-- the AVP at the place of an entry
+take_one : (l : List Avp) → take 1 l ≡ option_to_list (slice_get l 0)
+take_one [] = refl
+take_one (a ∷ l) = refl
+
+taken_once : (b : Bool) (f : AvpFormat) (list : List Avp) → f.several ≡ b → b ≡ false → taken f list ≡ option_to_list (first_of f.code list)
+taken_once true f list e h = absurd cc
+taken_once false f list e h = rw e (take_one (filter (is_for f) list))
+
+pub placed_first : (formats : List AvpFormat) (list : List Avp) (s : Sorted) (place : ℕ) → IsSorted formats list s → place < length formats → placed list (get_or s.firsts place None) ≡ first_of (entry_at formats place).code list
+placed_first formats list s place h lt = h.firsts place (entry_at formats place) (slice_get-get_or formats place _ lt)
+
+pub takes_once : (formats : List AvpFormat) (list : List Avp) (place : ℕ) → (entry_at formats place).several ≡ false → takes formats list place ≡ option_to_list (first_of (entry_at formats place).code list)
+takes_once formats list place e = taken_once (entry_at formats place).several (entry_at formats place) list refl e
+
+-- no entry's AVP is missing
+kept : (list : List Avp) (f : AvpFormat) (formats : List AvpFormat) (b : Bool) → is_missing list f ≡ b → missing (f ∷ formats) list ≡ [] → (b ≡ false) × (missing formats list ≡ [])
+kept list f formats true e h = let k : f ∷ missing formats list ≡ [] = rw e at h in absurd cc
+kept list f formats false e h = (refl, rw e at h)
+
+present : (formats : List AvpFormat) (list : List Avp) (k : ℕ) → missing formats list ≡ [] → k < length formats → is_missing list (entry_at formats k) ≡ false
+present [] list k h lt = absurd (omega arith)
+present (f ∷ formats) list zero h lt = (kept list f formats (is_missing list f) refl h).0
+present (f ∷ formats) list (suc k) h lt = present formats list k (kept list f formats (is_missing list f) refl h).1 (omega arith)
+
+there_by : (r : Bool) (o : Option Avp) → (r && (length (option_to_list o) == 0)) ≡ false → r ≡ true → is_some o ≡ true
+there_by true None e h = absurd cc
+there_by true (Some a) e h = refl
+there_by false o e h = absurd cc
+
+pub there : (formats : List AvpFormat) (list : List Avp) (place : ℕ) → missing formats list ≡ [] → place < length formats → (entry_at formats place).required ≡ true → (entry_at formats place).several ≡ false → is_some (first_of (entry_at formats place).code list) ≡ true
+there formats list place complete lt required once =
+    there_by (entry_at formats place).required (first_of (entry_at formats place).code list)
+    (ap (λ (l : List Avp). (entry_at formats place).required && (length l == 0)) (sym (takes_once formats list place once)) ∙ present formats list place complete lt) required
+
+none_some : (o : Option Avp) → None ≡ o → is_some o ≡ true → ⊥
+none_some None e h = cc
+none_some (Some a) e h = cc
+
+pub some_from : (r : Option AvpView) (o : Option Avp) → option_map seen r ≡ o → is_some o ≡ true → IsSome r
+some_from None o e h = absurd (none_some o e h)
+some_from (Some v) o e h = refl
+
+pub sound_if : (added : List Definition) (event : Bool) (code : ℕ) (list : List Avp) (r : Option AvpView) → option_map seen r ≡ first_of code list → All (IsGood (known added) event 4) list → IfSome r (λ v. IsSound added code (seen v))
+sound_if added event code list None e good = tt
+sound_if added event code list (Some v) e good = sound_first added event code list (seen v) (sym e) good
+
+pub text_ok : {X : Type 0} (octets : List ℕ) (r : Result X FieldFault) → IfErr r (λ f. (f ≡ fieldfaults.BadValue) × ¬ (IsUtf8 octets)) → is_utf8 octets ≡ true → IsOk r
+text_ok octets (Ok x) h e = refl
+text_ok octets (Err f) h e = let n : is_utf8 octets ≡ false = not_utf8 octets h.1 in absurd cc
+
+get-seen : (avps : List AvpView) (i : ℕ) (d : AvpView) (e : Avp) → i < length avps → get_or (seen_all avps) i e ≡ seen (get_or avps i d)
+get-seen [] i d e lt = absurd (omega arith)
+get-seen (v ∷ avps) zero d e lt = refl
+get-seen (v ∷ avps) (suc i) d e lt = get-seen avps i d e (omega arith)
+
+pub number_at : (added : List Definition) (event : Bool) (code : ℕ) (avps : List AvpView) (i : ℕ) (d : AvpView) → i < length avps → All (IsGood (known added) event 4) (seen_all avps) → is_coded code (seen (get_or avps i d)) ≡ true → AreNumbers added code
+    → length (seen (get_or avps i d)).octets ≡ 4
+number_at added event code avps i d lt good own s =
+    let a = seen (get_or avps i d) in
+    number_size added event code a own (subst (IsGood (known added) event 4) (get-seen avps i d a lt) (good i a (omega (arith, length-map avps seen)))) s
+
+pub short_at : (list : List Avp) (place : ℕ) (a : Avp) → Some a ≡ slice_get list place → All (λ x. length_of x < 2 ^ 24) list → length_of a < 2 ^ 24
+short_at list place a e h =
+    let at : slice_get list place ≡ Some a = sym e in
+    rw (sym (get_or_from_slice_get list place a a at)) (h place a (slice_get_within list place a at))
+
+flat_more : {X : Type 0} (g : ℕ → List X) (xs ys : List ℕ) → flat_map g (xs ++ ys) ≡ flat_map g xs ++ flat_map g ys
+flat_more g [] ys = refl
+flat_more g (x ∷ xs) ys = rw (flat_more g xs ys) (sym (append_assoc (g x) (flat_map g xs) (flat_map g ys)))
+
+pub placed_next : (f : Avp → Avp) (list : List Avp) (places : List ℕ) (i : ℕ) (d : ℕ) → i < length places
+    → map f (all_placed list (take i places)) ++ map f (option_to_list (slice_get list (get_or places i d))) ≡ map f (all_placed list (take (i + 1) places))
+placed_next f list places i d lt =
+    let e : i + 1 ≡ suc i = omega arith in
+    let o = option_to_list (slice_get list (get_or places i d)) in
+    rw (e, take-suc places i d lt, flat_more (λ p. option_to_list (slice_get list p)) (take i places) (get_or places i d ∷ []), append-nil o) (sym (map-append f (all_placed list (take i places)) o))
