@@ -7,20 +7,20 @@ use Rattle.std.proofs.lemmas.List.Elements.{All-head, All-tail}
 use Rattle.byteorder.specs.Endian.{big_bytes, big_number}
 use Rattle.dia_avp.specs.declared.avp.Avp.{Avp}
 use Rattle.dia_avp.specs.Encoding.{encoding}
-use Rattle.dia_avp.specs.Reading.{avps_in}
 use Rattle.dia_avp.proofs.Bytes.{big_bytes_4}
 use Rattle.dia_dict.specs.declared.definition.Definition.{Definition}
 use Rattle.dia_dict.specs.Dictionary.{definition_of}
 use Rattle.dia_tree.specs.Kind.{is_grouped}
 use Rattle.dia_tree.specs.Canonical.{canonical}
 use Rattle.dia_tree.proofs.CanonicalLaws.{canonical_head, canonical-plain, canonical-group}
+use Rattle.dia_tree.proofs.CanonicalRelation.{IsCanonical-again, AreCanonical-again}
 use Rattle.dia_command.specs.declared.typed.TypedAvp.{TypedAvp}
 use Rattle.dia_command.specs.declared.value.RequestType.{RequestType}
 use Rattle.dia_command.specs.declared.value.RequestType.TheVariants.{Initial, Update, Termination, Event}
 use Rattle.dia_command.specs.declared.value.RequestedAction.{RequestedAction}
 use Rattle.dia_command.specs.declared.value.RequestedAction.TheVariants.{DirectDebiting, RefundAccount, CheckBalance, PriceEnquiry, Other}
 use Rattle.dia_command.specs.Value.{type_number, type_coded, action_number, action_coded}
-use Rattle.dia_command.specs.Field.{Field, Octets, Numbers, Types, Actions, Groups, avp_of, avps_coded, number_in, type_in, action_in, group_in, typed_as}
+use Rattle.dia_command.specs.Field.{Field, Octets, Numbers, Types, Actions, Groups, avp_of, avps_coded, number_in, IsOctets, IsNumber, IsType, IsAction, IsGroup, IsValueOf, AreValues}
 use Rattle.dia_command.specs.Laws.{IsRead, IsReadOf, WrittenAgain}
 
 some_is : {T : Type 0} → (x y : T) → Some x ≡ Some y → x ≡ y
@@ -57,45 +57,28 @@ number_by octets true n f e fits =
     rw (← some_is (big_number 4 octets) n e) (big_bytes_4 octets (omega arith) fits ∙ take_all 4 octets (omega arith))
 number_by octets false n f e fits = absurd cc
 
-abbrev Writes_again : {T : Type 0} → (List ℕ → Option T) → (T → List ℕ) → Type 0
-Writes_again {T} read data_of = (octets : List ℕ) (value : T) → read octets ≡ Some value → ((i : ℕ) → get_or octets i 0 < 256) → data_of value ≡ octets
+abbrev Writes_again : {T : Type 0} → (List ℕ → T → Type 0) → (T → List ℕ) → Type 0
+Writes_again {T} Is data_of = (octets : List ℕ) (value : T) → Is octets value → ((i : ℕ) → get_or octets i 0 < 256) → data_of value ≡ octets
 
-number_data : Writes_again number_in (big_bytes 4)
+number_data : Writes_again IsNumber (big_bytes 4)
 number_data octets n e fits = number_by octets (length octets == 4) n refl e fits
 
 type_from : (octets : List ℕ) (x : Option ℕ) (t : RequestType) → number_in octets ≡ x → option_and_then type_coded x ≡ Some t → ((i : ℕ) → get_or octets i 0 < 256) → big_bytes 4 (type_number t) ≡ octets
 type_from octets None t f e fits = absurd cc
 type_from octets (Some n) t f e fits = rw (type_again n t e) (number_data octets n f fits)
 
-type_data : Writes_again type_in (λ t. big_bytes 4 (type_number t))
+type_data : Writes_again IsType (λ t. big_bytes 4 (type_number t))
 type_data octets t e fits = type_from octets (number_in octets) t refl e fits
 
 action_from : (octets : List ℕ) (x : Option ℕ) (a : RequestedAction) → number_in octets ≡ x → option_map action_coded x ≡ Some a → ((i : ℕ) → get_or octets i 0 < 256) → big_bytes 4 (action_number a) ≡ octets
 action_from octets None a f e fits = absurd cc
 action_from octets (Some n) a f e fits = rw (← some_is (action_coded n) a e) (rw (action_again n) (number_data octets n f fits))
 
-action_data : Writes_again action_in (λ a. big_bytes 4 (action_number a))
+action_data : Writes_again IsAction (λ a. big_bytes 4 (action_number a))
 action_data octets a e fits = action_from octets (number_in octets) a refl e fits
 
-octets_data : Writes_again Some (λ octets. octets)
-octets_data octets value e fits = sym (some_is octets value e)
-
--- what a value says of the AVP that it was read from
-pub record ReadFrom {T : Type 0} (x : Option T) (a : Avp) (v : TypedAvp T) : Type 0 where
-  pub value : x ≡ Some v.value
-  pub mandatory : v.mandatory ≡ a.mandatory
-  pub protected : v.protected ≡ a.protected
-
-read_from : {T : Type 0} (x : Option T) (a : Avp) (v : TypedAvp T) → option_map (λ value. record { mandatory = a.mandatory; protected = a.protected; value = value }) x ≡ Some v → ReadFrom x a v
-read_from None a v e = absurd cc
-read_from {T} (Some y) a v e =
-    let w : TypedAvp T = record { mandatory = a.mandatory; protected = a.protected; value = y } in
-    let f : w ≡ v = some_is w v e in
-    record {
-      value = ap (λ (z : TypedAvp T). Some z.value) f;
-      mandatory = sym (ap (λ (z : TypedAvp T). z.mandatory) f);
-      protected = sym (ap (λ (z : TypedAvp T). z.protected) f);
-    }
+octets_data : Writes_again IsOctets (λ octets. octets)
+octets_data octets value e fits = e
 
 avp_made : ℕ → Option ℕ → Bool → Bool → List ℕ → Avp
 avp_made code vendor m p octets = record { code = code; vendor = vendor; mandatory = m; protected = p; octets = octets }
@@ -108,46 +91,38 @@ definition_is : (d : List Definition) (code : ℕ) (a : Avp) → IsRead code a �
 definition_is d code a r =
     ap (λ (n : ℕ). definition_of d n a.vendor) r.code_is ∙ ap (λ (v : Option ℕ). definition_of d code v) r.no_vendor
 
-abbrev Each : {T : Type 0} → List Definition → ℕ → (List ℕ → Option T) → (T → List ℕ) → Type 0
-Each {T} d code read data_of = (a : Avp) (v : TypedAvp T) → IsRead code a → typed_as read a ≡ Some v → avp_of data_of code v ≡ canonical d 4 a
+abbrev Each : {T : Type 0} → List Definition → ℕ → (List ℕ → T → Type 0) → (T → List ℕ) → Type 0
+Each {T} d code Is data_of = (a : Avp) (v : TypedAvp T) → IsRead code a → IsValueOf Is v a → avp_of data_of code v ≡ canonical d 4 a
 
-plain_each : {T : Type 0} (d : List Definition) (code : ℕ) (read : List ℕ → Option T) (data_of : T → List ℕ) → is_grouped (definition_of d code None) ≡ false → Writes_again read data_of → Each d code read data_of
+plain_each : {T : Type 0} (d : List Definition) (code : ℕ) (Is : List ℕ → T → Type 0) (data_of : T → List ℕ) → is_grouped (definition_of d code None) ≡ false → Writes_again Is data_of → Each d code Is data_of
 unfolding avp_made
-plain_each d code read data_of plain again a v r e =
-    let from = read_from (read a.octets) a v e in
-    same_avp code v.mandatory v.protected (data_of v.value) a (sym r.code_is) (sym r.no_vendor) from.mandatory from.protected (again a.octets v.value from.value r.octets_are)
+plain_each d code Is data_of plain again a v r h =
+    same_avp code v.mandatory v.protected (data_of v.value) a (sym r.code_is) (sym r.no_vendor) h.mandatory h.protected (again a.octets v.value h.value r.octets_are)
     ∙ sym (canonical-plain d 4 a (ap is_grouped (definition_is d code a r) ∙ plain))
 
-group_each : (d : List Definition) (code : ℕ) → is_grouped (definition_of d code None) ≡ true → Each d code (group_in d) encoding
+group_each : (d : List Definition) (code : ℕ) → is_grouped (definition_of d code None) ≡ true → Each d code (IsGroup d) encoding
 unfolding avp_made
-group_each d code group a v r e =
-    let from = read_from (group_in d a.octets) a v e in
-    let h = canonical_head d 4 a in
-    same_avp code v.mandatory v.protected (encoding v.value) (canonical d 4 a) (sym (h.code ∙ r.code_is)) (sym (h.vendor ∙ r.no_vendor)) (from.mandatory ∙ sym h.mandatory) (from.protected ∙ sym h.protected)
-    (ap encoding (sym (some_is (map (canonical d 3) (avps_in a.octets).0) v.value from.value))
+group_each d code group a v r h =
+    let s = canonical_head d 4 a in
+    same_avp code v.mandatory v.protected (encoding v.value) (canonical d 4 a) (sym (s.code ∙ r.code_is)) (sym (s.vendor ∙ r.no_vendor)) (h.mandatory ∙ sym s.mandatory) (h.protected ∙ sym s.protected)
+    (ap encoding (AreCanonical-again d 3 a.octets v.value (IsCanonical-again d 3) h.value)
     ∙ sym (ap (λ (b : Avp). b.octets) (canonical-group d 3 a (ap is_grouped (definition_is d code a r) ∙ group))))
 
-head_is : {X : Type 0} → (x y : X) (xs ys : List X) → x ∷ xs ≡ y ∷ ys → x ≡ y
-head_is x y xs ys e = cc
-
-tail_is : {X : Type 0} → (x y : X) (xs ys : List X) → x ∷ xs ≡ y ∷ ys → xs ≡ ys
-tail_is x y xs ys e = cc
-
-values_again : {T : Type 0} (d : List Definition) (code : ℕ) (read : List ℕ → Option T) (data_of : T → List ℕ) → Each d code read data_of → (values : List (TypedAvp T)) (list : List Avp) → map Some values ≡ map (typed_as read) list → All (IsRead code) list → map (avp_of data_of code) values ≡ map (canonical d 4) list
-values_again d code read data_of each [] [] e all = refl
-values_again d code read data_of each [] (a ∷ list) e all = absurd cc
-values_again d code read data_of each (v ∷ values) [] e all = absurd cc
-values_again d code read data_of each (v ∷ values) (a ∷ list) e all =
-    rw (each a v (All-head (IsRead code) a list all) (sym (head_is (Some v) (typed_as read a) (map Some values) (map (typed_as read) list) e)))
-    (ap (λ (l : List Avp). canonical d 4 a ∷ l) (values_again d code read data_of each values list (tail_is (Some v) (typed_as read a) (map Some values) (map (typed_as read) list) e) (All-tail (IsRead code) a list all)))
+values_again : {T : Type 0} (d : List Definition) (code : ℕ) (Is : List ℕ → T → Type 0) (data_of : T → List ℕ) → Each d code Is data_of → (values : List (TypedAvp T)) (list : List Avp) → AreValues Is values list → All (IsRead code) list → map (avp_of data_of code) values ≡ map (canonical d 4) list
+values_again d code Is data_of each [] [] h all = refl
+values_again d code Is data_of each [] (a ∷ list) h all = absurd h
+values_again d code Is data_of each (v ∷ values) [] h all = absurd h
+values_again d code Is data_of each (v ∷ values) (a ∷ list) h all =
+    rw (each a v (All-head (IsRead code) a list all) h.0)
+    (ap (λ (l : List Avp). canonical d 4 a ∷ l) (values_again d code Is data_of each values list h.1 (All-tail (IsRead code) a list all)))
 
 -- the AVPs of a field that was read
 pub field_again : (d : List Definition) (code : ℕ) (field : Field) (list : List Avp) → IsReadOf d code field list → avps_coded code field ≡ map (canonical d 4) list
-field_again d code (Octets values) list r = values_again d code Some (λ octets. octets) (plain_each d code Some (λ octets. octets) r.kind octets_data) values list r.value r.each
-field_again d code (Numbers values) list r = values_again d code number_in (big_bytes 4) (plain_each d code number_in (big_bytes 4) r.kind number_data) values list r.value r.each
-field_again d code (Types values) list r = values_again d code type_in (λ t. big_bytes 4 (type_number t)) (plain_each d code type_in (λ t. big_bytes 4 (type_number t)) r.kind type_data) values list r.value r.each
-field_again d code (Actions values) list r = values_again d code action_in (λ a. big_bytes 4 (action_number a)) (plain_each d code action_in (λ a. big_bytes 4 (action_number a)) r.kind action_data) values list r.value r.each
-field_again d code (Groups values) list r = values_again d code (group_in d) encoding (group_each d code r.kind) values list r.value r.each
+field_again d code (Octets values) list r = values_again d code IsOctets (λ octets. octets) (plain_each d code IsOctets (λ octets. octets) r.kind octets_data) values list r.value r.each
+field_again d code (Numbers values) list r = values_again d code IsNumber (big_bytes 4) (plain_each d code IsNumber (big_bytes 4) r.kind number_data) values list r.value r.each
+field_again d code (Types values) list r = values_again d code IsType (λ t. big_bytes 4 (type_number t)) (plain_each d code IsType (λ t. big_bytes 4 (type_number t)) r.kind type_data) values list r.value r.each
+field_again d code (Actions values) list r = values_again d code IsAction (λ a. big_bytes 4 (action_number a)) (plain_each d code IsAction (λ a. big_bytes 4 (action_number a)) r.kind action_data) values list r.value r.each
+field_again d code (Groups values) list r = values_again d code (IsGroup d) encoding (group_each d code r.kind) values list r.value r.each
 
 map-joined : (f : Avp → Avp) (xs ys : List Avp) → map f (xs ++ ys) ≡ map f xs ++ map f ys
 map-joined f [] ys = refl

@@ -4,9 +4,8 @@ use Rattle.std.specs.Option.{option_map, option_and_then}
 use Rattle.byteorder.specs.Endian.{big_bytes, big_number}
 use Rattle.dia_avp.specs.declared.avp.Avp.{Avp}
 use Rattle.dia_avp.specs.Encoding.{encoding}
-use Rattle.dia_avp.specs.Reading.{avps_in}
 use Rattle.dia_dict.specs.declared.definition.Definition.{Definition}
-use Rattle.dia_tree.specs.Canonical.{canonical}
+use Rattle.dia_tree.specs.Canonical.{AreCanonical}
 use Rattle.dia_command.specs.declared.typed.TypedAvp.{TypedAvp}
 use Rattle.dia_command.specs.declared.value.RequestType.{RequestType}
 use Rattle.dia_command.specs.declared.value.RequestedAction.{RequestedAction}
@@ -38,7 +37,7 @@ abbrev pub avps_by : List AvpFormat → List Field → List Avp
 avps_by (f ∷ format) (field ∷ fields) = avps_coded f.code field ++ avps_by format fields
 avps_by format fields = []
 
--- what an AVP's data is as a number of 4 octets, a CC-Request-Type, a Requested-Action, a group of AVPs, each canonical
+-- what an AVP's data is as a number of 4 octets, a CC-Request-Type, a Requested-Action
 abbrev pub number_in : List ℕ → Option ℕ
 number_in octets = if length octets == 4 then Some (big_number 4 octets) else None
 
@@ -48,21 +47,39 @@ type_in octets = option_and_then type_coded (number_in octets)
 abbrev pub action_in : List ℕ → Option RequestedAction
 action_in octets = option_map action_coded (number_in octets)
 
-abbrev pub group_in : List Definition → List ℕ → Option (List Avp)
-group_in definitions octets = Some (map (canonical definitions 3) (avps_in octets).0)
+-- the value that data are: octets as they are, a number, a CC-Request-Type, a Requested-Action, AVPs in their canonical
+-- encoding
+abbrev pub IsOctets : List ℕ → List ℕ → Type 0
+IsOctets octets value = value ≡ octets
 
--- what an AVP's data is, with the AVP's flags M and P
-abbrev pub typed_as : {T : Type 0} → (List ℕ → Option T) → Avp → Option (TypedAvp T)
-typed_as read a = option_map (λ value. record { mandatory = a.mandatory; protected = a.protected; value = value }) (read a.octets)
+abbrev pub IsNumber : List ℕ → ℕ → Type 0
+IsNumber octets value = number_in octets ≡ Some value
 
--- each AVP's data is of that type, and the values are these, in order
-abbrev pub Reads : {T : Type 0} → (List ℕ → Option T) → List (TypedAvp T) → List Avp → Type 0
-Reads read values list = map Some values ≡ map (typed_as read) list
+abbrev pub IsType : List ℕ → RequestType → Type 0
+IsType octets value = type_in octets ≡ Some value
 
--- the field's values are those of these AVPs, in order, with their flags M and P
+abbrev pub IsAction : List ℕ → RequestedAction → Type 0
+IsAction octets value = action_in octets ≡ Some value
+
+abbrev pub IsGroup : List Definition → List ℕ → List Avp → Type 0
+IsGroup definitions octets list = AreCanonical definitions 3 octets list
+
+-- a value is that of an AVP, with its flags M and P; `Is` says which value the AVP's data are
+pub record IsValueOf {T : Type 0} (Is : List ℕ → T → Type 0) (v : TypedAvp T) (a : Avp) : Type 0 where
+  pub mandatory : v.mandatory ≡ a.mandatory
+  pub protected : v.protected ≡ a.protected
+  pub value : Is a.octets v.value
+
+-- values are those of AVPs, one of each, in order
+abbrev pub AreValues : {T : Type 0} → (Is : List ℕ → T → Type 0) → List (TypedAvp T) → List Avp → Type 0
+AreValues Is [] [] = Unit {0}
+AreValues Is (v ∷ values) (a ∷ list) = IsValueOf Is v a × AreValues Is values list
+AreValues Is values list = ⊥
+
+-- the field's values are those of these AVPs
 abbrev pub IsFieldOf : List Definition → Field → List Avp → Type 0
-IsFieldOf definitions (Octets values) list = Reads Some values list
-IsFieldOf definitions (Numbers values) list = Reads number_in values list
-IsFieldOf definitions (Types values) list = Reads type_in values list
-IsFieldOf definitions (Actions values) list = Reads action_in values list
-IsFieldOf definitions (Groups values) list = Reads (group_in definitions) values list
+IsFieldOf definitions (Octets values) list = AreValues IsOctets values list
+IsFieldOf definitions (Numbers values) list = AreValues IsNumber values list
+IsFieldOf definitions (Types values) list = AreValues IsType values list
+IsFieldOf definitions (Actions values) list = AreValues IsAction values list
+IsFieldOf definitions (Groups values) list = AreValues (IsGroup definitions) values list

@@ -21,10 +21,11 @@ use Rattle.dia_dict.specs.Dictionary.{known, definition_of}
 use Rattle.dia_tree.specs.Kind.{is_grouped}
 use Rattle.dia_tree.specs.declared.fault.MsgFault.{MsgFault}
 use Rattle.dia_tree.specs.Faults.{is_coded, group_faults, missing_fault, IsGood}
-use Rattle.dia_tree.specs.Canonical.{canonical, IsCanonical, AreEach}
+use Rattle.dia_tree.specs.Canonical.{canonical, IsCanonical, AreCanonical, AreEach}
+use Rattle.dia_tree.proofs.CanonicalRelation.{IsCanonical-takes, IsCanonical-again, AreCanonical-takes, AreCanonical-again}
 use Rattle.dia_tree.proofs.RelationLaws.{all_are}
 use Rattle.dia_tree.proofs.FaultLaws.{none_both, each_good, few, good_octets}
-use Rattle.dia_tree.proofs.CanonicalLaws.{canonical_head, canonical-plain, canonical-group, canonical_inner, canonicals_good, canonicals_numbers, canonicals_not_zero, canonicals_bytes, canonicals_room, canonicals_again}
+use Rattle.dia_tree.proofs.CanonicalLaws.{canonical_head, canonical-plain, canonical-group, canonical_inner, canonical_bytes, canonicals_good, canonicals_numbers, canonicals_not_zero, canonicals_bytes, canonicals_room, canonicals_again}
 use Rattle.dia_command.specs.declared.command.Command.{Command}
 use Rattle.dia_command.specs.declared.command.Command.TheVariants.{Cer, Cea, Dwr, Dwa, Dpr, Dpa, Rar, Raa, Ccr, Cca, ErrorAnswer}
 use Rattle.dia_command.specs.declared.header.Flags.{Flags}
@@ -35,7 +36,7 @@ use Rattle.dia_command.specs.declared.format.AvpFormat.{AvpFormat}
 use Rattle.dia_command.specs.declared.typed.TypedAvp.{TypedAvp}
 use Rattle.dia_command.specs.Header.{header_in, header_octets, flags_in, flags_octet}
 use Rattle.dia_command.specs.Format.{kind_coded, application_of, format_of}
-use Rattle.dia_command.specs.Field.{Field, Octets, Numbers, Types, Actions, Groups, avps_by, number_in, group_in, typed_as, IsFieldOf}
+use Rattle.dia_command.specs.Field.{Field, Octets, Numbers, Types, Actions, Groups, avps_by, number_in, IsGroup, IsValueOf, AreValues, IsFieldOf}
 use Rattle.dia_command.specs.Command.{kind_of, header_of, fields, rest_of, avps_of, with_length}
 use Rattle.dia_command.specs.Encoding.{message_len, encode}
 use Rattle.dia_command.specs.Laws.{IsRead, has_groups, IsReadOf, AreReadOf}
@@ -388,24 +389,25 @@ inner d octets fits short =
     ap (λ (x : List Avp × List ℕ). map (canonical d 3) x.0) (canonical_inner d 3 octets fits short)
     ∙ canonicals_again d 3 (avps_in octets).0 (avps_in-bytes octets fits) (avps_in-short octets fits)
 
-abbrev group_value : List Definition → Avp → Option (TypedAvp (List Avp))
-group_value d a = typed_as (group_in d) a
-
-value_again : (d : List Definition) (code : ℕ) (a : Avp) → IsRead code a → IsShort a → is_grouped (definition_of d code None) ≡ true → group_value d (canonical d 4 a) ≡ group_value d a
-value_again d code a r short group =
-    let definition : definition_of d a.code a.vendor ≡ definition_of d code None = ap (λ (n : ℕ). definition_of d n a.vendor) r.code_is ∙ ap (λ (v : Option ℕ). definition_of d code v) r.no_vendor in
+group_again : (d : List Definition) (code : ℕ) (a : Avp) (v : TypedAvp (List Avp)) → IsRead code a → IsShort a → is_grouped (definition_of d code None) ≡ true → IsValueOf (IsGroup d) v a → IsValueOf (IsGroup d) v (canonical d 4 a)
+group_again d code a v r short group k =
+    let definition : definition_of d a.code a.vendor ≡ definition_of d code None = ap (λ (n : ℕ). definition_of d n a.vendor) r.code_is ∙ ap (λ (o : Option ℕ). definition_of d code o) r.no_vendor in
     let h = canonical_head d 4 a in
     let o : (canonical d 4 a).octets ≡ encoding (map (canonical d 3) (avps_in a.octets).0) = ap (λ (b : Avp). b.octets) (canonical-group d 3 a (ap is_grouped definition ∙ group)) in
-    rw (h.mandatory, h.protected, o, inner d a.octets r.octets_are (short_data a short)) refl
+    let same : map (canonical d 3) (avps_in (canonical d 4 a).octets).0 ≡ v.value =
+    ap (λ (s : List ℕ). map (canonical d 3) (avps_in s).0) o ∙ inner d a.octets r.octets_are (short_data a short) ∙ sym (AreCanonical-again d 3 a.octets v.value (IsCanonical-again d 3) k.value) in
+    record {
+      mandatory = k.mandatory ∙ sym h.mandatory;
+      protected = k.protected ∙ sym h.protected;
+      value = subst (AreCanonical d 3 (canonical d 4 a).octets) same (AreCanonical-takes d 3 (canonical d 4 a).octets (canonical_bytes d 4 a r.octets_are) (IsCanonical-takes d 3));
+    }
 
-both_values : (x y : Option (TypedAvp (List Avp))) (xs ys : List (Option (TypedAvp (List Avp)))) → x ≡ y → xs ≡ ys → x ∷ xs ≡ y ∷ ys
-both_values x y xs ys e f = rw (e, f) refl
-
-values_again : (d : List Definition) (code : ℕ) (list : List Avp) → All (IsRead code) list → All IsShort list → is_grouped (definition_of d code None) ≡ true → map (group_value d) (map (canonical d 4) list) ≡ map (group_value d) list
-values_again d code [] r s group = refl
-values_again d code (a ∷ list) r s group =
-    both_values _ _ _ _ (value_again d code a (All-head (IsRead code) a list r) (All-head IsShort a list s) group)
-    (values_again d code list (All-tail (IsRead code) a list r) (All-tail IsShort a list s) group)
+groups_again : (d : List Definition) (code : ℕ) (values : List (TypedAvp (List Avp))) (list : List Avp) → All (IsRead code) list → All IsShort list → is_grouped (definition_of d code None) ≡ true → AreValues (IsGroup d) values list → AreValues (IsGroup d) values (map (canonical d 4) list)
+groups_again d code [] [] r s group h = tt
+groups_again d code [] (a ∷ list) r s group h = absurd h
+groups_again d code (v ∷ values) [] r s group h = absurd h
+groups_again d code (v ∷ values) (a ∷ list) r s group h =
+    (group_again d code a v (All-head (IsRead code) a list r) (All-head IsShort a list s) group h.0, groups_again d code values list (All-tail (IsRead code) a list r) (All-tail IsShort a list s) group h.1)
 
 field_plain : (d : List Definition) (code : ℕ) (v : Field) (list : List Avp) → IsReadOf d code v list → has_groups v ≡ false → IsFieldOf d v (map (canonical d 4) list)
 field_plain d code v list r e = subst (IsFieldOf d v) (sym (each_plain d code list r.each (r.kind ∙ e))) r.value
@@ -415,7 +417,7 @@ field_stays d code (Octets v) list r s = field_plain d code (Octets v) list r re
 field_stays d code (Numbers v) list r s = field_plain d code (Numbers v) list r refl
 field_stays d code (Types v) list r s = field_plain d code (Types v) list r refl
 field_stays d code (Actions v) list r s = field_plain d code (Actions v) list r refl
-field_stays d code (Groups v) list r s = r.value ∙ sym (values_again d code list r.each s r.kind)
+field_stays d code (Groups v) list r s = groups_again d code v list r.each s r.kind r.value
 
 fields_stay : (d : List Definition) (formats : List AvpFormat) (values : List Field) (list w : List Avp) → ((f : AvpFormat) → taken f w ≡ map (canonical d 4) (taken f list)) → All IsShort list
     → AreReadOf d formats values (groups formats list) → AreFields d values (groups formats w)

@@ -1,26 +1,57 @@
 -- The fields that are read from AVPs are one list.
-use Rattle.std.proofs.Common.{◌≡◌, ℕ, List, [], ◌∷◌, map, Some, refl, sym, ap, ◌∙◌}
+use Rattle.std.proofs.Common.{◌≡◌, ℕ, Bool, List, [], ◌∷◌, map, Some, refl, sym, ap, ◌∙◌}
 use Rattle.dia_avp.specs.declared.avp.Avp.{Avp}
 use Rattle.dia_dict.specs.declared.definition.Definition.{Definition}
+use Rattle.dia_tree.proofs.CanonicalRelation.{IsCanonical-again, AreCanonical-again}
 use Rattle.dia_command.specs.declared.command.Command.{Command}
 use Rattle.dia_command.specs.declared.command.Command.TheVariants.{Cer, Cea, Dwr, Dwa, Dpr, Dpa, Rar, Raa, Ccr, Cca, ErrorAnswer}
 use Rattle.dia_command.specs.declared.kind.CommandKind.{CommandKind}
 use Rattle.dia_command.specs.declared.kind.CommandKind.TheVariants as kinds
-use Rattle.dia_command.specs.Field.{Field, Octets, Numbers, Types, Actions, Groups, IsFieldOf}
+use Rattle.dia_command.specs.declared.typed.TypedAvp.{TypedAvp}
+use Rattle.dia_command.specs.Field.{Field, Octets, Numbers, Types, Actions, Groups, IsOctets, IsNumber, IsType, IsAction, IsGroup, IsValueOf, AreValues, IsFieldOf}
 use Rattle.dia_command.specs.Command.{kind_of, fields}
 use Rattle.dia_msg.specs.Reading.{AreFields}
 
 some_is : {T : Type 0} (x y : T) → Some x ≡ Some y → x ≡ y
 some_is x y e = cc
 
-all_some : {T : Type 0} (xs ys : List T) → map Some xs ≡ map Some ys → xs ≡ ys
-all_some [] [] e = refl
-all_some [] (y ∷ ys) e = absurd cc
-all_some (x ∷ xs) [] e = absurd cc
-all_some {T = T} (x ∷ xs) (y ∷ ys) e =
-    let first : Some x ≡ Some y = cc in
-    let later : map Some xs ≡ map Some ys = cc in
-    rw (some_is x y first, all_some xs ys later) refl
+-- data are at most one value
+abbrev One : {T : Type 0} → (List ℕ → T → Type 0) → Type 0
+One {T} Is = (octets : List ℕ) (x y : T) → Is octets x → Is octets y → x ≡ y
+
+one_octets : One IsOctets
+one_octets octets x y h k = h ∙ sym k
+
+one_number : One IsNumber
+one_number octets x y h k = some_is x y (sym h ∙ k)
+
+one_type : One IsType
+one_type octets x y h k = some_is x y (sym h ∙ k)
+
+one_action : One IsAction
+one_action octets x y h k = some_is x y (sym h ∙ k)
+
+one_group : (d : List Definition) → One (IsGroup d)
+one_group d octets x y h k = AreCanonical-again d 3 octets x (IsCanonical-again d 3) h ∙ sym (AreCanonical-again d 3 octets y (IsCanonical-again d 3) k)
+
+typed : {T : Type 0} → Bool → Bool → T → TypedAvp T
+typed m p x = record { mandatory = m; protected = p; value = x }
+
+same_typed : {T : Type 0} (m n p q : Bool) (x y : T) → m ≡ n → p ≡ q → x ≡ y → typed m p x ≡ typed n q y
+same_typed m n p q x y e f g = rw (e, f, g) refl
+
+same_value : {T : Type 0} (Is : List ℕ → T → Type 0) (v w : TypedAvp T) (a : Avp) → One Is → IsValueOf Is v a → IsValueOf Is w a → v ≡ w
+unfolding typed
+same_value Is v w a one h k = same_typed v.mandatory w.mandatory v.protected w.protected v.value w.value (h.mandatory ∙ sym k.mandatory) (h.protected ∙ sym k.protected) (one a.octets v.value w.value h.value k.value)
+
+same_values : {T : Type 0} (Is : List ℕ → T → Type 0) (xs ys : List (TypedAvp T)) (list : List Avp) → One Is → AreValues Is xs list → AreValues Is ys list → xs ≡ ys
+same_values Is [] [] list one h k = refl
+same_values Is [] (y ∷ ys) [] one h k = absurd k
+same_values Is [] (y ∷ ys) (a ∷ list) one h k = absurd h
+same_values Is (x ∷ xs) [] [] one h k = absurd h
+same_values Is (x ∷ xs) [] (a ∷ list) one h k = absurd k
+same_values Is (x ∷ xs) (y ∷ ys) [] one h k = absurd h
+same_values Is (x ∷ xs) (y ∷ ys) (a ∷ list) one h k = rw (same_value Is x y a one h.0 k.0, same_values Is xs ys list one h.1 k.1) refl
 
 -- which form of values a field has
 abbrev shape : Field → ℕ
@@ -31,31 +62,31 @@ shape (Actions values) = 3
 shape (Groups values) = 4
 
 one_field : (d : List Definition) (x y : Field) (list : List Avp) → IsFieldOf d x list → IsFieldOf d y list → shape x ≡ shape y → x ≡ y
-one_field d (Octets v) (Octets w) list h k e = ap (λ l. Octets l) (all_some v w (h ∙ sym k))
+one_field d (Octets v) (Octets w) list h k e = ap (λ l. Octets l) (same_values IsOctets v w list one_octets h k)
 one_field d (Octets v) (Numbers w) list h k e = absurd cc
 one_field d (Octets v) (Types w) list h k e = absurd cc
 one_field d (Octets v) (Actions w) list h k e = absurd cc
 one_field d (Octets v) (Groups w) list h k e = absurd cc
 one_field d (Numbers v) (Octets w) list h k e = absurd cc
-one_field d (Numbers v) (Numbers w) list h k e = ap (λ l. Numbers l) (all_some v w (h ∙ sym k))
+one_field d (Numbers v) (Numbers w) list h k e = ap (λ l. Numbers l) (same_values IsNumber v w list one_number h k)
 one_field d (Numbers v) (Types w) list h k e = absurd cc
 one_field d (Numbers v) (Actions w) list h k e = absurd cc
 one_field d (Numbers v) (Groups w) list h k e = absurd cc
 one_field d (Types v) (Octets w) list h k e = absurd cc
 one_field d (Types v) (Numbers w) list h k e = absurd cc
-one_field d (Types v) (Types w) list h k e = ap (λ l. Types l) (all_some v w (h ∙ sym k))
+one_field d (Types v) (Types w) list h k e = ap (λ l. Types l) (same_values IsType v w list one_type h k)
 one_field d (Types v) (Actions w) list h k e = absurd cc
 one_field d (Types v) (Groups w) list h k e = absurd cc
 one_field d (Actions v) (Octets w) list h k e = absurd cc
 one_field d (Actions v) (Numbers w) list h k e = absurd cc
 one_field d (Actions v) (Types w) list h k e = absurd cc
-one_field d (Actions v) (Actions w) list h k e = ap (λ l. Actions l) (all_some v w (h ∙ sym k))
+one_field d (Actions v) (Actions w) list h k e = ap (λ l. Actions l) (same_values IsAction v w list one_action h k)
 one_field d (Actions v) (Groups w) list h k e = absurd cc
 one_field d (Groups v) (Octets w) list h k e = absurd cc
 one_field d (Groups v) (Numbers w) list h k e = absurd cc
 one_field d (Groups v) (Types w) list h k e = absurd cc
 one_field d (Groups v) (Actions w) list h k e = absurd cc
-one_field d (Groups v) (Groups w) list h k e = ap (λ l. Groups l) (all_some v w (h ∙ sym k))
+one_field d (Groups v) (Groups w) list h k e = ap (λ l. Groups l) (same_values (IsGroup d) v w list (one_group d) h k)
 
 both : (x y : Field) (xs ys : List Field) → x ≡ y → xs ≡ ys → x ∷ xs ≡ y ∷ ys
 both x y xs ys e f = rw (e, f) refl

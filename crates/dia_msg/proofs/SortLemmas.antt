@@ -271,7 +271,7 @@ get-mapped [] i d lt = absurd (omega arith)
 get-mapped (v ∷ avps) zero d lt = refl
 get-mapped (v ∷ avps) (suc i) d lt = get-mapped avps i d (omega arith)
 
-front-more : (avps : List AvpView) (i : ℕ) (d : AvpView) → i < length avps → seen_all (take i avps) ++ seen (get_or avps i d) ∷ [] ≡ seen_all (take (i + 1) avps)
+pub front-more : (avps : List AvpView) (i : ℕ) (d : AvpView) → i < length avps → seen_all (take i avps) ++ seen (get_or avps i d) ∷ [] ≡ seen_all (take (i + 1) avps)
 front-more avps i d lt =
     let e : i + 1 ≡ suc i = omega arith in
     rw (e, take-suc avps i d lt) (sym (map-append seen (take i avps) (get_or avps i d ∷ [])))

@@ -1,6 +1,6 @@
 -- The AVPs that a field is made of are there, and their data are of its type.
 use Rattle.std.proofs.Common.{◌≡◌, ◌==◌, ◌&&◌, ◌||◌, ℕ, zero, suc, ◌+◌, ◌<◌, ◌≤◌, ◌^◌, ◌++◌, append_assoc, Bool, true, false, cond, List, [], ◌∷◌, length, map, take, filter, get_or, Option, None, Some, All, refl, sym, ap, subst, ◌∙◌, arith}
-use Rattle.std.specs.Prelude.{slice_get, is_none, is_some, nat_lt, IsSome, IfSome, IsOk, IfErr, Result, Ok, Err}
+use Rattle.std.specs.Prelude.{slice_get, is_none, is_some, nat_lt, IsSome, IsOk, IfErr, Result, Ok, Err}
 use Rattle.std.specs.List.{flat_map}
 use Rattle.std.proofs.Math.Seq.{take-suc}
 use Rattle.std.proofs.lemmas.List.{append-nil, map-append, length-map}
@@ -8,7 +8,7 @@ use Rattle.std.specs.Option.{option_map, option_to_list}
 use Rattle.std.specs.Str.{is_utf8, IsUtf8}
 use Rattle.std.proofs.lemmas.Bool.{eqb-true, eqb-false, ltb-false}
 use Rattle.std.proofs.lemmas.Option.{slice_get-get_or, get_or_from_slice_get, slice_get_within}
-use Rattle.std.proofs.lemmas.List.Elements.{All-head, All-filter, filter_passes}
+use Rattle.std.proofs.lemmas.List.Elements.{All-head, All-filter, filter_passes, filter-append}
 use Rattle.byteorder.specs.Endian.{big_number}
 use Rattle.dia_avp.specs.declared.avp.Avp.{Avp}
 use Rattle.dia_avp.specs.declared.avp.AvpView.{AvpView}
@@ -28,11 +28,13 @@ use Rattle.dia_tree.specs.Faults.{fault, is_coded, is_bad_value, least_of, data_
 use Rattle.base_codes.specs.declared.result_code.ResultCode.TheVariants.{InvalidAvpValue}
 use Rattle.dia_command.specs.declared.format.AvpFormat.{AvpFormat}
 use Rattle.dia_command.specs.Value.{type_coded}
-use Rattle.dia_command.specs.Field.{type_in}
+use Rattle.dia_command.specs.declared.typed.TypedAvp.{TypedAvp}
+use Rattle.dia_command.specs.Field.{type_in, IsValueOf, AreValues}
 use Rattle.dia_msg.specs.declared.sorting.Sorted.{Sorted}
 use Rattle.dia_msg.specs.Taken.{is_for, first_of, taken, is_missing, missing}
 use Rattle.dia_msg.specs.Sorting.{seen_all, placed, all_placed, IsSorted}
-use Rattle.dia_msg.specs.Source.{entry_at, takes, AreNumbers, AreTexts, IsSound}
+use Rattle.dia_msg.specs.Source.{entry_at, takes, IsReady, IsOne, IsPerhaps, AreNumbers, AreTexts, IsSound}
+use Rattle.dia_msg.proofs.SortLemmas.{front-more}
 
 both_true : (a b : Bool) → (a && b) ≡ true → (a ≡ true) × (b ≡ true)
 both_true true b e = (refl, e)
@@ -147,15 +149,18 @@ first_all : (P : Avp → Type 0) (list : List Avp) (a : Avp) → slice_get list 
 first_all P [] a e h = absurd cc
 first_all P (x ∷ list) a e h = let same : x ≡ a = cc in subst P same (All-head P x list h)
 
-pub sound_first : (added : List Definition) (event : Bool) (code : ℕ) (list : List Avp) (a : Avp) → first_of code list ≡ Some a → All (IsGood (known added) event 4) list → IsSound added code a
+-- an AVP of a code without a fault has data of its type
+sound_of : (added : List Definition) (event : Bool) (code : ℕ) (a : Avp) → is_coded code a ≡ true → IsGood (known added) event 4 a → IsSound added code a
+sound_of added event code a own good = record {
+  number = number_size added event code a own good;
+  text = text_valid added event code a own good;
+  request_type = λ is. type_good added event a (subst (λ (n : ℕ). is_coded n a ≡ true) is own) good;
+}
+
+sound_first : (added : List Definition) (event : Bool) (code : ℕ) (list : List Avp) (a : Avp) → first_of code list ≡ Some a → All (IsGood (known added) event 4) list → IsSound added code a
 sound_first added event code list a e good =
-    let own = first_all (λ x. is_coded code x ≡ true) (filter (is_coded code) list) a e (filter_passes (is_coded code) list) in
-    let sound = first_all (IsGood (known added) event 4) (filter (is_coded code) list) a e (All-filter (is_coded code) (IsGood (known added) event 4) list good) in
-    record {
-      number = number_size added event code a own sound;
-      text = text_valid added event code a own sound;
-      request_type = λ is. type_good added event a (subst (λ (n : ℕ). is_coded n a ≡ true) is own) sound;
-    }
+    sound_of added event code a (first_all (λ x. is_coded code x ≡ true) (filter (is_coded code) list) a e (filter_passes (is_coded code) list))
+    (first_all (IsGood (known added) event 4) (filter (is_coded code) list) a e (All-filter (is_coded code) (IsGood (known added) event 4) list good))
 
 -- the AVP at the place of an entry
 take_one : (l : List Avp) → take 1 l ≡ option_to_list (slice_get l 0)
@@ -166,10 +171,10 @@ taken_once : (b : Bool) (f : AvpFormat) (list : List Avp) → f.several ≡ b �
 taken_once true f list e h = absurd cc
 taken_once false f list e h = rw e (take_one (filter (is_for f) list))
 
-pub placed_first : (formats : List AvpFormat) (list : List Avp) (s : Sorted) (place : ℕ) → IsSorted formats list s → place < length formats → placed list (get_or s.firsts place None) ≡ first_of (entry_at formats place).code list
+placed_first : (formats : List AvpFormat) (list : List Avp) (s : Sorted) (place : ℕ) → IsSorted formats list s → place < length formats → placed list (get_or s.firsts place None) ≡ first_of (entry_at formats place).code list
 placed_first formats list s place h lt = h.firsts place (entry_at formats place) (slice_get-get_or formats place _ lt)
 
-pub takes_once : (formats : List AvpFormat) (list : List Avp) (place : ℕ) → (entry_at formats place).several ≡ false → takes formats list place ≡ option_to_list (first_of (entry_at formats place).code list)
+takes_once : (formats : List AvpFormat) (list : List Avp) (place : ℕ) → (entry_at formats place).several ≡ false → takes formats list place ≡ option_to_list (first_of (entry_at formats place).code list)
 takes_once formats list place e = taken_once (entry_at formats place).several (entry_at formats place) list refl e
 
 -- no entry's AVP is missing
@@ -192,18 +197,6 @@ there formats list place complete lt required once =
     there_by (entry_at formats place).required (first_of (entry_at formats place).code list)
     (ap (λ (l : List Avp). (entry_at formats place).required && (length l == 0)) (sym (takes_once formats list place once)) ∙ present formats list place complete lt) required
 
-none_some : (o : Option Avp) → None ≡ o → is_some o ≡ true → ⊥
-none_some None e h = cc
-none_some (Some a) e h = cc
-
-pub some_from : (r : Option AvpView) (o : Option Avp) → option_map seen r ≡ o → is_some o ≡ true → IsSome r
-some_from None o e h = absurd (none_some o e h)
-some_from (Some v) o e h = refl
-
-pub sound_if : (added : List Definition) (event : Bool) (code : ℕ) (list : List Avp) (r : Option AvpView) → option_map seen r ≡ first_of code list → All (IsGood (known added) event 4) list → IfSome r (λ v. IsSound added code (seen v))
-sound_if added event code list None e good = tt
-sound_if added event code list (Some v) e good = sound_first added event code list (seen v) (sym e) good
-
 pub text_ok : {X : Type 0} (octets : List ℕ) (r : Result X FieldFault) → IfErr r (λ f. (f ≡ fieldfaults.BadValue) × ¬ (IsUtf8 octets)) → is_utf8 octets ≡ true → IsOk r
 text_ok octets (Ok x) h e = refl
 text_ok octets (Err f) h e = let n : is_utf8 octets ≡ false = not_utf8 octets h.1 in absurd cc
@@ -213,11 +206,62 @@ get-seen [] i d e lt = absurd (omega arith)
 get-seen (v ∷ avps) zero d e lt = refl
 get-seen (v ∷ avps) (suc i) d e lt = get-seen avps i d e (omega arith)
 
-pub number_at : (added : List Definition) (event : Bool) (code : ℕ) (avps : List AvpView) (i : ℕ) (d : AvpView) → i < length avps → All (IsGood (known added) event 4) (seen_all avps) → is_coded code (seen (get_or avps i d)) ≡ true → AreNumbers added code
-    → length (seen (get_or avps i d)).octets ≡ 4
-number_at added event code avps i d lt good own s =
+pub sound_at : (added : List Definition) (event : Bool) (code : ℕ) (avps : List AvpView) (i : ℕ) (d : AvpView) → i < length avps → All (IsGood (known added) event 4) (seen_all avps) → is_coded code (seen (get_or avps i d)) ≡ true
+    → IsSound added code (seen (get_or avps i d))
+sound_at added event code avps i d lt good own =
     let a = seen (get_or avps i d) in
-    number_size added event code a own (subst (IsGood (known added) event 4) (get-seen avps i d a lt) (good i a (omega (arith, length-map avps seen)))) s
+    sound_of added event code a own (subst (IsGood (known added) event 4) (get-seen avps i d a lt) (good i a (omega (arith, length-map avps seen))))
+
+-- the AVP that an entry takes, where it takes one
+pub first_taken : (added : List Definition) (formats : List AvpFormat) (list : List Avp) (s : Sorted) (place : ℕ) (r : Option AvpView) → IsReady added formats list s → IsPerhaps formats place → option_map seen r ≡ placed list (get_or s.firsts place None)
+    → option_map seen r ≡ first_of (entry_at formats place).code list
+first_taken added formats list s place r ready held e = e ∙ placed_first formats list s place ready.sorted held.0
+
+pub taken_seen : (added : List Definition) (formats : List AvpFormat) (list : List Avp) (s : Sorted) (place : ℕ) (r : Option AvpView) → IsReady added formats list s → IsPerhaps formats place → option_map seen r ≡ placed list (get_or s.firsts place None)
+    → takes formats list place ≡ option_to_list (option_map seen r)
+taken_seen added formats list s place r ready held e =
+    takes_once formats list place held.1 ∙ ap (λ (o : Option Avp). option_to_list o) (sym (first_taken added formats list s place r ready held e))
+
+pub taken_sound : (added : List Definition) (formats : List AvpFormat) (list : List Avp) (s : Sorted) (place : ℕ) (r : Option AvpView) (v : AvpView) → IsReady added formats list s → IsPerhaps formats place → option_map seen r ≡ placed list (get_or s.firsts place None)
+    → r ≡ Some v → IsSound added (entry_at formats place).code (seen v)
+taken_sound added formats list s place r v ready held e is =
+    sound_first added ready.event (entry_at formats place).code list (seen v) (sym (first_taken added formats list s place r ready held e) ∙ ap (λ (o : Option AvpView). option_map seen o) is) ready.good
+
+-- a value of an AVP that must be there is there
+value_there : {T : Type 0} (Is : List ℕ → T → Type 0) (o : Option (TypedAvp T)) (a : Option Avp) → AreValues Is (option_to_list o) (option_to_list a) → is_some a ≡ true → IsSome o
+value_there Is None None h e = absurd cc
+value_there Is None (Some a) h e = absurd h
+value_there Is (Some v) a h e = refl
+
+pub one_there : {T : Type 0} (Is : List ℕ → T → Type 0) (formats : List AvpFormat) (list : List Avp) (place : ℕ) (o : Option (TypedAvp T)) → missing formats list ≡ [] → IsOne formats place → AreValues Is (option_to_list o) (takes formats list place) → IsSome o
+one_there Is formats list place o complete held h =
+    value_there Is o (first_of (entry_at formats place).code list) (subst (AreValues Is (option_to_list o)) (takes_once formats list place held.2) h) (there formats list place complete held.0 held.1 held.2)
+
+-- one more AVP, and its value where it is of the code
+values_more : {T : Type 0} (Is : List ℕ → T → Type 0) (values : List (TypedAvp T)) (list : List Avp) (v : TypedAvp T) (a : Avp) → AreValues Is values list → IsValueOf Is v a → AreValues Is (values ++ v ∷ []) (list ++ a ∷ [])
+values_more Is [] [] v a h k = (k, tt)
+values_more Is [] (b ∷ list) v a h k = absurd h
+values_more Is (w ∷ values) [] v a h k = absurd h
+values_more Is (w ∷ values) (b ∷ list) v a h k = (h.0, values_more Is values list v a h.1 k)
+
+abbrev coded_front : ℕ → List AvpView → ℕ → List Avp
+coded_front code avps i = filter (is_coded code) (seen_all (take i avps))
+
+coded_more : (code : ℕ) (avps : List AvpView) (i : ℕ) (d : AvpView) (b : Bool) → i < length avps → is_coded code (seen (get_or avps i d)) ≡ b → coded_front code avps (i + 1) ≡ coded_front code avps i ++ cond b (seen (get_or avps i d) ∷ []) []
+coded_more code avps i d b lt e =
+    let a = seen (get_or avps i d) in
+    ap (λ (l : List Avp). filter (is_coded code) l) (sym (front-more avps i d lt)) ∙ filter-append (is_coded code) (seen_all (take i avps)) (a ∷ [])
+    ∙ ap (λ (c : Bool). coded_front code avps i ++ cond c (a ∷ []) []) e
+
+pub values_next : {T : Type 0} (Is : List ℕ → T → Type 0) (code : ℕ) (avps : List AvpView) (i : ℕ) (d : AvpView) (values : List (TypedAvp T)) (v : TypedAvp T) → i < length avps → is_coded code (seen (get_or avps i d)) ≡ true
+    → AreValues Is values (coded_front code avps i) → IsValueOf Is v (seen (get_or avps i d)) → AreValues Is (values ++ v ∷ []) (coded_front code avps (i + 1))
+values_next Is code avps i d values v lt own h k =
+    subst (AreValues Is (values ++ v ∷ [])) (sym (coded_more code avps i d true lt own)) (values_more Is values (coded_front code avps i) v (seen (get_or avps i d)) h k)
+
+pub values_other : {T : Type 0} (Is : List ℕ → T → Type 0) (code : ℕ) (avps : List AvpView) (i : ℕ) (d : AvpView) (values : List (TypedAvp T)) → i < length avps → is_coded code (seen (get_or avps i d)) ≡ false
+    → AreValues Is values (coded_front code avps i) → AreValues Is values (coded_front code avps (i + 1))
+values_other Is code avps i d values lt other h =
+    subst (AreValues Is values) (sym (coded_more code avps i d false lt other ∙ append-nil (coded_front code avps i))) h
 
 pub short_at : (list : List Avp) (place : ℕ) (a : Avp) → Some a ≡ slice_get list place → All (λ x. length_of x < 2 ^ 24) list → length_of a < 2 ^ 24
 short_at list place a e h =

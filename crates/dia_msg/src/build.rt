@@ -22,12 +22,12 @@ impl Source<'_> {
     {
         Ok(Command::Cer(CapabilitiesExchangeRequest {
             header,
-            origin_host: self.octets(0)?,
-            origin_realm: self.octets(1)?,
-            host_ip_address: self.octets_all(2)?,
-            vendor_id: self.number(3),
-            product_name: self.text(4)?,
-            auth_application_id: self.number_all(5)?,
+            origin_host: self.one(0)?,
+            origin_realm: self.one(1)?,
+            host_ip_address: self.all(2)?,
+            vendor_id: self.one(3)?,
+            product_name: self.one(4)?,
+            auth_application_id: self.all(5)?,
             rest: self.rest()?,
         }))
     }
@@ -39,13 +39,13 @@ impl Source<'_> {
     {
         Ok(Command::Cea(CapabilitiesExchangeAnswer {
             header,
-            result_code: self.number(0),
-            origin_host: self.octets(1)?,
-            origin_realm: self.octets(2)?,
-            host_ip_address: self.octets_all(3)?,
-            vendor_id: self.number(4),
-            product_name: self.text(5)?,
-            auth_application_id: self.number_all(6)?,
+            result_code: self.one(0)?,
+            origin_host: self.one(1)?,
+            origin_realm: self.one(2)?,
+            host_ip_address: self.all(3)?,
+            vendor_id: self.one(4)?,
+            product_name: self.one(5)?,
+            auth_application_id: self.all(6)?,
             rest: self.rest()?,
         }))
     }
@@ -57,8 +57,8 @@ impl Source<'_> {
     {
         Ok(Command::Dwr(DeviceWatchdogRequest {
             header,
-            origin_host: self.octets(0)?,
-            origin_realm: self.octets(1)?,
+            origin_host: self.one(0)?,
+            origin_realm: self.one(1)?,
             rest: self.rest()?,
         }))
     }
@@ -70,9 +70,9 @@ impl Source<'_> {
     {
         Ok(Command::Dwa(DeviceWatchdogAnswer {
             header,
-            result_code: self.number(0),
-            origin_host: self.octets(1)?,
-            origin_realm: self.octets(2)?,
+            result_code: self.one(0)?,
+            origin_host: self.one(1)?,
+            origin_realm: self.one(2)?,
             rest: self.rest()?,
         }))
     }
@@ -84,9 +84,9 @@ impl Source<'_> {
     {
         Ok(Command::Dpr(DisconnectPeerRequest {
             header,
-            origin_host: self.octets(0)?,
-            origin_realm: self.octets(1)?,
-            disconnect_cause: self.number(2),
+            origin_host: self.one(0)?,
+            origin_realm: self.one(1)?,
+            disconnect_cause: self.one(2)?,
             rest: self.rest()?,
         }))
     }
@@ -98,9 +98,9 @@ impl Source<'_> {
     {
         Ok(Command::Dpa(DisconnectPeerAnswer {
             header,
-            result_code: self.number(0),
-            origin_host: self.octets(1)?,
-            origin_realm: self.octets(2)?,
+            result_code: self.one(0)?,
+            origin_host: self.one(1)?,
+            origin_realm: self.one(2)?,
             rest: self.rest()?,
         }))
     }
@@ -112,13 +112,13 @@ impl Source<'_> {
     {
         Ok(Command::Rar(ReAuthRequest {
             header,
-            session_id: self.text(0)?,
-            origin_host: self.octets(1)?,
-            origin_realm: self.octets(2)?,
-            destination_realm: self.octets(3)?,
-            destination_host: self.octets(4)?,
-            auth_application_id: self.number(5),
-            re_auth_request_type: self.number(6),
+            session_id: self.one(0)?,
+            origin_host: self.one(1)?,
+            origin_realm: self.one(2)?,
+            destination_realm: self.one(3)?,
+            destination_host: self.one(4)?,
+            auth_application_id: self.one(5)?,
+            re_auth_request_type: self.one(6)?,
             rest: self.rest()?,
         }))
     }
@@ -130,10 +130,10 @@ impl Source<'_> {
     {
         Ok(Command::Raa(ReAuthAnswer {
             header,
-            session_id: self.text(0)?,
-            result_code: self.number(1),
-            origin_host: self.octets(2)?,
-            origin_realm: self.octets(3)?,
+            session_id: self.one(0)?,
+            result_code: self.one(1)?,
+            origin_host: self.one(2)?,
+            origin_realm: self.one(3)?,
             rest: self.rest()?,
         }))
     }
@@ -145,20 +145,20 @@ impl Source<'_> {
     {
         Ok(Command::Ccr(CreditControlRequest {
             header,
-            session_id: self.text(0)?,
-            origin_host: self.octets(1)?,
-            origin_realm: self.octets(2)?,
-            destination_realm: self.octets(3)?,
-            auth_application_id: self.number(4),
-            service_context_id: self.text(5)?,
-            cc_request_type: self.request_type(6),
-            cc_request_number: self.number(7),
-            subscription_id: self.group_all(8)?,
-            requested_action: self.action_perhaps(9),
-            requested_service_unit: self.group_perhaps(10)?,
-            used_service_unit: self.group_all(11)?,
-            multiple_services_indicator: self.number_perhaps(12),
-            multiple_services_credit_control: self.group_all(13)?,
+            session_id: self.one(0)?,
+            origin_host: self.one(1)?,
+            origin_realm: self.one(2)?,
+            destination_realm: self.one(3)?,
+            auth_application_id: self.one(4)?,
+            service_context_id: self.one(5)?,
+            cc_request_type: self.one(6)?,
+            cc_request_number: self.one(7)?,
+            subscription_id: self.all(8)?,
+            requested_action: self.perhaps(9)?,
+            requested_service_unit: self.perhaps(10)?,
+            used_service_unit: self.all(11)?,
+            multiple_services_indicator: self.perhaps(12)?,
+            multiple_services_credit_control: self.all(13)?,
             rest: self.rest()?,
         }))
     }
@@ -170,17 +170,17 @@ impl Source<'_> {
     {
         Ok(Command::Cca(CreditControlAnswer {
             header,
-            session_id: self.text(0)?,
-            result_code: self.number(1),
-            origin_host: self.octets(2)?,
-            origin_realm: self.octets(3)?,
-            auth_application_id: self.number(4),
-            cc_request_type: self.request_type(5),
-            cc_request_number: self.number(6),
-            granted_service_unit: self.group_perhaps(7)?,
-            final_unit_indication: self.group_perhaps(8)?,
-            check_balance_result: self.number_perhaps(9),
-            multiple_services_credit_control: self.group_all(10)?,
+            session_id: self.one(0)?,
+            result_code: self.one(1)?,
+            origin_host: self.one(2)?,
+            origin_realm: self.one(3)?,
+            auth_application_id: self.one(4)?,
+            cc_request_type: self.one(5)?,
+            cc_request_number: self.one(6)?,
+            granted_service_unit: self.perhaps(7)?,
+            final_unit_indication: self.perhaps(8)?,
+            check_balance_result: self.perhaps(9)?,
+            multiple_services_credit_control: self.all(10)?,
             rest: self.rest()?,
         }))
     }
@@ -192,11 +192,11 @@ impl Source<'_> {
     {
         Ok(Command::ErrorAnswer(ErrorAnswer {
             header,
-            session_id: self.text_perhaps(0)?,
-            origin_host: self.octets(1)?,
-            origin_realm: self.octets(2)?,
-            result_code: self.number(3),
-            failed_avp: self.octets_perhaps(4)?,
+            session_id: self.perhaps(0)?,
+            origin_host: self.one(1)?,
+            origin_realm: self.one(2)?,
+            result_code: self.one(3)?,
+            failed_avp: self.perhaps(4)?,
             rest: self.rest()?,
         }))
     }

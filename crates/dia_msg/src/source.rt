@@ -1,14 +1,14 @@
 //! The values of a command's fields, and its rest, of AVPs that are sorted by its format. Each call takes the place of a
 //! field in the format.
 
-ghost use Rattle.std.specs.Prelude.{◌≡◌, ◌<◌, ◌^◌, [], ◌∷◌, ◌++◌, All, IfOk, OnOk, IfSome, map, true, Some, is_some, length, slice_get};
+ghost use Rattle.std.specs.Prelude.{◌≡◌, ◌<◌, ◌^◌, [], ◌∷◌, ◌++◌, ℕ, List, All, IfOk, OnOk, map, slice_get};
 ghost use Rattle.std.specs.Option.{option_map, option_to_list};
-ghost use Rattle.std.specs.Str.{is_utf8};
 ghost use Rattle.dia_avp.specs.View.{seen};
 ghost use Rattle.dia_avp.specs.Encoding.{length_of};
+ghost use Rattle.dia_dict.specs.declared.definition.Definition.{Definition};
 ghost use Rattle.dia_dict.specs.Dictionary.{known};
 ghost use Rattle.dia_tree.specs.Canonical.{canonical};
-ghost use Rattle.dia_command.specs.Field.{number_in, type_in, action_in, group_in, typed_as, Reads};
+ghost use Rattle.dia_command.specs.Field.{IsOctets, IsNumber, IsType, IsAction, IsGroup, IsValueOf, AreValues};
 ghost use Rattle.dia_msg.specs.Taken.{untaken};
 ghost use Rattle.dia_msg.specs.Sorting.{seen_all};
 ghost use Rattle.dia_msg.specs.Source.{IsReady, IsOne, IsPerhaps, IsSeveral, AreNumbers, AreTexts, IsSound, entry_at, takes};
@@ -38,225 +38,141 @@ fn avp_at<'a>(avps: &[AvpView<'a>], place: usize) -> Option<AvpView<'a>>
     avps.get(place).copied()
 }
 
-// A value with the flags of its AVP.
-fn typed<T: Drop>(avp: &AvpView<'_>, value: T) -> TypedAvp<T>
-    ensures { result ≡ record { mandatory = avp.now.mandatory; protected = avp.now.protected; value = value } }
-{
-    TypedAvp {
-        mandatory: avp.mandatory,
-        protected: avp.protected,
-        value,
+/// How the value of a field is made of an AVP's data.
+pub(crate) trait FromAvp: Drop {
+    // The value that data are, and the AVP Codes whose data are such a value.
+    ghost is_value: { List Definition → List ℕ → Self → Type 0 };
+
+    ghost has_kind: { List Definition → ℕ → Type 0 };
+
+    fn from_avp(
+        alloc: Global,
+        dictionary: &Dictionary,
+        avp: &AvpView<'_>,
+    ) -> Result<Self, AllocError>
+        requires { (code : ℕ) × has_kind dictionary.now code × IsSound dictionary.now code (seen avp.now) }
+        ensures { IfOk result (is_value (known dictionary.now) avp.now.octets.now) };
+}
+
+impl FromAvp for Octets {
+    ghost is_value = { λ d. IsOctets };
+
+    ghost has_kind = { λ d code. Unit {0} };
+
+    fn from_avp(alloc: Global, _: &Dictionary, avp: &AvpView<'_>) -> Result<Octets, AllocError> {
+        Octets::from_slice(alloc, avp.octets)
     }
 }
 
-fn octets_field(alloc: Global, avp: &AvpView<'_>) -> Result<TypedAvp<Octets>, AllocError>
-    ensures { IfOk result (λ f. Some f ≡ typed_as Some (seen avp.now)) }
-{
-    Ok(typed(avp, Octets::from_slice(alloc, avp.octets)?))
+impl FromAvp for Text {
+    ghost is_value = { λ d. IsOctets };
+
+    ghost has_kind = { AreTexts };
+
+    fn from_avp(alloc: Global, _: &Dictionary, avp: &AvpView<'_>) -> Result<Text, AllocError> {
+        Text::from_str(alloc, avp.as_text().unwrap())
+    }
 }
 
-fn text_field(alloc: Global, avp: &AvpView<'_>) -> Result<TypedAvp<Text>, AllocError>
-    requires { is_utf8 avp.now.octets.now ≡ true }
-    ensures { IfOk result (λ f. Some f ≡ typed_as Some (seen avp.now)) }
-{
-    Ok(typed(avp, Text::from_str(alloc, avp.as_text().unwrap())?))
+impl FromAvp for u32 {
+    ghost is_value = { λ d. IsNumber };
+
+    ghost has_kind = { AreNumbers };
+
+    fn from_avp(_: Global, _: &Dictionary, avp: &AvpView<'_>) -> Result<u32, AllocError> {
+        Ok(number_of(avp).unwrap())
+    }
 }
 
-fn number_field(avp: &AvpView<'_>) -> TypedAvp<u32>
-    requires { length avp.now.octets.now ≡ 4 }
-    ensures { Some result ≡ typed_as number_in (seen avp.now) }
-{
-    typed(avp, number_of(avp).unwrap())
+impl FromAvp for RequestType {
+    ghost is_value = { λ d. IsType };
+
+    ghost has_kind = { λ d code. code ≡ 416 };
+
+    fn from_avp(_: Global, _: &Dictionary, avp: &AvpView<'_>) -> Result<RequestType, AllocError> {
+        Ok(number_of(avp).and_then(RequestType::coded).unwrap())
+    }
 }
 
-fn type_field(avp: &AvpView<'_>) -> TypedAvp<RequestType>
-    requires { is_some (type_in avp.now.octets.now) ≡ true }
-    ensures { Some result ≡ typed_as type_in (seen avp.now) }
-{
-    typed(avp, number_of(avp).and_then(RequestType::coded).unwrap())
+impl FromAvp for RequestedAction {
+    ghost is_value = { λ d. IsAction };
+
+    ghost has_kind = { AreNumbers };
+
+    fn from_avp(
+        _: Global,
+        _: &Dictionary,
+        avp: &AvpView<'_>,
+    ) -> Result<RequestedAction, AllocError> {
+        Ok(RequestedAction::coded(number_of(avp).unwrap()))
+    }
 }
 
-fn action_field(avp: &AvpView<'_>) -> TypedAvp<RequestedAction>
-    requires { length avp.now.octets.now ≡ 4 }
-    ensures { Some result ≡ typed_as action_in (seen avp.now) }
-{
-    typed(avp, RequestedAction::coded(number_of(avp).unwrap()))
-}
+impl FromAvp for AvpList {
+    ghost is_value = { IsGroup };
 
-fn group_field(
-    alloc: Global,
-    dictionary: &Dictionary,
-    avp: &AvpView<'_>,
-) -> Result<TypedAvp<AvpList>, AllocError>
-    ensures { IfOk result (λ f. Some f ≡ typed_as (group_in (known dictionary.now)) (seen avp.now)) }
-{
-    Ok(typed(avp, group_list(alloc, dictionary, avp.octets)?))
+    ghost has_kind = { λ d code. Unit {0} };
+
+    fn from_avp(
+        alloc: Global,
+        dictionary: &Dictionary,
+        avp: &AvpView<'_>,
+    ) -> Result<AvpList, AllocError> {
+        group_list(alloc, dictionary, avp.octets)
+    }
 }
 
 impl Source<'_> {
-    // The AVP of an entry that must be there.
-    fn one(&self, place: usize) -> AvpView<'_>
-        requires ready { IsReady self.now.dictionary.now self.now.format.now (seen_all self.now.avps.now) self.now.sorted.now }
-        requires held { IsOne self.now.format.now place }
-        ensures taken { takes self.now.format.now (seen_all self.now.avps.now) place ≡ seen result ∷ [] }
-        ensures sound { IsSound self.now.dictionary.now (entry_at self.now.format.now place).code (seen result) }
+    // The value of an AVP, with its flags.
+    fn value<T: FromAvp>(&self, avp: &AvpView<'_>) -> Result<TypedAvp<T>, AllocError>
+        requires { (code : ℕ) × T.has_kind self.now.dictionary.now code × IsSound self.now.dictionary.now code (seen avp.now) }
+        ensures { IfOk result (λ v. IsValueOf (T.is_value (known self.now.dictionary.now)) v (seen avp.now)) }
     {
-        self.sorted.first(place, self.avps).unwrap()
+        Ok(TypedAvp {
+            mandatory: avp.mandatory,
+            protected: avp.protected,
+            value: T::from_avp(self.alloc, self.dictionary, avp)?,
+        })
     }
 
-    // The AVP of an entry that may be there.
-    fn perhaps(&self, place: usize) -> Option<AvpView<'_>>
+    /// The value of an entry whose AVP may be there.
+    pub fn perhaps<T: FromAvp>(&self, place: usize) -> Result<Option<TypedAvp<T>>, AllocError>
         requires ready { IsReady self.now.dictionary.now self.now.format.now (seen_all self.now.avps.now) self.now.sorted.now }
         requires held { IsPerhaps self.now.format.now place }
-        ensures taken { takes self.now.format.now (seen_all self.now.avps.now) place ≡ option_to_list (option_map seen result) }
-        ensures sound { IfSome result (λ v. IsSound self.now.dictionary.now (entry_at self.now.format.now place).code (seen v)) }
+        requires kind { T.has_kind self.now.dictionary.now (entry_at self.now.format.now place).code }
+        ensures { IfOk result (λ f. AreValues (T.is_value (known self.now.dictionary.now)) (option_to_list f) (takes self.now.format.now (seen_all self.now.avps.now) place)) }
     {
-        self.sorted.first(place, self.avps)
-    }
-
-    /// Octets that must be there.
-    pub fn octets(&self, place: usize) -> Result<TypedAvp<Octets>, AllocError>
-        requires ready { IsReady self.now.dictionary.now self.now.format.now (seen_all self.now.avps.now) self.now.sorted.now }
-        requires held { IsOne self.now.format.now place }
-        ensures { IfOk result (λ f. Reads Some (f ∷ []) (takes self.now.format.now (seen_all self.now.avps.now) place)) }
-    {
-        octets_field(self.alloc, &self.one(place))
-    }
-
-    /// Octets that may be there.
-    pub fn octets_perhaps(&self, place: usize) -> Result<Option<TypedAvp<Octets>>, AllocError>
-        requires ready { IsReady self.now.dictionary.now self.now.format.now (seen_all self.now.avps.now) self.now.sorted.now }
-        requires held { IsPerhaps self.now.format.now place }
-        ensures { IfOk result (λ f. Reads Some (option_to_list f) (takes self.now.format.now (seen_all self.now.avps.now) place)) }
-    {
-        match self.perhaps(place) {
-            Some(avp) => Ok(Some(octets_field(self.alloc, &avp)?)),
+        match self.sorted.first(place, self.avps) {
+            Some(avp) => Ok(Some(self.value(&avp)?)),
             None => Ok(None),
         }
     }
 
-    /// Octets, any number of times.
-    pub fn octets_all(&self, place: usize) -> Result<TypedAvps<Octets>, AllocError>
-        requires held { IsSeveral self.now.format.now place }
-        ensures { IfOk result (λ f. Reads Some f (takes self.now.format.now (seen_all self.now.avps.now) place)) }
-    {
-        let code = self.format[place].code;
-        let mut fields = TypedAvps::new(self.alloc);
-        for avp in self.avps {
-            if is_coded(avp, code) {
-                fields.push(octets_field(self.alloc, avp)?)?;
-            }
-        }
-        Ok(fields)
-    }
-
-    /// Text that must be there.
-    pub fn text(&self, place: usize) -> Result<TypedAvp<Text>, AllocError>
+    /// The value of an entry whose AVP must be there.
+    pub fn one<T: FromAvp>(&self, place: usize) -> Result<TypedAvp<T>, AllocError>
         requires ready { IsReady self.now.dictionary.now self.now.format.now (seen_all self.now.avps.now) self.now.sorted.now }
         requires held { IsOne self.now.format.now place }
-        requires kind { AreTexts self.now.dictionary.now (entry_at self.now.format.now place).code }
-        ensures { IfOk result (λ f. Reads Some (f ∷ []) (takes self.now.format.now (seen_all self.now.avps.now) place)) }
+        requires kind { T.has_kind self.now.dictionary.now (entry_at self.now.format.now place).code }
+        ensures { IfOk result (λ f. AreValues (T.is_value (known self.now.dictionary.now)) (f ∷ []) (takes self.now.format.now (seen_all self.now.avps.now) place)) }
     {
-        text_field(self.alloc, &self.one(place))
+        Ok(self.perhaps(place)?.unwrap())
     }
 
-    /// Text that may be there.
-    pub fn text_perhaps(&self, place: usize) -> Result<Option<TypedAvp<Text>>, AllocError>
-        requires ready { IsReady self.now.dictionary.now self.now.format.now (seen_all self.now.avps.now) self.now.sorted.now }
-        requires held { IsPerhaps self.now.format.now place }
-        requires kind { AreTexts self.now.dictionary.now (entry_at self.now.format.now place).code }
-        ensures { IfOk result (λ f. Reads Some (option_to_list f) (takes self.now.format.now (seen_all self.now.avps.now) place)) }
-    {
-        match self.perhaps(place) {
-            Some(avp) => Ok(Some(text_field(self.alloc, &avp)?)),
-            None => Ok(None),
-        }
-    }
-
-    /// A number that must be there.
-    pub fn number(&self, place: usize) -> TypedAvp<u32>
-        requires ready { IsReady self.now.dictionary.now self.now.format.now (seen_all self.now.avps.now) self.now.sorted.now }
-        requires held { IsOne self.now.format.now place }
-        requires kind { AreNumbers self.now.dictionary.now (entry_at self.now.format.now place).code }
-        ensures { Reads number_in (result ∷ []) (takes self.now.format.now (seen_all self.now.avps.now) place) }
-    {
-        number_field(&self.one(place))
-    }
-
-    /// A number that may be there.
-    pub fn number_perhaps(&self, place: usize) -> Option<TypedAvp<u32>>
-        requires ready { IsReady self.now.dictionary.now self.now.format.now (seen_all self.now.avps.now) self.now.sorted.now }
-        requires held { IsPerhaps self.now.format.now place }
-        requires kind { AreNumbers self.now.dictionary.now (entry_at self.now.format.now place).code }
-        ensures { Reads number_in (option_to_list result) (takes self.now.format.now (seen_all self.now.avps.now) place) }
-    {
-        let avp = self.perhaps(place)?;
-        Some(number_field(&avp))
-    }
-
-    /// Numbers, any number of times.
-    pub fn number_all(&self, place: usize) -> Result<TypedAvps<u32>, AllocError>
+    /// The values of an entry of any number of AVPs.
+    pub fn all<T: FromAvp>(&self, place: usize) -> Result<TypedAvps<T>, AllocError>
         requires ready { IsReady self.now.dictionary.now self.now.format.now (seen_all self.now.avps.now) self.now.sorted.now }
         requires held { IsSeveral self.now.format.now place }
-        requires kind { AreNumbers self.now.dictionary.now (entry_at self.now.format.now place).code }
-        ensures { IfOk result (λ f. Reads number_in f (takes self.now.format.now (seen_all self.now.avps.now) place)) }
+        requires kind { T.has_kind self.now.dictionary.now (entry_at self.now.format.now place).code }
+        ensures { IfOk result (λ f. AreValues (T.is_value (known self.now.dictionary.now)) f (takes self.now.format.now (seen_all self.now.avps.now) place)) }
     {
         let code = self.format[place].code;
-        let mut fields = TypedAvps::new(self.alloc);
+        let mut values = TypedAvps::new(self.alloc);
         for avp in self.avps {
             if is_coded(avp, code) {
-                fields.push(number_field(avp))?;
+                values.push(self.value(avp)?)?;
             }
         }
-        Ok(fields)
-    }
-
-    /// A CC-Request-Type that must be there.
-    pub fn request_type(&self, place: usize) -> TypedAvp<RequestType>
-        requires ready { IsReady self.now.dictionary.now self.now.format.now (seen_all self.now.avps.now) self.now.sorted.now }
-        requires held { IsOne self.now.format.now place }
-        requires code { (entry_at self.now.format.now place).code ≡ 416 }
-        ensures { Reads type_in (result ∷ []) (takes self.now.format.now (seen_all self.now.avps.now) place) }
-    {
-        type_field(&self.one(place))
-    }
-
-    /// A Requested-Action that may be there.
-    pub fn action_perhaps(&self, place: usize) -> Option<TypedAvp<RequestedAction>>
-        requires ready { IsReady self.now.dictionary.now self.now.format.now (seen_all self.now.avps.now) self.now.sorted.now }
-        requires held { IsPerhaps self.now.format.now place }
-        requires kind { AreNumbers self.now.dictionary.now (entry_at self.now.format.now place).code }
-        ensures { Reads action_in (option_to_list result) (takes self.now.format.now (seen_all self.now.avps.now) place) }
-    {
-        let avp = self.perhaps(place)?;
-        Some(action_field(&avp))
-    }
-
-    /// A group that may be there.
-    pub fn group_perhaps(&self, place: usize) -> Result<Option<TypedAvp<AvpList>>, AllocError>
-        requires ready { IsReady self.now.dictionary.now self.now.format.now (seen_all self.now.avps.now) self.now.sorted.now }
-        requires held { IsPerhaps self.now.format.now place }
-        ensures { IfOk result (λ f. Reads (group_in (known self.now.dictionary.now)) (option_to_list f) (takes self.now.format.now (seen_all self.now.avps.now) place)) }
-    {
-        match self.perhaps(place) {
-            Some(avp) => Ok(Some(group_field(self.alloc, self.dictionary, &avp)?)),
-            None => Ok(None),
-        }
-    }
-
-    /// Groups, any number of times.
-    pub fn group_all(&self, place: usize) -> Result<TypedAvps<AvpList>, AllocError>
-        requires held { IsSeveral self.now.format.now place }
-        ensures { IfOk result (λ f. Reads (group_in (known self.now.dictionary.now)) f (takes self.now.format.now (seen_all self.now.avps.now) place)) }
-    {
-        let code = self.format[place].code;
-        let mut fields = TypedAvps::new(self.alloc);
-        for avp in self.avps {
-            if is_coded(avp, code) {
-                fields.push(group_field(self.alloc, self.dictionary, avp)?)?;
-            }
-        }
-        Ok(fields)
+        Ok(values)
     }
 
     // The AVP at a place, in its canonical encoding, at the end of a list.

@@ -1,21 +1,30 @@
-use Rattle.std.proofs.Common.{◌∙◌, sym, ap, Option}
-use Rattle.std.specs.Option.{option_to_list}
-use Rattle.dia_avp.specs.declared.avp.Avp.{Avp}
+use Rattle.std.proofs.Common.{Some, None, [], ◌∷◌, refl, sym, subst}
+use Rattle.dia_dict.specs.Dictionary.{known}
+use Rattle.dia_command.specs.Field.{AreValues}
 use Rattle.dia_msg.specs.Sorting.{seen_all}
 use Rattle.dia_msg.specs.Source.{entry_at}
-use Rattle.dia_msg.proofs.SourceLemmas.{placed_first, takes_once, sound_if}
+use Rattle.dia_msg.proofs.SourceLemmas.{taken_seen, taken_sound}
 use Rattle.dia_msg.proofs.source.Source.perhaps.Goals as goal
 
-pub returns-clause-taken : goal.returns-clause-taken
-returns-clause-taken c =
+pub value-requires : goal.value-requires
+value-requires g c =
     let fs = c.args.self.now.format.now in
-    let list = seen_all c.args.self.now.avps.now in
-    takes_once fs list c.args.place c.requires.held.1
-    ∙ ap (λ (o : Option Avp). option_to_list o) (sym (c.first.ensures ∙ placed_first fs list c.args.self.now.sorted.now c.args.place c.requires.ready.sorted c.requires.held.0))
+    let list = seen_all c.args.self.now.avps.now in (
+      (entry_at fs c.args.place).code,
+      c.requires.kind,
+      taken_sound c.args.self.now.dictionary.now fs list c.args.self.now.sorted.now c.args.place (Some c.in-Some.avp) c.in-Some.avp c.requires.ready c.requires.held c.in-Some.ensures refl,
+    )
 
-pub returns-clause-sound : goal.returns-clause-sound
-returns-clause-sound c =
+pub returns-in_ok-value-in-Some : goal.returns-in_ok-value-in-Some
+returns-in_ok-value-in-Some g c =
     let fs = c.args.self.now.format.now in
     let list = seen_all c.args.self.now.avps.now in
-    sound_if c.args.self.now.dictionary.now c.requires.ready.event (entry_at fs c.args.place).code list c.first.result
-    (c.first.ensures ∙ placed_first fs list c.args.self.now.sorted.now c.args.place c.requires.ready.sorted c.requires.held.0) c.requires.ready.good
+    subst (AreValues (g.T.FromAvp.is_value (known c.args.self.now.dictionary.now)) (c.in_ok-value-in-Some.field-0 ∷ []))
+    (sym (taken_seen c.args.self.now.dictionary.now fs list c.args.self.now.sorted.now c.args.place (Some c.in-Some.avp) c.requires.ready c.requires.held c.in-Some.ensures)) (c.in_ok-value-in-Some.ensures, tt)
+
+pub returns-in-None : goal.returns-in-None
+returns-in-None g c =
+    let fs = c.args.self.now.format.now in
+    let list = seen_all c.args.self.now.avps.now in
+    subst (AreValues (g.T.FromAvp.is_value (known c.args.self.now.dictionary.now)) [])
+    (sym (taken_seen c.args.self.now.dictionary.now fs list c.args.self.now.sorted.now c.args.place None c.requires.ready c.requires.held c.in-None.ensures)) tt

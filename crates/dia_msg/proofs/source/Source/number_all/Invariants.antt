@@ -1,8 +1,0 @@
-use Rattle.std.proofs.Common.{filter, take}
-use Rattle.dia_tree.specs.Faults.{is_coded}
-use Rattle.dia_command.specs.Field.{number_in, Reads}
-use Rattle.dia_msg.specs.Sorting.{seen_all}
-use Rattle.dia_msg.proofs.source.Source.number_all.Given as goal
-
-abbrev pub invariant-loop-avp : goal.invariant-loop-avp
-invariant-loop-avp l = Reads number_in l.fields (filter (is_coded l.code) (seen_all (take l.avp-index l.self.avps.now)))

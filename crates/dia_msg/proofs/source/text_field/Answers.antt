@@ -1,5 +1,0 @@
-use Rattle.dia_msg.proofs.SourceLemmas.{text_ok}
-use Rattle.dia_msg.proofs.source.text_field.Goals as goal
-
-pub unwrap-requires : goal.unwrap-requires
-unwrap-requires c = text_ok c.args.avp.now.octets.now c.as_text.result c.as_text.ensures.refused c.requires
