@@ -13,16 +13,10 @@ use dia_avp::{Avp, AvpList, AvpView, MAX_DEPTH, Octets, first_avp, put_avp};
 use dia_dict::Dictionary;
 use std::alloc::{AllocError, Global};
 
-fn with_octets<'a>(avp: &AvpView<'_>, octets: &'a [u8]) -> AvpView<'a>
+fn with_octets<'a>(avp: &AvpView<'a>, octets: &'a [u8]) -> AvpView<'a>
     ensures { seen result ≡ record (seen avp.now) { octets = octets.now } }
 {
-    AvpView {
-        code: avp.code,
-        vendor: avp.vendor,
-        mandatory: avp.mandatory,
-        protected: avp.protected,
-        octets,
-    }
+    AvpView { octets, ..*avp }
 }
 
 // Whether an AVP is a group with levels of groups left for it. Without, it is in its canonical encoding as it is.

@@ -30,15 +30,6 @@ const TOO_MUCH: FaultView<'static> = FaultView {
 /// How many levels of AVPs there are: the message's, and four levels of groups below.
 const LEVELS: u8 = 5;
 
-fn bad_value<'a>(avp: &AvpView<'a>) -> FaultView<'a>
-    ensures { seen_fault result ≡ fault ResultCode.InvalidAvpValue (Some (seen avp.now)) }
-{
-    FaultView {
-        result: ResultCode::InvalidAvpValue,
-        failed: Some(*avp),
-    }
-}
-
 // Whether the value of an AVP without vendor is none that credit control knows.
 fn is_bad_value(event: &Event<'_>, code: u32, octets: &[u8]) -> bool
     ensures { result ≡ has_bad_value (is_event event.now) code octets.now }
@@ -55,7 +46,7 @@ fn own_fault<'a>(event: &Event<'_>, avp: &AvpView<'a>) -> Option<FaultView<'a>>
     ensures { option_map seen_fault result ≡ slice_get (own_faults (is_event event.now) (seen avp.now)) 0 }
 {
     if avp.vendor.is_none() && is_bad_value(event, avp.code, avp.octets) {
-        return Some(bad_value(avp));
+        return Some(FaultView::of(ResultCode::InvalidAvpValue, avp));
     }
     None
 }
@@ -67,11 +58,11 @@ fn data_fault<'a>(kind: AvpKind, event: &Event<'_>, avp: &AvpView<'a>) -> Option
 {
     match kind.typed(avp) {
         Ok(_) => own_fault(event, avp),
-        Err(FieldFault::BadValue) => Some(bad_value(avp)),
-        Err(FieldFault::BadLength) => Some(FaultView {
-            result: ResultCode::InvalidAvpLength,
-            failed: Some(zeros(kind.least_size(), avp)),
-        }),
+        Err(FieldFault::BadValue) => Some(FaultView::of(ResultCode::InvalidAvpValue, avp)),
+        Err(FieldFault::BadLength) => Some(FaultView::of(
+            ResultCode::InvalidAvpLength,
+            &zeros(kind.least_size(), avp),
+        )),
     }
 }
 
@@ -81,10 +72,7 @@ fn unknown_fault<'a>(avp: &AvpView<'a>) -> Option<FaultView<'a>>
     if !avp.mandatory {
         return None;
     }
-    Some(FaultView {
-        result: ResultCode::AvpUnsupported,
-        failed: Some(*avp),
-    })
+    Some(FaultView::of(ResultCode::AvpUnsupported, avp))
 }
 
 // The first fault of an AVP with so many levels open to what it holds.
@@ -182,16 +170,5 @@ pub fn survey<'a>(
     ensures fault { (faults : List Fault) × HasMessageFaults (known dictionary.now) credit octets.now faults × (option_map seen_fault result ≡ slice_get faults 0) }
     ensures avps { result ≡ None → Avps octets.now (map seen avps.new) }
 {
-    listed(dictionary, &Event::of(credit, octets), octets, avps)
-}
-
-/// The first fault of octets that are a message's AVPs; `event` says whether the message is an EVENT request. Takes no memory.
-pub fn first_fault<'a>(
-    dictionary: &Dictionary,
-    event: bool,
-    octets: &'a [u8],
-) -> Option<FaultView<'a>>
-    ensures { option_map seen_fault result ≡ slice_get (group_faults (known dictionary.now) event 5 octets.now) 0 }
-{
-    fault_in(dictionary, &Event::Known(event), LEVELS, octets)
+    listed(dictionary, &Event { credit, octets }, octets, avps)
 }

@@ -1,6 +1,6 @@
 //! Whether a message is an EVENT request of credit control (RFC 8506 section 8.3).
 
-ghost use Rattle.std.specs.Prelude.{◌≡◌, ◌&&◌};
+ghost use Rattle.std.specs.Prelude.{◌≡◌};
 ghost use Rattle.dia_avp.specs.Reading.{avps_in};
 ghost use Rattle.dia_tree.specs.View.{is_event};
 ghost use Rattle.dia_tree.specs.Faults.{has_event_type as has_type_4};
@@ -14,11 +14,11 @@ const CC_REQUEST_TYPE: u32 = 416;
 /// The CC-Request-Type of a request that opens no session.
 const EVENT_REQUEST: u32 = 4;
 
-/// Whether a message is an EVENT request: known, or said by the first CC-Request-Type of its AVPs.
+/// What says whether a message is an EVENT request: whether it is a Credit-Control-Request, and its AVPs.
 #[derive(Clone, Copy)]
-pub(crate) enum Event<'a> {
-    Known(bool),
-    Of(&'a [u8]),
+pub(crate) struct Event<'a> {
+    pub credit: bool,
+    pub octets: &'a [u8],
 }
 
 fn has_event_type(octets: &[u8]) -> bool
@@ -34,25 +34,11 @@ fn has_event_type(octets: &[u8]) -> bool
     false
 }
 
-impl<'a> Event<'a> {
-    /// What is known of a message, a Credit-Control-Request or not, of these AVPs.
-    pub fn of(credit: bool, octets: &'a [u8]) -> Event<'a>
-        ensures { is_event result ≡ (credit && has_type_4 (avps_in octets.now).0) }
-    {
-        if credit {
-            Event::Of(octets)
-        } else {
-            Event::Known(false)
-        }
-    }
-
-    /// Whether the message is one. AVPs are looked through for it.
+impl Event<'_> {
+    /// Whether the message is one. Its AVPs are looked through for it.
     pub fn is_event(&self) -> bool
         ensures { result ≡ is_event self.now }
     {
-        match *self {
-            Event::Known(event) => event,
-            Event::Of(octets) => has_event_type(octets),
-        }
+        self.credit && has_event_type(self.octets)
     }
 }

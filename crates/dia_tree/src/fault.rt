@@ -1,7 +1,9 @@
 //! A fault of a message.
 
-ghost use Rattle.std.specs.Prelude.{◌≡◌, IfOk, OnErr, IsSome};
-ghost use Rattle.dia_tree.specs.View.{seen_fault};
+ghost use Rattle.std.specs.Prelude.{◌≡◌, Some, IfOk, OnErr};
+ghost use Rattle.dia_avp.specs.View.{seen};
+ghost use Rattle.dia_tree.specs.View.{seen_fault, HasLongData};
+ghost use Rattle.dia_tree.specs.Faults.{fault};
 
 use base_codes::ResultCode;
 use dia_avp::{Avp, AvpView};
@@ -25,13 +27,23 @@ pub struct FaultView<'a> {
     pub failed: Option<AvpView<'a>>,
 }
 
-impl FaultView<'_> {
+impl<'a> FaultView<'a> {
+    /// A fault with its failed AVP.
+    pub(crate) fn of(code: ResultCode, avp: &AvpView<'a>) -> FaultView<'a>
+        ensures { seen_fault result ≡ fault code (Some (seen avp.now)) }
+    {
+        FaultView {
+            result: code,
+            failed: Some(*avp),
+        }
+    }
+
     /// The fault with a copy of its failed AVP.
     pub fn to_fault(&self, alloc: Global) -> Result<MsgFault, AllocError>
         ensures fault { IfOk result (λ f. f ≡ seen_fault self.now) }
 
-        // Without a failed AVP no memory is needed.
-        ensures memory { OnErr result (IsSome (seen_fault self.now).failed) }
+        // No memory is needed where there is no failed AVP, or one of at most 32 octets of data.
+        ensures memory { OnErr result (HasLongData (seen_fault self.now).failed) }
     {
         let failed = match &self.failed {
             None => None,

@@ -10,17 +10,7 @@ use dia_dict::{AvpKind, Dictionary};
 pub(crate) fn is_group(kind: AvpKind) -> bool
     ensures { result ≡ is_group_kind kind }
 {
-    match kind {
-        AvpKind::Grouped => true,
-        AvpKind::Unsigned32
-        | AvpKind::Unsigned64
-        | AvpKind::Enumerated
-        | AvpKind::Utf8String
-        | AvpKind::DiameterIdentity
-        | AvpKind::Address
-        | AvpKind::Time
-        | AvpKind::OctetString => false,
-    }
+    matches!(kind, AvpKind::Grouped)
 }
 
 /// Whether an AVP is a group by the dictionary.

@@ -20,6 +20,6 @@ mod kind;
 mod zeros;
 
 pub use canonical::{canonical_avp, group_list};
-pub use check::{first_fault, survey};
+pub use check::survey;
 pub use fault::{FaultView, MsgFault};
 pub use zeros::missing_fault;

@@ -16,21 +16,18 @@ use dia_dict::Dictionary;
 const ZEROS: [u8; 8] = [0; 8];
 
 /// An AVP with so many zeros as its data.
-pub(crate) fn zeros<'a>(size: usize, avp: &AvpView<'_>) -> AvpView<'a>
+pub(crate) fn zeros<'a>(size: usize, avp: &AvpView<'a>) -> AvpView<'a>
     requires { size ≤ 8 }
     ensures { seen result ≡ with_zeros size (seen avp.now) }
 {
     AvpView {
-        code: avp.code,
-        vendor: avp.vendor,
-        mandatory: avp.mandatory,
-        protected: avp.protected,
         octets: &ZEROS[..size],
+        ..*avp
     }
 }
 
 // An AVP's header with zeros of the least size of its type, none where the type is unknown.
-fn zeroed<'a>(dictionary: &Dictionary, avp: &AvpView<'_>) -> AvpView<'a>
+fn zeroed<'a>(dictionary: &Dictionary, avp: &AvpView<'a>) -> AvpView<'a>
     ensures { seen result ≡ with_least_zeros (known dictionary.now) (seen avp.now) }
 {
     match dictionary.find(avp.code, avp.vendor) {
@@ -43,10 +40,10 @@ fn zeroed<'a>(dictionary: &Dictionary, avp: &AvpView<'_>) -> AvpView<'a>
 pub(crate) fn broken_fault<'a>(dictionary: &Dictionary, octets: &[u8]) -> FaultView<'a>
     ensures { seen_fault result ≡ fault_of_broken (known dictionary.now) octets.now }
 {
-    FaultView {
-        result: ResultCode::InvalidAvpLength,
-        failed: Some(zeroed(dictionary, &cut_avp(octets))),
-    }
+    FaultView::of(
+        ResultCode::InvalidAvpLength,
+        &zeroed(dictionary, &cut_avp(octets)),
+    )
 }
 
 /// The fault of a required AVP that is missing: `MissingAvp`, and as the failed AVP one of that code with flag M and
@@ -61,8 +58,5 @@ pub fn missing_fault<'a>(dictionary: &Dictionary, code: u32) -> FaultView<'a>
         protected: false,
         octets: &[],
     };
-    FaultView {
-        result: ResultCode::MissingAvp,
-        failed: Some(zeroed(dictionary, &avp)),
-    }
+    FaultView::of(ResultCode::MissingAvp, &zeroed(dictionary, &avp))
 }
