@@ -1,9 +1,10 @@
 -- What the octets of a message mean: a command, or the first fault.
-use Rattle.std.specs.Prelude.{◌≡◌, ◌<◌, ℕ, List, [], ◌∷◌, length, drop, Option, None, Some, Result, Ok, Err}
+use Rattle.std.specs.Prelude.{◌≡◌, ℕ, List, [], ◌∷◌, length, drop, Some, Result, Ok, Err}
 use Rattle.dia_avp.specs.declared.avp.Avp.{Avp}
 use Rattle.dia_avp.specs.Avps.{Avps}
 use Rattle.dia_dict.specs.declared.definition.Definition.{Definition}
 use Rattle.dia_tree.specs.declared.fault.MsgFault.{MsgFault}
+use Rattle.dia_tree.specs.View.{HasLongData}
 use Rattle.dia_tree.specs.Canonical.{IsCanonical, AreEach}
 use Rattle.dia_command.specs.declared.command.Command.{Command}
 use Rattle.dia_command.specs.Header.{header_in}
@@ -50,11 +51,6 @@ UnlessNoMemory (Ok command) P = P (Ok command)
 UnlessNoMemory (Err msg_errors.NoMemory) P = Unit {0}
 UnlessNoMemory (Err (msg_errors.Fault f)) P = P (Err f)
 
--- whether an AVP has data that has to be copied
-abbrev pub HasData : Option Avp → Type 0
-HasData None = ⊥
-HasData (Some a) = 0 < length a.octets
-
--- memory may run out only over octets that have no fault, or whose first fault has a failed AVP with data
+-- memory may run out only over octets that have no fault, or whose first fault has a failed AVP with more than 32 octets of data
 abbrev pub MayNeedMemory : List Definition → List ℕ → Type 0
-MayNeedMemory definitions octets = (f : MsgFault) → IsReading definitions octets (Err f) → HasData f.failed
+MayNeedMemory definitions octets = (f : MsgFault) → IsReading definitions octets (Err f) → HasLongData f.failed

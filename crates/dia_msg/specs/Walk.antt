@@ -4,6 +4,7 @@ use Rattle.dia_avp.specs.declared.avp.Avp.{Avp}
 use Rattle.dia_avp.specs.Reading.{avps_in}
 use Rattle.dia_dict.specs.declared.definition.Definition.{Definition}
 use Rattle.dia_tree.specs.declared.fault.MsgFault.{MsgFault}
+use Rattle.dia_tree.specs.View.{HasLongData}
 use Rattle.dia_tree.specs.Faults.{group_faults}
 use Rattle.dia_dict.specs.Dictionary.{known}
 use Rattle.dia_command.specs.declared.command.Command.{Command}
@@ -13,7 +14,6 @@ use Rattle.dia_command.specs.Header.{header_in}
 use Rattle.dia_msg.specs.declared.fault.MsgError.{MsgError}
 use Rattle.dia_msg.specs.declared.fault.MsgError.TheVariants as msg_errors
 use Rattle.dia_msg.specs.Faults.{header_faults, is_event, first_number, kind_read, format_read, instances, missing_faults, services_faults}
-use Rattle.dia_msg.specs.Reading.{HasData}
 use Rattle.dia_msg.specs.Source.{IsBuilt}
 
 -- the whole AVPs of a message, behind its header
@@ -36,9 +36,9 @@ faults_by definitions octets list =
 abbrev pub faults : List Definition → List ℕ → List MsgFault
 faults definitions octets = faults_by definitions octets (whole_avps octets)
 
--- the error for a fault: memory may run out for the data of its failed AVP
+-- the error for a fault: memory may run out for its failed AVP's data where they are more than 32 octets
 abbrev pub IsErrorOf : MsgFault → MsgError → Type 0
-IsErrorOf f msg_errors.NoMemory = HasData f.failed
+IsErrorOf f msg_errors.NoMemory = HasLongData f.failed
 IsErrorOf f (msg_errors.Fault g) = g ≡ f
 
 -- the faults after those of the header and of the AVPs
@@ -50,5 +50,5 @@ later_faults definitions header list =
 abbrev pub IsOutcome : List Definition → Header → List Avp → Result Command MsgError → Type 0
 IsOutcome added header list (Ok c) =
     (later_faults (known added) header list ≡ []) × (kind : CommandKind) × (kind_read header list ≡ Some kind) × IsBuilt added (format_read header list) list kind header c
-IsOutcome added header list (Err msg_errors.NoMemory) = (f : MsgFault) → slice_get (later_faults (known added) header list) 0 ≡ Some f → HasData f.failed
+IsOutcome added header list (Err msg_errors.NoMemory) = (f : MsgFault) → slice_get (later_faults (known added) header list) 0 ≡ Some f → HasLongData f.failed
 IsOutcome added header list (Err (msg_errors.Fault f)) = slice_get (later_faults (known added) header list) 0 ≡ Some f

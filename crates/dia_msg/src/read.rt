@@ -148,7 +148,7 @@ pub fn read_message(
     ensures reading { UnlessNoMemory result (IsReading (known dictionary.now) octets.now) }
     ensures only { UnlessNoMemory result (IsOnlyReading (known dictionary.now) octets.now) }
 
-    // A fault without data in its failed AVP is answered whatever the memory.
+    // A fault whose failed AVP has at most 32 octets of data is answered whatever the memory.
     ensures memory { IsErrOf result MsgError.NoMemory → MayNeedMemory (known dictionary.now) octets.now }
 
     // The encoding of what was read is read as the same.
