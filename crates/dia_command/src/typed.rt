@@ -1,4 +1,4 @@
-ghost use Rattle.std.specs.Prelude.{◌≡◌, ◌==◌, [], ◌∷◌, ◌++◌, length, OnOk, OnErr};
+ghost use Rattle.std.specs.Prelude.{◌≡◌, [], ◌∷◌, ◌++◌, OnOk, OnErr};
 
 use dia_avp::Octets;
 use std::alloc::{AllocError, Global};
@@ -45,20 +45,6 @@ impl<T: Drop> TypedAvps<T> {
         TypedAvps {
             avps: Vec::new(alloc),
         }
-    }
-
-    /// How many values there are.
-    pub fn len(&self) -> usize
-        ensures { result ≡ length self.now }
-    {
-        self.avps.len()
-    }
-
-    /// Whether there is none.
-    pub fn is_empty(&self) -> bool
-        ensures { result ≡ (length self.now == 0) }
-    {
-        self.avps.is_empty()
     }
 
     /// The values.

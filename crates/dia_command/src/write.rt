@@ -13,10 +13,11 @@ ghost use Rattle.dia_command.specs.Encoding.{message_len, encode, IsTooLong, Wri
 use crate::command::Command;
 use crate::format::{AvpFormat, format_of};
 use crate::header::{Header, octets_of};
-use crate::values::{self, Content, Item, Values};
+use crate::values::{Content, Item, Values};
 use base_codes::{AVP_HEADER_LEN, HEADER_LEN, MAX_LENGTH};
 use byteorder::{BigEndian, ByteOrder};
 use dia_avp::{AvpList, AvpView, WriteError, put_avp, put_avps, put_group};
+use std::slice::from_ref;
 
 // The sum of two lengths, where 24 bits hold it.
 fn total(len: usize, more: usize) -> Option<usize>
@@ -175,22 +176,71 @@ fn write_fields(
     Ok(())
 }
 
-// Appends a command by its kind.
+// Appends a command whose fields these are, each with the type of its values: `[field]` has one, `field` none or more.
+macro_rules! append {
+    ($command:ident, $out:ident, $c:ident: $($of:ident $field:tt),*) => {
+        write_fields($command, &[$(Values::$of(values!($c $field))),*], $out)
+    };
+}
+
+macro_rules! values {
+    ($c:ident [$field:ident]) => {
+        from_ref(&$c.$field)
+    };
+    ($c:ident $field:ident) => {
+        $c.$field.as_slice()
+    };
+}
+
+// Appends a command, its fields in the order of its format.
 fn write_command(command: &Command, out: &mut Vec<u8>) -> Result<(), WriteError>
     ensures { Writes command.now result out.old.items out.new.items (vec_len out.old) (vec_capacity out.old) (vec_capacity out.new) }
 {
     match command {
-        Command::Cer(c) => write_fields(command, &values::capabilities_exchange_request(c), out),
-        Command::Cea(c) => write_fields(command, &values::capabilities_exchange_answer(c), out),
-        Command::Dwr(c) => write_fields(command, &values::device_watchdog_request(c), out),
-        Command::Dwa(c) => write_fields(command, &values::device_watchdog_answer(c), out),
-        Command::Dpr(c) => write_fields(command, &values::disconnect_peer_request(c), out),
-        Command::Dpa(c) => write_fields(command, &values::disconnect_peer_answer(c), out),
-        Command::Rar(c) => write_fields(command, &values::re_auth_request(c), out),
-        Command::Raa(c) => write_fields(command, &values::re_auth_answer(c), out),
-        Command::Ccr(c) => write_fields(command, &values::credit_control_request(c), out),
-        Command::Cca(c) => write_fields(command, &values::credit_control_answer(c), out),
-        Command::ErrorAnswer(c) => write_fields(command, &values::error_answer(c), out),
+        Command::Cer(c) => append! { command, out, c:
+            Octets [origin_host], Octets [origin_realm], Octets host_ip_address,
+            Numbers [vendor_id], Texts [product_name], Numbers auth_application_id
+        },
+        Command::Cea(c) => append! { command, out, c:
+            Numbers [result_code], Octets [origin_host], Octets [origin_realm],
+            Octets host_ip_address, Numbers [vendor_id], Texts [product_name],
+            Numbers auth_application_id
+        },
+        Command::Dwr(c) => append!(command, out, c: Octets [origin_host], Octets [origin_realm]),
+        Command::Dwa(c) => append! { command, out, c:
+            Numbers [result_code], Octets [origin_host], Octets [origin_realm]
+        },
+        Command::Dpr(c) => append! { command, out, c:
+            Octets [origin_host], Octets [origin_realm], Numbers [disconnect_cause]
+        },
+        Command::Dpa(c) => append! { command, out, c:
+            Numbers [result_code], Octets [origin_host], Octets [origin_realm]
+        },
+        Command::Rar(c) => append! { command, out, c:
+            Texts [session_id], Octets [origin_host], Octets [origin_realm],
+            Octets [destination_realm], Octets [destination_host], Numbers [auth_application_id],
+            Numbers [re_auth_request_type]
+        },
+        Command::Raa(c) => append! { command, out, c:
+            Texts [session_id], Numbers [result_code], Octets [origin_host], Octets [origin_realm]
+        },
+        Command::Ccr(c) => append! { command, out, c:
+            Texts [session_id], Octets [origin_host], Octets [origin_realm],
+            Octets [destination_realm], Numbers [auth_application_id], Texts [service_context_id],
+            Types [cc_request_type], Numbers [cc_request_number], Groups subscription_id,
+            Actions requested_action, Groups requested_service_unit, Groups used_service_unit,
+            Numbers multiple_services_indicator, Groups multiple_services_credit_control
+        },
+        Command::Cca(c) => append! { command, out, c:
+            Texts [session_id], Numbers [result_code], Octets [origin_host], Octets [origin_realm],
+            Numbers [auth_application_id], Types [cc_request_type], Numbers [cc_request_number],
+            Groups granted_service_unit, Groups final_unit_indication, Numbers check_balance_result,
+            Groups multiple_services_credit_control
+        },
+        Command::ErrorAnswer(c) => append! { command, out, c:
+            Texts session_id, Octets [origin_host], Octets [origin_realm], Numbers [result_code],
+            Octets failed_avp
+        },
     }
 }
 
