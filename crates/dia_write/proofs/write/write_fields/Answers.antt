@@ -3,10 +3,10 @@ use Rattle.dia_avp.specs.declared.avp.Avp.{Avp}
 use Rattle.dia_avp.specs.Encoding.{encoding}
 use Rattle.dia_avp.proofs.Encoded.{short_inner}
 use Rattle.dia_command.specs.Command.{avps_of, rest_of}
-use Rattle.dia_command.specs.Values.{values_avps}
-use Rattle.dia_command.specs.Encoding.{message_len}
-use Rattle.dia_command.proofs.WriteLemmas.{avps-all, length-parts, encode-parts, encode-whole, encode-first_frame}
-use Rattle.dia_command.proofs.write.write_fields.Goals as goal
+use Rattle.dia_write.specs.Values.{values_avps}
+use Rattle.dia_write.specs.Encoding.{message_len}
+use Rattle.dia_write.proofs.WriteLemmas.{avps-all, length-parts, encode-parts, encode-whole, encode-first_frame}
+use Rattle.dia_write.proofs.write.write_fields.Goals as goal
 
 pub put_avps-requires-clause-short : goal.put_avps-requires-clause-short
 put_avps-requires-clause-short c =

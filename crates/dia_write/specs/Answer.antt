@@ -7,7 +7,7 @@ use Rattle.dia_command.specs.declared.command.Command.{Command}
 use Rattle.dia_command.specs.declared.command.Command.TheVariants.{ErrorAnswer}
 use Rattle.dia_tree.specs.declared.fault.MsgFault.{MsgFault}
 use Rattle.dia_command.specs.declared.header.Header.{Header}
-use Rattle.dia_command.specs.declared.typed.Identity.{Identity}
+use Rattle.dia_write.specs.declared.answer.Identity.{Identity}
 use Rattle.dia_command.specs.declared.typed.TypedAvp.{TypedAvp}
 
 -- a value that this node writes: with flag M, without P

@@ -1,9 +1,9 @@
 use Rattle.std.proofs.Common.{sym, arith}
 use Rattle.std.proofs.lemmas.Option.{get_or_from_slice_get}
 use Rattle.dia_avp.specs.Encoding.{encoded}
-use Rattle.dia_command.specs.Values.{value_avps, item_avp}
-use Rattle.dia_command.proofs.WriteLemmas.{length-pieces-next, length-pieces-more}
-use Rattle.dia_command.proofs.write.with_values.Goals as goal
+use Rattle.dia_write.specs.Values.{value_avps, item_avp}
+use Rattle.dia_write.proofs.WriteLemmas.{length-pieces-next, length-pieces-more}
+use Rattle.dia_write.proofs.write.with_values.Goals as goal
 
 -- where the sum up to here is too great, the whole is
 pub returns-in_err-len : goal.returns-in_err-len

@@ -4,11 +4,11 @@ use Rattle.byteorder.specs.Endian.{big_bytes}
 use Rattle.dia_avp.specs.declared.avp.Avp.{Avp}
 use Rattle.dia_avp.specs.Encoding.{encoding}
 use Rattle.dia_command.specs.declared.format.AvpFormat.{AvpFormat}
-use Rattle.dia_command.specs.declared.values.Values.{Values}
-use Rattle.dia_command.specs.declared.values.Values.TheVariants as values
-use Rattle.dia_command.specs.declared.values.Item.{Item}
-use Rattle.dia_command.specs.declared.values.Content.{Content}
-use Rattle.dia_command.specs.declared.values.Content.TheVariants as contents
+use Rattle.dia_write.specs.declared.values.Values.{Values}
+use Rattle.dia_write.specs.declared.values.Values.TheVariants as values
+use Rattle.dia_write.specs.declared.values.Item.{Item}
+use Rattle.dia_write.specs.declared.values.Content.{Content}
+use Rattle.dia_write.specs.declared.values.Content.TheVariants as contents
 use Rattle.dia_command.specs.Field.{Field, Octets, Numbers, Types, Actions, Groups, avps_coded, avps_by}
 
 -- the field that the values are

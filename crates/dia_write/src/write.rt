@@ -4,19 +4,17 @@ ghost use Rattle.std.specs.Prelude.{◌≡◌, ◌+◌, ◌<◌, ◌≤◌, ◌^
 ghost use Rattle.std.specs.Option.{SomeIff};
 ghost use Rattle.dia_avp.specs.View.{seen};
 ghost use Rattle.dia_avp.specs.Encoding.{length_of, encoded, encoding};
-ghost use Rattle.dia_command.specs.Header.{IsWholeMessage, header_octets};
-ghost use Rattle.dia_command.specs.Framing.{IsFirstFrame};
+ghost use Rattle.dia_command.specs.Header.{header_octets};
+ghost use Rattle.dia_write.specs.Framing.{IsWholeMessage, IsFirstFrame};
 ghost use Rattle.dia_command.specs.Command.{fields};
-ghost use Rattle.dia_command.specs.Values.{content_octets, field_of, item_avp, value_avps, values_avps};
-ghost use Rattle.dia_command.specs.Encoding.{message_len, encode, IsTooLong, Writes};
+ghost use Rattle.dia_write.specs.Values.{content_octets, field_of, item_avp, value_avps, values_avps};
+ghost use Rattle.dia_write.specs.Encoding.{message_len, encode, IsTooLong, Writes};
 
-use crate::command::Command;
-use crate::format::{AvpFormat, format_of};
-use crate::header::{Header, octets_of};
 use crate::values::{Content, Item, Values};
 use base_codes::{AVP_HEADER_LEN, HEADER_LEN, MAX_LENGTH};
 use byteorder::{BigEndian, ByteOrder};
 use dia_avp::{AvpList, AvpView, WriteError, put_avp, put_avps, put_group};
+use dia_command::{AvpFormat, Command, Header, format_of};
 use std::slice::from_ref;
 
 // The sum of two lengths, where 24 bits hold it.
@@ -152,8 +150,7 @@ fn put_header(header: &Header, len: usize, out: &mut Vec<u8>)
     ensures items { out.new.items ≡ out.old.items ++ header_octets header.now len }
     ensures room { vec_capacity out.old ≤ vec_capacity out.new }
 {
-    out.extend_from_slice(&octets_of(header, len as u32))
-        .unwrap();
+    out.extend_from_slice(&header.octets(len as u32)).unwrap();
 }
 
 // Appends a command whose fields these are.

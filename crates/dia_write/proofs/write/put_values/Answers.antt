@@ -1,9 +1,9 @@
 use Rattle.std.proofs.Common.{sym, arith, vec_capacity}
 use Rattle.std.proofs.lemmas.Option.{get_or_from_slice_get}
 use Rattle.dia_avp.specs.Encoding.{encoded}
-use Rattle.dia_command.specs.Values.{value_avps, item_avp}
-use Rattle.dia_command.proofs.WriteLemmas.{length_of-encoded, length-pieces-next, room-next, written-next}
-use Rattle.dia_command.proofs.write.put_values.Goals as goal
+use Rattle.dia_write.specs.Values.{value_avps, item_avp}
+use Rattle.dia_write.proofs.WriteLemmas.{length_of-encoded, length-pieces-next, room-next, written-next}
+use Rattle.dia_write.proofs.write.put_values.Goals as goal
 
 pub put_item-requires-clause-short : goal.put_item-requires-clause-short
 put_item-requires-clause-short c =

@@ -3,15 +3,20 @@
 ghost use Rattle.std.specs.Prelude.{◌≡◌, ◌≤◌, ◌^◌, ◌↔◌, IfOk, IsErrOf, IsSomeAnd};
 ghost use Rattle.std.specs.Option.{option_map, option_copied};
 ghost use Rattle.dia_avp.specs.Encoding.{length_of, encoded};
-ghost use Rattle.dia_command.specs.Answer.{made_here, answer_header, answer_to};
+ghost use Rattle.dia_write.specs.Answer.{made_here, answer_header, answer_to};
 
-use crate::command::{Command, ErrorAnswer};
-use crate::header::{Flags, Header};
-use crate::text::Text;
-use crate::typed::{Identity, TypedAvp};
 use dia_avp::{Avp, AvpList, Octets, WriteError, write_avp};
+use dia_command::{Command, ErrorAnswer, Flags, Header, Text, TypedAvp};
 use dia_tree::MsgFault;
 use std::alloc::{AllocError, Global};
+
+/// Who a node is: its Origin-Host, Origin-Realm and IPv4 address (RFC 6733 sections 6.3, 6.4 and 5.3.5).
+#[derive(Debug, Drop)]
+pub struct Identity {
+    pub host: Octets,
+    pub realm: Octets,
+    pub address: [u8; 4],
+}
 
 fn made_here<T>(value: T) -> TypedAvp<T>
     ensures { result ≡ made_here value }

@@ -1,12 +1,10 @@
 //! What stands at one place of a command, as values that lie in it, and the AVPs that they are.
 
 ghost use Rattle.std.specs.Prelude.{◌≡◌, ◌<◌, ℕ, Some, length, slice_get};
-ghost use Rattle.dia_command.specs.Values.{value_avps, item_avp};
+ghost use Rattle.dia_write.specs.Values.{value_avps, item_avp};
 
-use crate::text::Text;
-use crate::typed::TypedAvp;
-use crate::value::{RequestType, RequestedAction};
 use dia_avp::{AvpList, Octets};
+use dia_command::{RequestType, RequestedAction, Text, TypedAvp};
 
 /// What stands at one place of a command's format: values of one type, none or more, in order. They lie in the command.
 #[derive(Clone, Copy)]

@@ -4,8 +4,8 @@ use Rattle.dia_avp.specs.Encoding.{encoding}
 use Rattle.dia_avp.specs.declared.fault.WriteError.{WriteError}
 use Rattle.dia_avp.specs.declared.fault.WriteError.TheVariants.{NoMemory, LengthOver24Bits}
 use Rattle.dia_command.specs.declared.command.Command.{Command}
-use Rattle.dia_command.specs.Header.{header_octets, IsWholeMessage}
-use Rattle.dia_command.specs.Framing.{IsFirstFrame}
+use Rattle.dia_command.specs.Header.{header_octets}
+use Rattle.dia_write.specs.Framing.{IsWholeMessage, IsFirstFrame}
 use Rattle.dia_command.specs.Command.{header_of, avps_of}
 
 -- the Message Length: the header and all AVPs with their padding

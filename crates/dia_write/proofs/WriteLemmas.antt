@@ -10,16 +10,16 @@ use Rattle.dia_avp.specs.Encoding.{length_of, encoded, encoding}
 use Rattle.dia_avp.proofs.Encoded.{length_encoded}
 use Rattle.dia_frame.proofs.LawLemmas.{first_frame}
 use Rattle.dia_command.specs.declared.command.Command.{Command}
-use Rattle.dia_command.specs.declared.values.Item.{Item}
-use Rattle.dia_command.specs.Framing.{IsFirstFrame}
+use Rattle.dia_write.specs.declared.values.Item.{Item}
+use Rattle.dia_write.specs.Framing.{IsWholeMessage, IsFirstFrame}
 use Rattle.dia_command.specs.declared.format.AvpFormat.{AvpFormat}
-use Rattle.dia_command.specs.declared.values.Values.{Values}
+use Rattle.dia_write.specs.declared.values.Values.{Values}
 use Rattle.dia_command.specs.Format.{format_of}
 use Rattle.dia_command.specs.Field.{Field, avps_by}
-use Rattle.dia_command.specs.Header.{header_octets, IsWholeMessage}
+use Rattle.dia_command.specs.Header.{header_octets}
 use Rattle.dia_command.specs.Command.{kind_of, header_of, rest_of, fields, avps_of}
-use Rattle.dia_command.specs.Values.{content_octets, field_of, item_avp, values_avps}
-use Rattle.dia_command.specs.Encoding.{message_len, encode}
+use Rattle.dia_write.specs.Values.{content_octets, field_of, item_avp, values_avps}
+use Rattle.dia_write.specs.Encoding.{message_len, encode}
 
 -- an encoding is no shorter than the AVP Length
 pub length_of-encoded : (a : Avp) → length_of a ≤ length (encoded a)
