@@ -15,14 +15,16 @@ pub struct AvpFormat {
     pub several: bool,
 }
 
-// How often an AVP stands in a command: whether it must be there, and whether several may be. In a command's format { } and < >,
-// [ ], 1* { } and * [ ].
+// How often an AVP stands in a command: whether it must be there, and whether several may be. { } and < > in a format.
 const REQUIRED: (bool, bool) = (true, false);
 
+// [ ]
 const OPTIONAL: (bool, bool) = (false, false);
 
+// 1* { }
 const ONE_OR_MORE: (bool, bool) = (true, true);
 
+// * [ ]
 const ANY_NUMBER: (bool, bool) = (false, true);
 
 macro_rules! avps {
