@@ -1,3 +1,2 @@
-pub mod WriteLemmas
 pub mod SameLaws
 pub mod AgainLaws

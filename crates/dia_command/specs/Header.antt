@@ -1,5 +1,5 @@
 -- The header of a message (RFC 6733 section 3): the numbers in network byte order.
-use Rattle.std.specs.Prelude.{◌≡◌, ◌≤◌, ℕ, ◌+◌, ◌%◌, true, false, List, ◌∷◌, ◌++◌, length, slice_index, drop, if◌then◌else◌, refl}
+use Rattle.std.specs.Prelude.{◌≡◌, ℕ, ◌+◌, true, false, List, ◌∷◌, ◌++◌, slice_index, drop, if◌then◌else◌, refl}
 use Rattle.byteorder.specs.Endian.{big_bytes, big_number}
 use Rattle.dia_avp.specs.Avps.{has_flag}
 use Rattle.dia_command.specs.declared.header.Flags.{Flags}
@@ -36,13 +36,6 @@ abbrev pub header_octets : Header → ℕ → List ℕ
 header_octets h len =
     1 ∷ big_bytes 3 len ++ flags_octet h.flags ∷ big_bytes 3 h.command
     ++ big_bytes 4 h.application ++ big_bytes 4 h.hop_by_hop ++ big_bytes 4 h.end_to_end
-
--- the octets are one message by their header: version 1, and the length is their number, at least 20 and a multiple of 4
-pub record IsWholeMessage (octets : List ℕ) : Type 0 where
-  pub version : slice_index octets 0 ≡ 1
-  pub length_is : big_number 3 (drop 1 octets) ≡ length octets
-  pub has_header : 20 ≤ length octets
-  pub aligned : length octets % 4 ≡ 0
 
 -- the flags R and P, as a Credit-Control-Request has them (RFC 8506 section 3.1)
 pub request_and_proxiable : flags_octet (record { request = true; proxiable = true; error = false; retransmitted = false }) ≡ 192

@@ -3,8 +3,4 @@ pub mod Value
 pub mod Format
 pub mod Field
 pub mod Command
-pub mod Values
-pub mod Encoding
-pub mod Framing
-pub mod Answer
 pub mod Laws

@@ -10,6 +10,14 @@ use crate::typed::{TypedAvp, TypedAvps};
 use crate::value::{RequestType, RequestedAction};
 use dia_avp::{AvpList, Octets};
 
+// Drops a command's struct, by its fields. A derived `drop` is proved anew, field by field, at each way out of each function that
+// holds a command; this one is a call.
+macro_rules! dropped {
+    ($command:ident: $($field:ident),*) => {
+        let Self { header: _, $($field,)* rest } = $command;
+    };
+}
+
 /// A Capabilities-Exchange-Request (RFC 6733 section 5.3.1). `rest` has the AVPs that no field took, in order.
 #[derive(Debug)]
 pub struct CapabilitiesExchangeRequest {
@@ -25,16 +33,9 @@ pub struct CapabilitiesExchangeRequest {
 
 impl Drop for CapabilitiesExchangeRequest {
     fn drop(self) {
-        let CapabilitiesExchangeRequest {
-            header: _,
-            origin_host,
-            origin_realm,
-            host_ip_address,
-            vendor_id,
-            product_name,
-            auth_application_id,
-            rest,
-        } = self;
+        dropped! { self:
+            origin_host, origin_realm, host_ip_address, vendor_id, product_name, auth_application_id
+        }
     }
 }
 
@@ -54,17 +55,10 @@ pub struct CapabilitiesExchangeAnswer {
 
 impl Drop for CapabilitiesExchangeAnswer {
     fn drop(self) {
-        let CapabilitiesExchangeAnswer {
-            header: _,
-            result_code,
-            origin_host,
-            origin_realm,
-            host_ip_address,
-            vendor_id,
-            product_name,
-            auth_application_id,
-            rest,
-        } = self;
+        dropped! { self:
+            result_code, origin_host, origin_realm, host_ip_address, vendor_id, product_name,
+            auth_application_id
+        }
     }
 }
 
@@ -79,12 +73,7 @@ pub struct DeviceWatchdogRequest {
 
 impl Drop for DeviceWatchdogRequest {
     fn drop(self) {
-        let DeviceWatchdogRequest {
-            header: _,
-            origin_host,
-            origin_realm,
-            rest,
-        } = self;
+        dropped!(self: origin_host, origin_realm);
     }
 }
 
@@ -100,13 +89,7 @@ pub struct DeviceWatchdogAnswer {
 
 impl Drop for DeviceWatchdogAnswer {
     fn drop(self) {
-        let DeviceWatchdogAnswer {
-            header: _,
-            result_code,
-            origin_host,
-            origin_realm,
-            rest,
-        } = self;
+        dropped!(self: result_code, origin_host, origin_realm);
     }
 }
 
@@ -122,13 +105,7 @@ pub struct DisconnectPeerRequest {
 
 impl Drop for DisconnectPeerRequest {
     fn drop(self) {
-        let DisconnectPeerRequest {
-            header: _,
-            origin_host,
-            origin_realm,
-            disconnect_cause,
-            rest,
-        } = self;
+        dropped!(self: origin_host, origin_realm, disconnect_cause);
     }
 }
 
@@ -144,13 +121,7 @@ pub struct DisconnectPeerAnswer {
 
 impl Drop for DisconnectPeerAnswer {
     fn drop(self) {
-        let DisconnectPeerAnswer {
-            header: _,
-            result_code,
-            origin_host,
-            origin_realm,
-            rest,
-        } = self;
+        dropped!(self: result_code, origin_host, origin_realm);
     }
 }
 
@@ -170,17 +141,10 @@ pub struct ReAuthRequest {
 
 impl Drop for ReAuthRequest {
     fn drop(self) {
-        let ReAuthRequest {
-            header: _,
-            session_id,
-            origin_host,
-            origin_realm,
-            destination_realm,
-            destination_host,
-            auth_application_id,
-            re_auth_request_type,
-            rest,
-        } = self;
+        dropped! { self:
+            session_id, origin_host, origin_realm, destination_realm, destination_host,
+            auth_application_id, re_auth_request_type
+        }
     }
 }
 
@@ -197,14 +161,7 @@ pub struct ReAuthAnswer {
 
 impl Drop for ReAuthAnswer {
     fn drop(self) {
-        let ReAuthAnswer {
-            header: _,
-            session_id,
-            result_code,
-            origin_host,
-            origin_realm,
-            rest,
-        } = self;
+        dropped!(self: session_id, result_code, origin_host, origin_realm);
     }
 }
 
@@ -231,24 +188,12 @@ pub struct CreditControlRequest {
 
 impl Drop for CreditControlRequest {
     fn drop(self) {
-        let CreditControlRequest {
-            header: _,
-            session_id,
-            origin_host,
-            origin_realm,
-            destination_realm,
-            auth_application_id,
-            service_context_id,
-            cc_request_type,
-            cc_request_number,
-            subscription_id,
-            requested_action,
-            requested_service_unit,
-            used_service_unit,
-            multiple_services_indicator: _,
-            multiple_services_credit_control,
-            rest,
-        } = self;
+        dropped! { self:
+            session_id, origin_host, origin_realm, destination_realm, auth_application_id,
+            service_context_id, cc_request_type, cc_request_number, subscription_id,
+            requested_action, requested_service_unit, used_service_unit,
+            multiple_services_indicator, multiple_services_credit_control
+        }
     }
 }
 
@@ -272,21 +217,11 @@ pub struct CreditControlAnswer {
 
 impl Drop for CreditControlAnswer {
     fn drop(self) {
-        let CreditControlAnswer {
-            header: _,
-            session_id,
-            result_code,
-            origin_host,
-            origin_realm,
-            auth_application_id,
-            cc_request_type,
-            cc_request_number,
-            granted_service_unit,
-            final_unit_indication,
-            check_balance_result: _,
-            multiple_services_credit_control,
-            rest,
-        } = self;
+        dropped! { self:
+            session_id, result_code, origin_host, origin_realm, auth_application_id,
+            cc_request_type, cc_request_number, granted_service_unit, final_unit_indication,
+            check_balance_result, multiple_services_credit_control
+        }
     }
 }
 
@@ -304,15 +239,7 @@ pub struct ErrorAnswer {
 
 impl Drop for ErrorAnswer {
     fn drop(self) {
-        let ErrorAnswer {
-            header: _,
-            session_id,
-            origin_host,
-            origin_realm,
-            result_code,
-            failed_avp,
-            rest,
-        } = self;
+        dropped!(self: session_id, origin_host, origin_realm, result_code, failed_avp);
     }
 }
 
@@ -332,22 +259,28 @@ pub enum Command {
     ErrorAnswer(ErrorAnswer),
 }
 
-// A derived `drop` is proved anew, field by field, at each way out of each function that holds a command; this one is a call.
+// What to do with a command, whichever it is.
+macro_rules! whichever {
+    ($command:expr, $c:ident => $done:expr) => {
+        match $command {
+            Command::Cer($c) => $done,
+            Command::Cea($c) => $done,
+            Command::Dwr($c) => $done,
+            Command::Dwa($c) => $done,
+            Command::Dpr($c) => $done,
+            Command::Dpa($c) => $done,
+            Command::Rar($c) => $done,
+            Command::Raa($c) => $done,
+            Command::Ccr($c) => $done,
+            Command::Cca($c) => $done,
+            Command::ErrorAnswer($c) => $done,
+        }
+    };
+}
+
 impl Drop for Command {
     fn drop(self) {
-        match self {
-            Command::Cer(command) => drop(command),
-            Command::Cea(command) => drop(command),
-            Command::Dwr(command) => drop(command),
-            Command::Dwa(command) => drop(command),
-            Command::Dpr(command) => drop(command),
-            Command::Dpa(command) => drop(command),
-            Command::Rar(command) => drop(command),
-            Command::Raa(command) => drop(command),
-            Command::Ccr(command) => drop(command),
-            Command::Cca(command) => drop(command),
-            Command::ErrorAnswer(command) => drop(command),
-        }
+        whichever!(self, c => drop(c))
     }
 }
 
@@ -375,37 +308,13 @@ impl Command {
     pub fn header(&self) -> &Header
         ensures { result.now ≡ header_of self.now }
     {
-        match self {
-            Command::Cer(c) => &c.header,
-            Command::Cea(c) => &c.header,
-            Command::Dwr(c) => &c.header,
-            Command::Dwa(c) => &c.header,
-            Command::Dpr(c) => &c.header,
-            Command::Dpa(c) => &c.header,
-            Command::Rar(c) => &c.header,
-            Command::Raa(c) => &c.header,
-            Command::Ccr(c) => &c.header,
-            Command::Cca(c) => &c.header,
-            Command::ErrorAnswer(c) => &c.header,
-        }
+        whichever!(self, c => &c.header)
     }
 
     /// The AVPs that no field took, in order.
     pub fn rest(&self) -> &AvpList
         ensures { result.now ≡ rest_of self.now }
     {
-        match self {
-            Command::Cer(c) => &c.rest,
-            Command::Cea(c) => &c.rest,
-            Command::Dwr(c) => &c.rest,
-            Command::Dwa(c) => &c.rest,
-            Command::Dpr(c) => &c.rest,
-            Command::Dpa(c) => &c.rest,
-            Command::Rar(c) => &c.rest,
-            Command::Raa(c) => &c.rest,
-            Command::Ccr(c) => &c.rest,
-            Command::Cca(c) => &c.rest,
-            Command::ErrorAnswer(c) => &c.rest,
-        }
+        whichever!(self, c => &c.rest)
     }
 }

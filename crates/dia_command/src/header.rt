@@ -76,18 +76,20 @@ pub fn header_of(octets: &[u8]) -> Header
     }
 }
 
-/// The octets of a header in front of a message of `len` octets.
-pub(crate) fn octets_of(header: &Header, len: u32) -> [u8; HEADER_LEN]
-    requires { len < 2 ^ 24 }
-    ensures { result ≡ header_octets header.now len }
-{
-    let mut octets = [0; 20];
-    octets[0] = VERSION;
-    BigEndian::write_u24(&mut octets[1..], len);
-    octets[4] = octet_of(header.flags);
-    BigEndian::write_u24(&mut octets[5..], header.command & 0xff_ffff);
-    BigEndian::write_u32(&mut octets[8..], header.application);
-    BigEndian::write_u32(&mut octets[12..], header.hop_by_hop);
-    BigEndian::write_u32(&mut octets[16..], header.end_to_end);
-    octets
+impl Header {
+    /// Its octets in front of a message of `len` octets, header and all AVPs with their padding.
+    pub fn octets(&self, len: u32) -> [u8; HEADER_LEN]
+        requires { len < 2 ^ 24 }
+        ensures { result ≡ header_octets self.now len }
+    {
+        let mut octets = [0; 20];
+        octets[0] = VERSION;
+        BigEndian::write_u24(&mut octets[1..], len);
+        octets[4] = octet_of(self.flags);
+        BigEndian::write_u24(&mut octets[5..], self.command & 0xff_ffff);
+        BigEndian::write_u32(&mut octets[8..], self.application);
+        BigEndian::write_u32(&mut octets[12..], self.hop_by_hop);
+        BigEndian::write_u32(&mut octets[16..], self.end_to_end);
+        octets
+    }
 }

@@ -1,4 +1,4 @@
-//! Commands of Diameter as values (RFC 6733 sections 3 and 6, RFC 8506 section 3), and their octets.
+//! Commands of Diameter as values (RFC 6733 sections 3 and 6, RFC 8506 section 3).
 //!
 //! | File | What it does |
 //! |---|---|
@@ -6,13 +6,9 @@
 //! | `kind`, `format` | which commands there are, and their AVPs in order: the data that all else goes by |
 //! | `value`, `text`, `typed` | values of AVPs |
 //! | `command` | commands as values |
-//! | `values` | from a command to its fields, in the order of its format |
-//! | `write` | from a command to octets |
-//! | `answer` | the answer that tells the fault of a request |
 //! | `laws` | that header, fields and rest fix a command, and that what was read is written again |
 #![tactic(auto)]
 
-mod answer;
 mod command;
 mod format;
 mod header;
@@ -21,22 +17,16 @@ mod laws;
 mod text;
 mod typed;
 mod value;
-mod values;
-mod write;
 
-pub use answer::error_answer;
-pub use base_codes::ResultCode;
 pub use command::{
     CapabilitiesExchangeAnswer, CapabilitiesExchangeRequest, Command, CreditControlAnswer,
     CreditControlRequest, DeviceWatchdogAnswer, DeviceWatchdogRequest, DisconnectPeerAnswer,
     DisconnectPeerRequest, ErrorAnswer, ReAuthAnswer, ReAuthRequest,
 };
-pub use dia_tree::MsgFault;
 pub use format::{AvpFormat, format_of};
 pub use header::{Flags, Header, header_of};
 pub use kind::{CommandKind, application_of};
 pub use laws::{same_command, written_again};
 pub use text::Text;
-pub use typed::{Identity, TypedAvp, TypedAvps};
+pub use typed::{TypedAvp, TypedAvps};
 pub use value::{RequestType, RequestedAction};
-pub use write::write_message;

@@ -1,6 +1,5 @@
-ghost use Rattle.std.specs.Prelude.{◌≡◌, ◌==◌, [], ◌∷◌, ◌++◌, length, OnOk, OnErr};
+ghost use Rattle.std.specs.Prelude.{◌≡◌, [], ◌∷◌, ◌++◌, OnOk, OnErr};
 
-use dia_avp::Octets;
 use std::alloc::{AllocError, Global};
 use std::marker::Model;
 
@@ -47,20 +46,6 @@ impl<T: Drop> TypedAvps<T> {
         }
     }
 
-    /// How many values there are.
-    pub fn len(&self) -> usize
-        ensures { result ≡ length self.now }
-    {
-        self.avps.len()
-    }
-
-    /// Whether there is none.
-    pub fn is_empty(&self) -> bool
-        ensures { result ≡ (length self.now == 0) }
-    {
-        self.avps.is_empty()
-    }
-
     /// The values.
     pub fn as_slice(&self) -> &[TypedAvp<T>]
         ensures { result.now ≡ self.now }
@@ -76,12 +61,4 @@ impl<T: Drop> TypedAvps<T> {
         self.avps.push(avp)?;
         Ok(())
     }
-}
-
-/// Who a node is: its Origin-Host, Origin-Realm and IPv4 address (RFC 6733 sections 6.3, 6.4 and 5.3.5).
-#[derive(Debug, Drop)]
-pub struct Identity {
-    pub host: Octets,
-    pub realm: Octets,
-    pub address: [u8; 4],
 }

@@ -38,10 +38,10 @@ use Rattle.dia_command.specs.Header.{header_in, header_octets, flags_in, flags_o
 use Rattle.dia_command.specs.Format.{kind_coded, application_of, format_of}
 use Rattle.dia_command.specs.Field.{Field, Octets, Numbers, Types, Actions, Groups, avps_by, number_in, IsGroup, IsValueOf, AreValues, IsFieldOf}
 use Rattle.dia_command.specs.Command.{kind_of, header_of, fields, rest_of, avps_of, with_length}
-use Rattle.dia_command.specs.Encoding.{message_len, encode}
+use Rattle.dia_write.specs.Encoding.{message_len, encode}
 use Rattle.dia_command.specs.Laws.{IsRead, has_groups, IsReadOf, AreReadOf}
 use Rattle.dia_command.proofs.AgainLaws.{written_again}
-use Rattle.dia_command.proofs.WriteLemmas.{length-encode, encode-whole}
+use Rattle.dia_write.proofs.WriteLemmas.{length-encode, encode-whole}
 use Rattle.dia_msg.specs.declared.fault.MsgError.{MsgError}
 use Rattle.dia_msg.specs.Taken.{is_for, taken, groups, untaken, missing}
 use Rattle.dia_msg.specs.Faults.{header_faults, kind_in, is_credit, is_event, first_number, has_failed, is_complete, read_as, kind_read, format_read, has_services, instances, services_faults, HasFaults}

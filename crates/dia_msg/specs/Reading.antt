@@ -10,7 +10,7 @@ use Rattle.dia_command.specs.declared.command.Command.{Command}
 use Rattle.dia_command.specs.Header.{header_in}
 use Rattle.dia_command.specs.Field.{Field, IsFieldOf}
 use Rattle.dia_command.specs.Command.{kind_of, header_of, rest_of, fields, with_length}
-use Rattle.dia_command.specs.Encoding.{encode}
+use Rattle.dia_write.specs.Encoding.{encode}
 use Rattle.dia_msg.specs.declared.fault.MsgError.{MsgError}
 use Rattle.dia_msg.specs.declared.fault.MsgError.TheVariants as msg_errors
 use Rattle.dia_msg.specs.Taken.{groups, untaken}

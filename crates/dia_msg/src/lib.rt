@@ -19,12 +19,14 @@ mod services;
 mod sorting;
 mod source;
 
+pub use base_codes::ResultCode;
 pub use dia_command::{
     AvpFormat, CapabilitiesExchangeAnswer, CapabilitiesExchangeRequest, Command, CommandKind,
     CreditControlAnswer, CreditControlRequest, DeviceWatchdogAnswer, DeviceWatchdogRequest,
-    DisconnectPeerAnswer, DisconnectPeerRequest, ErrorAnswer, Flags, Header, Identity, MsgFault,
-    ReAuthAnswer, ReAuthRequest, RequestType, RequestedAction, ResultCode, Text, TypedAvp,
-    TypedAvps, error_answer, format_of, write_message,
+    DisconnectPeerAnswer, DisconnectPeerRequest, ErrorAnswer, Flags, Header, ReAuthAnswer,
+    ReAuthRequest, RequestType, RequestedAction, Text, TypedAvp, TypedAvps, format_of,
 };
+pub use dia_tree::MsgFault;
+pub use dia_write::{Identity, error_answer, write_message};
 pub use fault::MsgError;
 pub use read::read_message;

@@ -9,7 +9,7 @@ use Rattle.dia_tree.specs.declared.fault.MsgFault.{MsgFault}
 use Rattle.base_codes.specs.ResultCodes.{number_of}
 use Rattle.dia_command.specs.Command.{header_of}
 use Rattle.dia_msg.specs.Reading.{IsReading}
-use Rattle.dia_command.specs.Encoding.{IsTooLong, encode}
+use Rattle.dia_write.specs.Encoding.{IsTooLong, encode}
 use Rattle.msg_text.specs.Lines.{MessageText, fault_line}
 
 -- the octets that are printed of a command: its encoding, and none where 24 bits don't hold its length

@@ -359,8 +359,8 @@ fn has_fields(ccr: &CreditControlRequest) -> bool {
 fn has_groups(ccr: &CreditControlRequest) -> bool {
     ccr.requested_action.is_some()
         && ccr.requested_service_unit.is_none()
-        && ccr.used_service_unit.is_empty()
-        && ccr.subscription_id.len() == 1
+        && ccr.used_service_unit.as_slice().is_empty()
+        && ccr.subscription_id.as_slice().len() == 1
 }
 
 /// Whether a request has the values that its octets say.

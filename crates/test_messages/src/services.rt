@@ -101,8 +101,8 @@ fn is_written(alloc: Global, command: &Command, octets: &[u8]) -> bool {
 /// How many services a command has, and how many AVPs are in its rest.
 fn counts(command: &Command) -> (usize, usize) {
     let services = match command {
-        Command::Ccr(ccr) => ccr.multiple_services_credit_control.len(),
-        Command::Cca(cca) => cca.multiple_services_credit_control.len(),
+        Command::Ccr(ccr) => ccr.multiple_services_credit_control.as_slice().len(),
+        Command::Cca(cca) => cca.multiple_services_credit_control.as_slice().len(),
         _ => 0,
     };
     (services, command.rest().len())

@@ -1,0 +1,4 @@
+pub mod Values
+pub mod Framing
+pub mod Encoding
+pub mod Answer

@@ -1,0 +1,15 @@
+//! Commands of Diameter to octets (RFC 6733 sections 3 and 4), and the answer that tells a fault.
+//!
+//! | File | What it does |
+//! |---|---|
+//! | `values` | what stands at one place of a command, and the AVPs that they are |
+//! | `write` | from a command to octets: its fields in the order of its format |
+//! | `answer` | the answer that tells the fault of a request |
+#![tactic(auto)]
+
+mod answer;
+mod values;
+mod write;
+
+pub use answer::{Identity, error_answer};
+pub use write::write_message;

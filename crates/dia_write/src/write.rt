@@ -1,0 +1,264 @@
+//! The encoding of a command: how long it is, and its octets.
+
+ghost use Rattle.std.specs.Prelude.{◌≡◌, ◌+◌, ◌<◌, ◌≤◌, ◌^◌, ◌↔◌, ◌++◌, length, map, vec_len, vec_capacity, OnOk, OnErr, IfErr, IsErrOf};
+ghost use Rattle.std.specs.Option.{SomeIff};
+ghost use Rattle.dia_avp.specs.View.{seen};
+ghost use Rattle.dia_avp.specs.Encoding.{length_of, encoded, encoding};
+ghost use Rattle.dia_command.specs.Header.{header_octets};
+ghost use Rattle.dia_write.specs.Framing.{IsWholeMessage, IsFirstFrame};
+ghost use Rattle.dia_command.specs.Command.{fields};
+ghost use Rattle.dia_write.specs.Values.{content_octets, field_of, item_avp, value_avps, values_avps};
+ghost use Rattle.dia_write.specs.Encoding.{message_len, encode, IsTooLong, Writes};
+
+use crate::values::{Content, Item, Values};
+use base_codes::{AVP_HEADER_LEN, HEADER_LEN, MAX_LENGTH};
+use byteorder::{BigEndian, ByteOrder};
+use dia_avp::{AvpList, AvpView, WriteError, put_avp, put_avps, put_group};
+use dia_command::{AvpFormat, Command, Header, format_of};
+use std::slice::from_ref;
+
+// The sum of two lengths, where 24 bits hold it.
+fn total(len: usize, more: usize) -> Option<usize>
+    requires { len < 2 ^ 24 }
+    ensures { SomeIff result (len + more < 2 ^ 24) (len + more) }
+{
+    if more > MAX_LENGTH - len {
+        None
+    } else {
+        Some(len + more)
+    }
+}
+
+// How many octets the data has, where 24 bits hold the number.
+fn content_len(content: &Content<'_>) -> Option<usize>
+    ensures { let len = length (content_octets content.now) in SomeIff result (len < 2 ^ 24) len }
+{
+    match content {
+        Content::Octets(octets) => total(0, octets.len()),
+        Content::Number(_) => Some(4),
+        Content::Group(list) => total(0, list.encoded_len()?),
+    }
+}
+
+// A length and the octets of an AVP, where 24 bits hold their sum.
+#[tactic(auto, using(crate::proofs::WriteLemmas::length_item))]
+fn with_item(start: usize, item: &Item<'_>) -> Option<usize>
+    requires { start < 2 ^ 24 }
+    ensures { let len = start + length (encoded (item_avp item.now)) in SomeIff result (len < 2 ^ 24) len }
+{
+    let data = content_len(&item.content)?;
+    total(start, (AVP_HEADER_LEN + data).div_ceil(4) * 4)
+}
+
+// A length and the octets of the values of a code, where 24 bits hold their sum.
+fn with_values(start: usize, code: u32, values: &Values<'_>) -> Option<usize>
+    requires { start < 2 ^ 24 }
+    ensures { let len = start + length (encoding (value_avps code values.now)) in SomeIff result (len < 2 ^ 24) len }
+{
+    let mut len = start;
+    for place in 0..values.len() {
+        len = with_item(len, &values.at(code, place))?;
+    }
+    Some(len)
+}
+
+// A length and the octets of fields, where 24 bits hold their sum.
+fn with_fields(start: usize, format: &[AvpFormat], fields: &[Values<'_>]) -> Option<usize>
+    requires { start < 2 ^ 24 }
+    ensures { let len = start + length (encoding (values_avps format.now fields.now)) in SomeIff result (len < 2 ^ 24) len }
+{
+    match (format.split_first(), fields.split_first()) {
+        (Some((entry, format)), Some((values, fields))) => {
+            let len = with_values(start, entry.code, values)?;
+            with_fields(len, format, fields)
+        }
+        _ => Some(start),
+    }
+}
+
+// How many octets a message of these fields and this rest has, where 24 bits hold the number.
+fn length_of(format: &[AvpFormat], fields: &[Values<'_>], rest: &AvpList) -> Option<usize>
+    ensures { let len = 20 + length (encoding (values_avps format.now fields.now ++ rest.now)) in SomeIff result (len < 2 ^ 24) len }
+{
+    let len = with_fields(HEADER_LEN, format, fields)?;
+    total(len, rest.encoded_len()?)
+}
+
+fn view_of<'a>(item: &Item<'_>, octets: &'a [u8]) -> AvpView<'a>
+    requires { octets.now ≡ content_octets item.now.content }
+    ensures { seen result ≡ item_avp item.now }
+{
+    AvpView {
+        code: item.code,
+        vendor: None,
+        mandatory: item.mandatory,
+        protected: item.protected,
+        octets,
+    }
+}
+
+// Appends an AVP for which there is room.
+fn put_item(item: &Item<'_>, out: &mut Vec<u8>)
+    requires short { length_of (item_avp item.now) < 2 ^ 24 }
+    requires room { vec_len out.old + length (encoded (item_avp item.now)) ≤ vec_capacity out.old }
+    ensures items { out.new.items ≡ out.old.items ++ encoded (item_avp item.now) }
+    ensures room { vec_capacity out.old ≤ vec_capacity out.new }
+{
+    match item.content {
+        Content::Octets(octets) => put_avp(&view_of(item, octets), out),
+        Content::Number(number) => {
+            let mut octets = [0; 4];
+            BigEndian::write_u32(&mut octets, number);
+            put_avp(&view_of(item, &octets), out);
+        }
+        Content::Group(list) => put_group(item.code, item.mandatory, item.protected, list, out),
+    }
+}
+
+// Appends the AVPs of the values of a code, for which there is room.
+fn put_values(code: u32, values: &Values<'_>, out: &mut Vec<u8>)
+    requires short { length (encoding (value_avps code values.now)) < 2 ^ 24 }
+    requires room { vec_len out.old + length (encoding (value_avps code values.now)) ≤ vec_capacity out.old }
+    ensures items { out.new.items ≡ out.old.items ++ encoding (value_avps code values.now) }
+    ensures room { vec_capacity out.old ≤ vec_capacity out.new }
+{
+    for place in 0..values.len() {
+        put_item(&values.at(code, place), out);
+    }
+}
+
+// Appends the AVPs of fields, for which there is room.
+fn put_fields(format: &[AvpFormat], fields: &[Values<'_>], out: &mut Vec<u8>)
+    requires short { length (encoding (values_avps format.now fields.now)) < 2 ^ 24 }
+    requires room { vec_len out.old + length (encoding (values_avps format.now fields.now)) ≤ vec_capacity out.old }
+    ensures items { out.new.items ≡ out.old.items ++ encoding (values_avps format.now fields.now) }
+    ensures room { vec_capacity out.old ≤ vec_capacity out.new }
+{
+    if let (Some((entry, format)), Some((values, fields))) = (
+        format.split_first(),
+        fields.split_first(),
+    ) {
+        put_values(entry.code, values, out);
+        put_fields(format, fields, out);
+    }
+}
+
+// Appends the header of a message of so many octets, for which there is room.
+fn put_header(header: &Header, len: usize, out: &mut Vec<u8>)
+    requires short { len < 2 ^ 24 }
+    requires room { vec_len out.old + 20 ≤ vec_capacity out.old }
+    ensures items { out.new.items ≡ out.old.items ++ header_octets header.now len }
+    ensures room { vec_capacity out.old ≤ vec_capacity out.new }
+{
+    out.extend_from_slice(&header.octets(len as u32)).unwrap();
+}
+
+// Appends a command whose fields these are.
+fn write_fields(
+    command: &Command,
+    values: &[Values<'_>],
+    out: &mut Vec<u8>,
+) -> Result<(), WriteError>
+    requires { map field_of values.now ≡ fields command.now }
+    ensures { Writes command.now result out.old.items out.new.items (vec_len out.old) (vec_capacity out.old) (vec_capacity out.new) }
+{
+    let format = format_of(command.kind(), false);
+    let Some(len) = length_of(format, values, command.rest()) else {
+        return Err(WriteError::LengthOver24Bits);
+    };
+    out.reserve(len)?;
+    put_header(command.header(), len, out);
+    put_fields(format, values, out);
+    put_avps(command.rest().as_slice(), out);
+    Ok(())
+}
+
+// Appends a command whose fields these are, each with the type of its values: `[field]` has one, `field` none or more.
+macro_rules! append {
+    ($command:ident, $out:ident, $c:ident: $($of:ident $field:tt),*) => {
+        write_fields($command, &[$(Values::$of(values!($c $field))),*], $out)
+    };
+}
+
+macro_rules! values {
+    ($c:ident [$field:ident]) => {
+        from_ref(&$c.$field)
+    };
+    ($c:ident $field:ident) => {
+        $c.$field.as_slice()
+    };
+}
+
+// Appends a command, its fields in the order of its format.
+fn write_command(command: &Command, out: &mut Vec<u8>) -> Result<(), WriteError>
+    ensures { Writes command.now result out.old.items out.new.items (vec_len out.old) (vec_capacity out.old) (vec_capacity out.new) }
+{
+    match command {
+        Command::Cer(c) => append! { command, out, c:
+            Octets [origin_host], Octets [origin_realm], Octets host_ip_address,
+            Numbers [vendor_id], Texts [product_name], Numbers auth_application_id
+        },
+        Command::Cea(c) => append! { command, out, c:
+            Numbers [result_code], Octets [origin_host], Octets [origin_realm],
+            Octets host_ip_address, Numbers [vendor_id], Texts [product_name],
+            Numbers auth_application_id
+        },
+        Command::Dwr(c) => append!(command, out, c: Octets [origin_host], Octets [origin_realm]),
+        Command::Dwa(c) => append! { command, out, c:
+            Numbers [result_code], Octets [origin_host], Octets [origin_realm]
+        },
+        Command::Dpr(c) => append! { command, out, c:
+            Octets [origin_host], Octets [origin_realm], Numbers [disconnect_cause]
+        },
+        Command::Dpa(c) => append! { command, out, c:
+            Numbers [result_code], Octets [origin_host], Octets [origin_realm]
+        },
+        Command::Rar(c) => append! { command, out, c:
+            Texts [session_id], Octets [origin_host], Octets [origin_realm],
+            Octets [destination_realm], Octets [destination_host], Numbers [auth_application_id],
+            Numbers [re_auth_request_type]
+        },
+        Command::Raa(c) => append! { command, out, c:
+            Texts [session_id], Numbers [result_code], Octets [origin_host], Octets [origin_realm]
+        },
+        Command::Ccr(c) => append! { command, out, c:
+            Texts [session_id], Octets [origin_host], Octets [origin_realm],
+            Octets [destination_realm], Numbers [auth_application_id], Texts [service_context_id],
+            Types [cc_request_type], Numbers [cc_request_number], Groups subscription_id,
+            Actions requested_action, Groups requested_service_unit, Groups used_service_unit,
+            Numbers multiple_services_indicator, Groups multiple_services_credit_control
+        },
+        Command::Cca(c) => append! { command, out, c:
+            Texts [session_id], Numbers [result_code], Octets [origin_host], Octets [origin_realm],
+            Numbers [auth_application_id], Types [cc_request_type], Numbers [cc_request_number],
+            Groups granted_service_unit, Groups final_unit_indication, Numbers check_balance_result,
+            Groups multiple_services_credit_control
+        },
+        Command::ErrorAnswer(c) => append! { command, out, c:
+            Texts session_id, Octets [origin_host], Octets [origin_realm], Numbers [result_code],
+            Octets failed_avp
+        },
+    }
+}
+
+/// Appends the canonical encoding of a command (RFC 6733 sections 3 and 4): the AVPs of its fields in the order of its format,
+/// then `rest`. Reserved bits and padding are zero, and the length is computed. `out` grows by its own allocator, once.
+pub fn write_message(command: &Command, out: &mut Vec<u8>) -> Result<(), WriteError>
+    ensures ok { OnOk result (out.new.items ≡ out.old.items ++ encode command.now) }
+
+    // A length that 24 bits don't hold is refused, whatever the memory.
+    ensures too_long { IsErrOf result WriteError.LengthOver24Bits ↔ IsTooLong command.now }
+    ensures err { OnErr result (out.new.items ≡ out.old.items) }
+
+    // Memory is wanting only where there is no room for it, and the room stays.
+    ensures memory { IsErrOf result WriteError.NoMemory → vec_capacity out.old < vec_len out.old + message_len command.now }
+    ensures room { vec_capacity out.old ≤ vec_capacity out.new }
+
+    // What was written is one message by its own header.
+    ensures message { OnOk result (IsWholeMessage (encode command.now)) }
+
+    // Within a framer's limit it is the first frame of itself, whatever comes behind it.
+    ensures frame { OnOk result (IsFirstFrame (encode command.now)) }
+{
+    write_command(command, out)
+}
