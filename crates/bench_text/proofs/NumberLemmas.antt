@@ -1,4 +1,4 @@
--- What the words of a line encode as numbers.
+-- What the words of a line are as numbers.
 use Rattle.std.proofs.Common.{◌≡◌, ◌<◌, ◌≤◌, ℕ, zero, suc, ◌+◌, ◌*◌, ◌-◌, ◌^◌, ◌==◌, Bool, true, false, List, [], ◌∷◌, length, take, drop, get_or, Some, None, refl, sym, ap, ◌∙◌, arith}
 use Rattle.std.specs.Prelude.{◌&&◌, nat_lt, fold}
 use Rattle.std.specs.List.{list_all}
@@ -24,7 +24,7 @@ list_all-false p [] i below fails = absurd (omega arith)
 list_all-false p (x ∷ xs) zero below fails = rw fails refl
 list_all-false p (x ∷ xs) (suc i) below fails = and_false (p x) (list_all p xs) (list_all-false p xs i (omega arith) fails)
 
--- more digits encode no smaller number
+-- more digits spell no smaller number
 fold-grows : (start : ℕ) (digits : List ℕ) → start ≤ fold (λ value digit. value * 10 + (digit - 48)) start digits
 fold-grows start [] = omega arith
 fold-grows start (d ∷ ds) =
@@ -51,7 +51,7 @@ number_of-other word i below other =
     let fails = and_second (is_word word) (list_all is_digit word) (nat_lt (decimal_value word) (2 ^ 64)) (list_all-false is_digit word i below other) in
     rw fails refl
 
--- a word whose front encodes too large a number is none
+-- a word whose front spells too large a number is none
 pub number_of-large : (word : List ℕ) (i : ℕ) → 2 ^ 64 ≤ decimal_value (take i word) → None ≡ number_of word
 unfolding number_of
 number_of-large word i large =
@@ -63,7 +63,7 @@ is_word-some : (word : List ℕ) → (length word == 0) ≡ false → is_word wo
 is_word-some [] some = absurd (cc)
 is_word-some (c ∷ cs) some = refl
 
--- digits alone that encode a number below 2 ^ 64
+-- digits alone that spell a number below 2 ^ 64
 pub number_of-digits : (word : List ℕ) (value : ℕ) → (length word == 0) ≡ false → list_all is_digit word ≡ true
     → value ≡ decimal_value word → value < 2 ^ 64 → Some value ≡ number_of word
 unfolding number_of

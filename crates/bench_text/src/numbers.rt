@@ -8,7 +8,7 @@ fn is_digit(c: u8) -> bool
     matches!(c, b'0'..=b'9')
 }
 
-/// The number that a word encodes in decimal digits: at least one, and below 2^64.
+/// The number that a word spells in decimal digits: at least one, and below 2^64.
 pub fn number_of(word: &[u8]) -> Option<u64>
     ensures { result ≡ number_of word.now }
 {
