@@ -1,6 +1,10 @@
 -- The faults of octets, and of a message's AVPs, are one list: what `group_faults` gives (takes), and nothing else (again).
 use Rattle.std.proofs.Common.{◌≡◌, ℕ, zero, suc, ◌+◌, Bool, true, false, ◌&&◌, List, [], ◌∷◌, ◌++◌, Option, None, Some, All, refl, sym, ap, subst, ◌∙◌, if◌then◌else◌}
-use Rattle.std.specs.Prelude.{nat_le, slice_get}
+use Rattle.std.specs.Prelude.{◌<◌, length, nat_le, slice_get, Result, Ok, Err, IfOk, OnErr}
+use Rattle.std.specs.Option.{option_map}
+use Rattle.dia_tree.specs.declared.fault.FaultView.{FaultView}
+use Rattle.dia_tree.specs.declared.check.NoRoom.{NoRoom}
+use Rattle.dia_tree.specs.View.{seen_fault}
 use Rattle.std.proofs.lemmas.List.Elements.{All-head, All-tail}
 use Rattle.dia_avp.specs.declared.avp.Avp.{Avp}
 use Rattle.dia_avp.specs.Avps.{AvpsThen, Avps}
@@ -110,3 +114,22 @@ first_is definitions credit octets event first fits same e = (
 -- AVPs of which nothing is left are all that the octets are
 pub all_are : (octets : List ℕ) (list : List Avp) → IsBytes octets → avps_in octets ≡ (list, []) → Avps octets list
 all_are octets list fits e = subst (λ (parts : List Avp × List ℕ). AvpsThen octets parts.0 parts.1) e (avps_in-whole octets fits).0
+
+-- what a survey that was not for want of room found is so too
+pub found_is : (definitions : List Definition) (credit : Bool) (octets : List ℕ) (event : Bool) (answer : Result (Option FaultView) NoRoom) → IsBytes octets → event ≡ event_in credit octets
+    → IfOk answer (λ found. option_map seen_fault found ≡ slice_get (group_faults definitions event 5 octets) 0)
+    → IfOk answer (λ found. (faults : List MsgFault) × HasMessageFaults definitions credit octets faults × (option_map seen_fault found ≡ slice_get faults 0))
+found_is definitions credit octets event (Ok found) fits same e = first_is definitions credit octets event (option_map seen_fault found) fits same e
+found_is definitions credit octets event (Err none) fits same e = e
+
+pub found_are : (octets : List ℕ) (list : List Avp) (answer : Result (Option FaultView) NoRoom) → IsBytes octets
+    → IfOk answer (λ found. found ≡ None → avps_in octets ≡ (list, []))
+    → IfOk answer (λ found. found ≡ None → Avps octets list)
+found_are octets list (Ok found) fits e = λ none. all_are octets list fits (e none)
+found_are octets list (Err none) fits e = e
+
+-- more AVPs are there than so many
+pub more_are : (octets : List ℕ) (n : ℕ) (answer : Result (Option FaultView) NoRoom) → IsBytes octets → OnErr answer ((n < 128) × (n < length (avps_in octets).0))
+    → OnErr answer ((n < 128) × (list : List Avp) × (rest : List ℕ) × AvpsThen octets list rest × (n < length list))
+more_are octets n (Ok found) fits e = e
+more_are octets n (Err none) fits e = (e.0, (avps_in octets).0, (avps_in octets).1, (avps_in-whole octets fits).0, e.1)

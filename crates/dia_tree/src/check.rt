@@ -1,9 +1,10 @@
 //! The first fault of octets that are AVPs, and where they lie.
 
-ghost use Rattle.std.specs.Prelude.{◌≡◌, [], Some, None, List, map, slice_get};
+ghost use Rattle.std.specs.Prelude.{◌≡◌, ◌<◌, ℕ, [], Some, None, List, length, map, slice_get, IfOk, OnErr};
 ghost use Rattle.std.specs.Option.{option_map};
 ghost use Rattle.dia_avp.specs.View.{seen};
-ghost use Rattle.dia_avp.specs.Avps.{Avps};
+ghost use Rattle.dia_avp.specs.declared.avp.Avp.{Avp};
+ghost use Rattle.dia_avp.specs.Avps.{Avps, AvpsThen};
 ghost use Rattle.dia_avp.specs.Reading.{avps_in};
 ghost use Rattle.dia_dict.specs.Dictionary.{known};
 ghost use Rattle.dia_dict.specs.Kind.{least_size, data_fault as fault_of_data};
@@ -127,48 +128,58 @@ fn fault_in<'a>(
     None
 }
 
-// The first fault of a message's octets, and without one its AVPs.
-fn listed<'a>(
+/// Why a survey ended early: there are more AVPs than the list has room for.
+#[derive(Clone, Copy, Debug, PartialEq, Eq)]
+pub struct NoRoom;
+
+// The first fault of a message's octets, and without one its AVPs, where there is room for them.
+fn listed<'a, const N: usize>(
     dictionary: &Dictionary,
     event: &Event<'_>,
     octets: &'a [u8],
-    avps: &mut FixedList<AvpView<'a>, MAX_AVPS>,
-) -> Option<FaultView<'a>>
+    avps: &mut FixedList<AvpView<'a>, N>,
+) -> Result<Option<FaultView<'a>>, NoRoom>
     requires { avps.old ≡ [] }
-    ensures fault { option_map seen_fault result ≡ slice_get (group_faults (known dictionary.now) (is_event event.now) 5 octets.now) 0 }
-    ensures avps { result ≡ None → avps_in octets.now ≡ (map seen avps.new, []) }
+    ensures fault { IfOk result (λ found. option_map seen_fault found ≡ slice_get (group_faults (known dictionary.now) (is_event event.now) 5 octets.now) 0) }
+    ensures avps { IfOk result (λ found. found ≡ None → avps_in octets.now ≡ (map seen avps.new, [])) }
+    ensures room { OnErr result ((N < 128) × (N < length (avps_in octets.now).0)) }
 {
     let mut left = octets;
     while !left.is_empty() {
         let Ok((avp, after)) = first_avp(left) else {
-            return Some(broken_fault(dictionary, left));
+            return Ok(Some(broken_fault(dictionary, left)));
         };
         if avps.len() == MAX_AVPS {
-            return Some(TOO_MUCH);
+            return Ok(Some(TOO_MUCH));
+        }
+        if avps.len() == N {
+            return Err(NoRoom);
         }
         let found = avp_fault(dictionary, event, LEVELS - 1, &avp);
         if found.is_some() {
-            return found;
+            return Ok(found);
         }
         avps.push(avp);
         left = after;
     }
-    None
+    Ok(None)
 }
 
 /// The first fault of the AVPs of a message, in order of place, those inside a group before the next AVP's (RFC 6733
 /// section 7.1.5). Where there is none, `avps`, which comes empty, has each of them where it lies; else it has some of them.
-/// `credit` says whether the message is a Credit-Control-Request: only in one whose first CC-Request-Type is EVENT_REQUEST
-/// is Requested-Action looked at (RFC 8506 section 8.41). Takes no memory.
-pub fn survey<'a>(
+/// `NoRoom` where more AVPs than `N`, of at most 128, were to be listed. `credit` says whether the message is a
+/// Credit-Control-Request: only in one whose first CC-Request-Type is EVENT_REQUEST is Requested-Action looked at (RFC 8506
+/// section 8.41). Takes no memory.
+pub fn survey<'a, const N: usize>(
     dictionary: &Dictionary,
     credit: bool,
     octets: &'a [u8],
-    avps: &mut FixedList<AvpView<'a>, MAX_AVPS>,
-) -> Option<FaultView<'a>>
+    avps: &mut FixedList<AvpView<'a>, N>,
+) -> Result<Option<FaultView<'a>>, NoRoom>
     requires { avps.old ≡ [] }
-    ensures fault { (faults : List Fault) × HasMessageFaults (known dictionary.now) credit octets.now faults × (option_map seen_fault result ≡ slice_get faults 0) }
-    ensures avps { result ≡ None → Avps octets.now (map seen avps.new) }
+    ensures fault { IfOk result (λ found. (faults : List Fault) × HasMessageFaults (known dictionary.now) credit octets.now faults × (option_map seen_fault found ≡ slice_get faults 0)) }
+    ensures avps { IfOk result (λ found. found ≡ None → Avps octets.now (map seen avps.new)) }
+    ensures room { OnErr result ((N < 128) × (list : List Avp) × (rest : List ℕ) × AvpsThen octets.now list rest × (N < length list)) }
 {
     listed(dictionary, &Event { credit, octets }, octets, avps)
 }

@@ -20,6 +20,6 @@ mod kind;
 mod zeros;
 
 pub use canonical::{canonical_avp, group_list};
-pub use check::survey;
+pub use check::{NoRoom, survey};
 pub use fault::{FaultView, MsgFault};
 pub use zeros::missing_fault;
