@@ -1,14 +1,16 @@
 //! The command that octets mean.
 
-ghost use Rattle.std.specs.Prelude.{◌≡◌, ◌≤◌, ◌<◌, ◌^◌, All, length, false, Some, None, IfOk, IsErrOf};
+ghost use Rattle.std.specs.Prelude.{◌≡◌, ◌≤◌, ◌<◌, ◌^◌, All, length, false, Some, None, IfOk, IfErr, OnOk, IsErrOf};
 ghost use Rattle.dia_avp.specs.Encoding.{length_of};
 ghost use Rattle.dia_dict.specs.Dictionary.{known};
+ghost use Rattle.dia_tree.specs.declared.fault.FaultView.{FaultView};
+ghost use Rattle.dia_tree.specs.View.{seen_fault};
 ghost use Rattle.dia_tree.specs.Faults.{fault, IsGood};
 ghost use Rattle.dia_command.specs.Format.{kind_coded, format_of as format_by};
 ghost use Rattle.dia_msg.specs.Faults.{is_event as is_event_by, has_failed as has_failed_by, answer_as, read_as};
 ghost use Rattle.dia_msg.specs.Sorting.{seen_all, IsSorted};
 ghost use Rattle.dia_msg.specs.Reading.{IsReading, IsOnlyReading, IsReadAgain, UnlessNoMemory, MayNeedMemory};
-ghost use Rattle.dia_msg.specs.Walk.{IsOutcome};
+ghost use Rattle.dia_msg.specs.Walk.{IsErrorOf, IsOutcome};
 
 use crate::check::{checked_header, is_credit};
 use crate::fault::{MsgError, error_of};
@@ -20,7 +22,7 @@ use base_fixed::FixedList;
 use dia_avp::AvpView;
 use dia_command::{Command, CommandKind, Header, RequestType, format_of};
 use dia_dict::Dictionary;
-use dia_tree::{MsgFault, missing_fault, survey};
+use dia_tree::{FaultView, MsgFault, missing_fault, survey};
 use std::alloc::Global;
 
 // Whether a message of a header and AVPs is an EVENT request (RFC 8506 section 8.3).
@@ -118,6 +120,17 @@ fn outcome(
     Ok(source.command(kind, event, *header)?)
 }
 
+// Nothing where AVPs have no fault, and else the error for their first.
+fn without_fault(alloc: Global, first: &Option<FaultView<'_>>) -> Result<(), MsgError>
+    ensures ok { OnOk result (first.now ≡ None) }
+    ensures err { IfErr result (λ e. (f : FaultView) × (first.now ≡ Some f) × IsErrorOf (seen_fault f) e) }
+{
+    match first {
+        None => Ok(()),
+        Some(fault) => Err(error_of(alloc, fault)),
+    }
+}
+
 fn reading_of(alloc: Global, dictionary: &Dictionary, octets: &[u8]) -> Result<Command, MsgError>
     ensures reading { UnlessNoMemory result (IsReading (known dictionary.now) octets.now) }
     ensures memory { IsErrOf result MsgError.NoMemory → MayNeedMemory (known dictionary.now) octets.now }
@@ -127,14 +140,13 @@ fn reading_of(alloc: Global, dictionary: &Dictionary, octets: &[u8]) -> Result<C
         Err(result) => return Err(fault_of(result)),
     };
     let mut avps = FixedList::new();
-    if let Some(fault) = survey(
+    let first = survey(
         dictionary,
         is_credit(&header),
         &octets[HEADER_LEN..],
         &mut avps,
-    ) {
-        return Err(error_of(alloc, &fault));
-    }
+    );
+    without_fault(alloc, &first)?;
     outcome(alloc, dictionary, &header, command, avps.as_slice())
 }
 
