@@ -1,13 +1,17 @@
 //! The command that octets mean.
 
-ghost use Rattle.std.specs.Prelude.{◌≡◌, ◌≤◌, ◌<◌, ◌^◌, All, length, false, Some, None, IfOk, IfErr, OnOk, IsErrOf};
+ghost use Rattle.std.specs.Prelude.{◌≡◌, ◌≤◌, ◌<◌, ◌^◌, [], All, List, length, drop, slice_get, false, Some, None, IfOk, IfErr, OnOk, IsErrOf};
+ghost use Rattle.std.specs.Option.{option_map};
+ghost use Rattle.dia_avp.specs.Avps.{Avps};
 ghost use Rattle.dia_avp.specs.Encoding.{length_of};
 ghost use Rattle.dia_dict.specs.Dictionary.{known};
 ghost use Rattle.dia_tree.specs.declared.fault.FaultView.{FaultView};
 ghost use Rattle.dia_tree.specs.View.{seen_fault};
-ghost use Rattle.dia_tree.specs.Faults.{fault, IsGood};
+ghost use Rattle.dia_tree.specs.declared.fault.MsgFault.{MsgFault as Fault};
+ghost use Rattle.dia_tree.specs.Faults.{fault, IsGood, HasMessageFaults};
+ghost use Rattle.dia_command.specs.Header.{header_in};
 ghost use Rattle.dia_command.specs.Format.{kind_coded, format_of as format_by};
-ghost use Rattle.dia_msg.specs.Faults.{is_event as is_event_by, has_failed as has_failed_by, answer_as, read_as};
+ghost use Rattle.dia_msg.specs.Faults.{header_faults, kind_in, is_credit as is_credit_by, is_event as is_event_by, has_failed as has_failed_by, answer_as, read_as};
 ghost use Rattle.dia_msg.specs.Sorting.{seen_all, IsSorted};
 ghost use Rattle.dia_msg.specs.Reading.{IsReading, IsOnlyReading, IsReadAgain, UnlessNoMemory, MayNeedMemory};
 ghost use Rattle.dia_msg.specs.Walk.{IsErrorOf, IsOutcome};
@@ -19,11 +23,14 @@ use crate::sorting::{Sorted, sort};
 use crate::source::Source;
 use base_codes::{HEADER_LEN, ResultCode, avp_code};
 use base_fixed::FixedList;
-use dia_avp::AvpView;
-use dia_command::{Command, CommandKind, Header, RequestType, format_of};
+use dia_avp::{AvpView, MAX_AVPS};
+use dia_command::{Command, CommandKind, Header, RequestType, format_of, header_of};
 use dia_dict::Dictionary;
-use dia_tree::{FaultView, MsgFault, missing_fault, survey};
+use dia_tree::{FaultView, MsgFault, NoRoom, missing_fault, survey};
 use std::alloc::Global;
+
+/// How many AVPs most messages have at most.
+const FEW_AVPS: usize = 24;
 
 // Whether a message of a header and AVPs is an EVENT request (RFC 8506 section 8.3).
 fn is_event(header: &Header, avps: &[AvpView<'_>]) -> bool
@@ -131,6 +138,51 @@ fn without_fault(alloc: Global, first: &Option<FaultView<'_>>) -> Result<(), Msg
     }
 }
 
+// What is made of a message whose header has no fault: the error for the first fault of its AVPs, where they have one, and
+// else what is made of them.
+fn concluded(
+    alloc: Global,
+    dictionary: &Dictionary,
+    octets: &[u8],
+    command: CommandKind,
+    first: &Option<FaultView<'_>>,
+    avps: &[AvpView<'_>],
+) -> Result<Command, MsgError>
+    requires whole { 20 ≤ length octets.now }
+    requires header { header_faults octets.now ≡ [] }
+    requires known { kind_in octets.now ≡ Some command }
+    requires first { (faults : List Fault) × HasMessageFaults (known dictionary.now) (is_credit_by (header_in octets.now)) (drop 20 octets.now) faults × (option_map seen_fault first.now ≡ slice_get faults 0) }
+    requires avps { first.now ≡ None → Avps (drop 20 octets.now) (seen_all avps.now) }
+    requires few { length avps.now ≤ 128 }
+    ensures reading { UnlessNoMemory result (IsReading (known dictionary.now) octets.now) }
+    ensures memory { IsErrOf result MsgError.NoMemory → MayNeedMemory (known dictionary.now) octets.now }
+{
+    without_fault(alloc, first)?;
+    outcome(alloc, dictionary, &header_of(octets), command, avps)
+}
+
+// A message of any number of AVPs, whose header has no fault.
+fn reading_of_many(
+    alloc: Global,
+    dictionary: &Dictionary,
+    octets: &[u8],
+    command: CommandKind,
+) -> Result<Command, MsgError>
+    requires whole { 20 ≤ length octets.now }
+    requires header { header_faults octets.now ≡ [] }
+    requires known { kind_in octets.now ≡ Some command }
+    ensures reading { UnlessNoMemory result (IsReading (known dictionary.now) octets.now) }
+    ensures memory { IsErrOf result MsgError.NoMemory → MayNeedMemory (known dictionary.now) octets.now }
+{
+    let is_credit = is_credit(&header_of(octets));
+    let mut avps = FixedList::<AvpView<'_>, MAX_AVPS>::new();
+    match survey(dictionary, is_credit, &octets[HEADER_LEN..], &mut avps) {
+        Ok(first) => concluded(alloc, dictionary, octets, command, &first, avps.as_slice()),
+        Err(NoRoom) => unreachable!(),
+    }
+}
+
+// Most messages have few AVPs; the room for 128 is large, and made only where it is needed.
 fn reading_of(alloc: Global, dictionary: &Dictionary, octets: &[u8]) -> Result<Command, MsgError>
     ensures reading { UnlessNoMemory result (IsReading (known dictionary.now) octets.now) }
     ensures memory { IsErrOf result MsgError.NoMemory → MayNeedMemory (known dictionary.now) octets.now }
@@ -139,15 +191,16 @@ fn reading_of(alloc: Global, dictionary: &Dictionary, octets: &[u8]) -> Result<C
         Ok(known) => known,
         Err(result) => return Err(fault_of(result)),
     };
-    let mut avps = FixedList::new();
-    let first = survey(
+    let mut avps = FixedList::<AvpView<'_>, FEW_AVPS>::new();
+    match survey(
         dictionary,
         is_credit(&header),
         &octets[HEADER_LEN..],
         &mut avps,
-    );
-    without_fault(alloc, &first)?;
-    outcome(alloc, dictionary, &header, command, avps.as_slice())
+    ) {
+        Ok(first) => concluded(alloc, dictionary, octets, command, &first, avps.as_slice()),
+        Err(NoRoom) => reading_of_many(alloc, dictionary, octets, command),
+    }
 }
 
 /// The command that the octets of one message mean (RFC 6733 sections 3 and 4), or its first fault.
