@@ -1,12 +1,12 @@
 //! The encoding of a command: how long it is, and its octets.
 
-ghost use Rattle.std.specs.Prelude.{◌≡◌, ◌+◌, ◌<◌, ◌≤◌, ◌^◌, ◌↔◌, ◌++◌, length, map, vec_len, vec_capacity, OnOk, OnErr, IfErr, IsErrOf};
+ghost use Rattle.std.specs.Prelude.{◌≡◌, ◌+◌, ◌<◌, ◌≤◌, ◌^◌, ◌↔◌, ◌++◌, length, map, vec_len, vec_capacity, OnOk, OnErr, IsErrOf};
 ghost use Rattle.std.specs.Option.{SomeIff};
 ghost use Rattle.dia_avp.specs.View.{seen};
 ghost use Rattle.dia_avp.specs.Encoding.{length_of, encoded, encoding};
 ghost use Rattle.dia_command.specs.Header.{header_octets};
-ghost use Rattle.dia_write.specs.Framing.{IsWholeMessage, IsFirstFrame};
 ghost use Rattle.dia_command.specs.Command.{fields};
+ghost use Rattle.dia_write.specs.Framing.{IsWholeMessage, IsFirstFrame};
 ghost use Rattle.dia_write.specs.Values.{content_octets, field_of, item_avp, value_avps, values_avps};
 ghost use Rattle.dia_write.specs.Encoding.{message_len, encode, IsTooLong, Writes};
 
