@@ -20,7 +20,7 @@ use Rattle.dia_command.specs.declared.value.RequestType.TheVariants.{Initial, Up
 use Rattle.dia_command.specs.declared.value.RequestedAction.{RequestedAction}
 use Rattle.dia_command.specs.declared.value.RequestedAction.TheVariants.{DirectDebiting, RefundAccount, CheckBalance, PriceEnquiry, Other}
 use Rattle.dia_command.specs.Value.{type_number, type_coded, action_number, action_coded}
-use Rattle.dia_command.specs.Field.{Field, Octets, Numbers, Types, Actions, Groups, avp_of, avps_coded, number_in, IsOctets, IsNumber, IsType, IsAction, IsGroup, IsValueOf, AreValues}
+use Rattle.dia_command.specs.Field.{Field, Octets, Numbers, Types, Actions, Groups, avp_of, avps_coded, number_in, IsOctets, IsNumber, IsType, IsAction, IsGroup, IsTypedOf, AreTypedOf}
 use Rattle.dia_command.specs.Laws.{IsRead, IsReadOf, WrittenAgain}
 
 some_is : {T : Type 0} → (x y : T) → Some x ≡ Some y → x ≡ y
@@ -92,7 +92,7 @@ definition_is d code a r =
     ap (λ (n : ℕ). definition_of d n a.vendor) r.code_is ∙ ap (λ (v : Option ℕ). definition_of d code v) r.no_vendor
 
 abbrev Each : {T : Type 0} → List Definition → ℕ → (List ℕ → T → Type 0) → (T → List ℕ) → Type 0
-Each {T} d code Is data_of = (a : Avp) (v : TypedAvp T) → IsRead code a → IsValueOf Is v a → avp_of data_of code v ≡ canonical d 4 a
+Each {T} d code Is data_of = (a : Avp) (v : TypedAvp T) → IsRead code a → IsTypedOf Is v a → avp_of data_of code v ≡ canonical d 4 a
 
 plain_each : {T : Type 0} (d : List Definition) (code : ℕ) (Is : List ℕ → T → Type 0) (data_of : T → List ℕ) → is_grouped (definition_of d code None) ≡ false → Writes_again Is data_of → Each d code Is data_of
 unfolding avp_made
@@ -108,7 +108,7 @@ group_each d code group a v r h =
     (ap encoding (AreCanonical-again d 3 a.octets v.value (IsCanonical-again d 3) h.value)
     ∙ sym (ap (λ (b : Avp). b.octets) (canonical-group d 3 a (ap is_grouped (definition_is d code a r) ∙ group))))
 
-values_again : {T : Type 0} (d : List Definition) (code : ℕ) (Is : List ℕ → T → Type 0) (data_of : T → List ℕ) → Each d code Is data_of → (values : List (TypedAvp T)) (list : List Avp) → AreValues Is values list → All (IsRead code) list → map (avp_of data_of code) values ≡ map (canonical d 4) list
+values_again : {T : Type 0} (d : List Definition) (code : ℕ) (Is : List ℕ → T → Type 0) (data_of : T → List ℕ) → Each d code Is data_of → (values : List (TypedAvp T)) (list : List Avp) → AreTypedOf Is values list → All (IsRead code) list → map (avp_of data_of code) values ≡ map (canonical d 4) list
 values_again d code Is data_of each [] [] h all = refl
 values_again d code Is data_of each [] (a ∷ list) h all = absurd h
 values_again d code Is data_of each (v ∷ values) [] h all = absurd h

@@ -64,22 +64,22 @@ IsAction octets value = action_in octets ≡ Some value
 abbrev pub IsGroup : List Definition → List ℕ → List Avp → Type 0
 IsGroup definitions octets list = AreCanonical definitions 3 octets list
 
--- a value is that of an AVP, with its flags M and P; `Is` says which value the AVP's data are
-pub record IsValueOf {T : Type 0} (Is : List ℕ → T → Type 0) (v : TypedAvp T) (a : Avp) : Type 0 where
+-- a typed value is that of an AVP, with its flags M and P; `Is` says which value the AVP's data are
+pub record IsTypedOf {T : Type 0} (Is : List ℕ → T → Type 0) (v : TypedAvp T) (a : Avp) : Type 0 where
   pub mandatory : v.mandatory ≡ a.mandatory
   pub protected : v.protected ≡ a.protected
   pub value : Is a.octets v.value
 
--- values are those of AVPs, one of each, in order
-abbrev pub AreValues : {T : Type 0} → (Is : List ℕ → T → Type 0) → List (TypedAvp T) → List Avp → Type 0
-AreValues Is [] [] = Unit {0}
-AreValues Is (v ∷ values) (a ∷ list) = IsValueOf Is v a × AreValues Is values list
-AreValues Is values list = ⊥
+-- typed values are those of AVPs, one of each, in order
+abbrev pub AreTypedOf : {T : Type 0} → (Is : List ℕ → T → Type 0) → List (TypedAvp T) → List Avp → Type 0
+AreTypedOf Is [] [] = Unit {0}
+AreTypedOf Is (v ∷ values) (a ∷ list) = IsTypedOf Is v a × AreTypedOf Is values list
+AreTypedOf Is values list = ⊥
 
 -- the field's values are those of these AVPs
 abbrev pub IsFieldOf : List Definition → Field → List Avp → Type 0
-IsFieldOf definitions (Octets values) list = AreValues IsOctets values list
-IsFieldOf definitions (Numbers values) list = AreValues IsNumber values list
-IsFieldOf definitions (Types values) list = AreValues IsType values list
-IsFieldOf definitions (Actions values) list = AreValues IsAction values list
-IsFieldOf definitions (Groups values) list = AreValues (IsGroup definitions) values list
+IsFieldOf definitions (Octets values) list = AreTypedOf IsOctets values list
+IsFieldOf definitions (Numbers values) list = AreTypedOf IsNumber values list
+IsFieldOf definitions (Types values) list = AreTypedOf IsType values list
+IsFieldOf definitions (Actions values) list = AreTypedOf IsAction values list
+IsFieldOf definitions (Groups values) list = AreTypedOf (IsGroup definitions) values list

@@ -36,7 +36,7 @@ use Rattle.dia_command.specs.declared.format.AvpFormat.{AvpFormat}
 use Rattle.dia_command.specs.declared.typed.TypedAvp.{TypedAvp}
 use Rattle.dia_command.specs.Header.{header_in, header_octets, flags_in, flags_octet}
 use Rattle.dia_command.specs.Format.{kind_coded, application_of, format_of}
-use Rattle.dia_command.specs.Field.{Field, Octets, Numbers, Types, Actions, Groups, avps_by, number_in, IsGroup, IsValueOf, AreValues, IsFieldOf}
+use Rattle.dia_command.specs.Field.{Field, Octets, Numbers, Types, Actions, Groups, avps_by, number_in, IsGroup, IsTypedOf, AreTypedOf, IsFieldOf}
 use Rattle.dia_command.specs.Command.{kind_of, header_of, fields, rest_of, avps_of, with_length}
 use Rattle.dia_write.specs.Encoding.{message_len, encode}
 use Rattle.dia_command.specs.Laws.{IsRead, has_groups, IsReadOf, AreReadOf}
@@ -389,7 +389,7 @@ inner d octets fits short =
     ap (λ (x : List Avp × List ℕ). map (canonical d 3) x.0) (canonical_inner d 3 octets fits short)
     ∙ canonicals_again d 3 (avps_in octets).0 (avps_in-bytes octets fits) (avps_in-short octets fits)
 
-group_again : (d : List Definition) (code : ℕ) (a : Avp) (v : TypedAvp (List Avp)) → IsRead code a → IsShort a → is_grouped (definition_of d code None) ≡ true → IsValueOf (IsGroup d) v a → IsValueOf (IsGroup d) v (canonical d 4 a)
+group_again : (d : List Definition) (code : ℕ) (a : Avp) (v : TypedAvp (List Avp)) → IsRead code a → IsShort a → is_grouped (definition_of d code None) ≡ true → IsTypedOf (IsGroup d) v a → IsTypedOf (IsGroup d) v (canonical d 4 a)
 group_again d code a v r short group k =
     let definition : definition_of d a.code a.vendor ≡ definition_of d code None = ap (λ (n : ℕ). definition_of d n a.vendor) r.code_is ∙ ap (λ (o : Option ℕ). definition_of d code o) r.no_vendor in
     let h = canonical_head d 4 a in
@@ -402,7 +402,7 @@ group_again d code a v r short group k =
       value = subst (AreCanonical d 3 (canonical d 4 a).octets) same (AreCanonical-takes d 3 (canonical d 4 a).octets (canonical_bytes d 4 a r.octets_are) (IsCanonical-takes d 3));
     }
 
-groups_again : (d : List Definition) (code : ℕ) (values : List (TypedAvp (List Avp))) (list : List Avp) → All (IsRead code) list → All IsShort list → is_grouped (definition_of d code None) ≡ true → AreValues (IsGroup d) values list → AreValues (IsGroup d) values (map (canonical d 4) list)
+groups_again : (d : List Definition) (code : ℕ) (values : List (TypedAvp (List Avp))) (list : List Avp) → All (IsRead code) list → All IsShort list → is_grouped (definition_of d code None) ≡ true → AreTypedOf (IsGroup d) values list → AreTypedOf (IsGroup d) values (map (canonical d 4) list)
 groups_again d code [] [] r s group h = tt
 groups_again d code [] (a ∷ list) r s group h = absurd h
 groups_again d code (v ∷ values) [] r s group h = absurd h

@@ -8,7 +8,7 @@ use Rattle.dia_command.specs.declared.command.Command.TheVariants.{Cer, Cea, Dwr
 use Rattle.dia_command.specs.declared.kind.CommandKind.{CommandKind}
 use Rattle.dia_command.specs.declared.kind.CommandKind.TheVariants as kinds
 use Rattle.dia_command.specs.declared.typed.TypedAvp.{TypedAvp}
-use Rattle.dia_command.specs.Field.{Field, Octets, Numbers, Types, Actions, Groups, IsOctets, IsNumber, IsType, IsAction, IsGroup, IsValueOf, AreValues, IsFieldOf}
+use Rattle.dia_command.specs.Field.{Field, Octets, Numbers, Types, Actions, Groups, IsOctets, IsNumber, IsType, IsAction, IsGroup, IsTypedOf, AreTypedOf, IsFieldOf}
 use Rattle.dia_command.specs.Command.{kind_of, fields}
 use Rattle.dia_msg.specs.Reading.{AreFields}
 
@@ -40,11 +40,11 @@ typed m p x = record { mandatory = m; protected = p; value = x }
 same_typed : {T : Type 0} (m n p q : Bool) (x y : T) → m ≡ n → p ≡ q → x ≡ y → typed m p x ≡ typed n q y
 same_typed m n p q x y e f g = rw (e, f, g) refl
 
-same_value : {T : Type 0} (Is : List ℕ → T → Type 0) (v w : TypedAvp T) (a : Avp) → One Is → IsValueOf Is v a → IsValueOf Is w a → v ≡ w
+same_value : {T : Type 0} (Is : List ℕ → T → Type 0) (v w : TypedAvp T) (a : Avp) → One Is → IsTypedOf Is v a → IsTypedOf Is w a → v ≡ w
 unfolding typed
 same_value Is v w a one h k = same_typed v.mandatory w.mandatory v.protected w.protected v.value w.value (h.mandatory ∙ sym k.mandatory) (h.protected ∙ sym k.protected) (one a.octets v.value w.value h.value k.value)
 
-same_values : {T : Type 0} (Is : List ℕ → T → Type 0) (xs ys : List (TypedAvp T)) (list : List Avp) → One Is → AreValues Is xs list → AreValues Is ys list → xs ≡ ys
+same_values : {T : Type 0} (Is : List ℕ → T → Type 0) (xs ys : List (TypedAvp T)) (list : List Avp) → One Is → AreTypedOf Is xs list → AreTypedOf Is ys list → xs ≡ ys
 same_values Is [] [] list one h k = refl
 same_values Is [] (y ∷ ys) [] one h k = absurd k
 same_values Is [] (y ∷ ys) (a ∷ list) one h k = absurd h

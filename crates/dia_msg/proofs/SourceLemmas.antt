@@ -29,7 +29,7 @@ use Rattle.base_codes.specs.declared.result_code.ResultCode.TheVariants.{Invalid
 use Rattle.dia_command.specs.declared.format.AvpFormat.{AvpFormat}
 use Rattle.dia_command.specs.Value.{type_coded}
 use Rattle.dia_command.specs.declared.typed.TypedAvp.{TypedAvp}
-use Rattle.dia_command.specs.Field.{type_in, IsValueOf, AreValues}
+use Rattle.dia_command.specs.Field.{type_in, IsTypedOf, AreTypedOf}
 use Rattle.dia_msg.specs.declared.sorting.Sorted.{Sorted}
 use Rattle.dia_msg.specs.Taken.{is_for, first_of, taken, is_missing, missing}
 use Rattle.dia_msg.specs.Sorting.{seen_all, placed, all_placed, IsSorted}
@@ -228,17 +228,17 @@ taken_sound added formats list s place r v ready held e is =
     sound_first added ready.event (entry_at formats place).code list (seen v) (sym (first_taken added formats list s place r ready held e) ∙ ap (λ (o : Option AvpView). option_map seen o) is) ready.good
 
 -- a value of an AVP that must be there is there
-value_there : {T : Type 0} (Is : List ℕ → T → Type 0) (o : Option (TypedAvp T)) (a : Option Avp) → AreValues Is (option_to_list o) (option_to_list a) → is_some a ≡ true → IsSome o
+value_there : {T : Type 0} (Is : List ℕ → T → Type 0) (o : Option (TypedAvp T)) (a : Option Avp) → AreTypedOf Is (option_to_list o) (option_to_list a) → is_some a ≡ true → IsSome o
 value_there Is None None h e = absurd cc
 value_there Is None (Some a) h e = absurd h
 value_there Is (Some v) a h e = refl
 
-pub one_there : {T : Type 0} (Is : List ℕ → T → Type 0) (formats : List AvpFormat) (list : List Avp) (place : ℕ) (o : Option (TypedAvp T)) → missing formats list ≡ [] → IsOne formats place → AreValues Is (option_to_list o) (takes formats list place) → IsSome o
+pub one_there : {T : Type 0} (Is : List ℕ → T → Type 0) (formats : List AvpFormat) (list : List Avp) (place : ℕ) (o : Option (TypedAvp T)) → missing formats list ≡ [] → IsOne formats place → AreTypedOf Is (option_to_list o) (takes formats list place) → IsSome o
 one_there Is formats list place o complete held h =
-    value_there Is o (first_of (entry_at formats place).code list) (subst (AreValues Is (option_to_list o)) (takes_once formats list place held.2) h) (there formats list place complete held.0 held.1 held.2)
+    value_there Is o (first_of (entry_at formats place).code list) (subst (AreTypedOf Is (option_to_list o)) (takes_once formats list place held.2) h) (there formats list place complete held.0 held.1 held.2)
 
 -- one more AVP, and its value where it is of the code
-values_more : {T : Type 0} (Is : List ℕ → T → Type 0) (values : List (TypedAvp T)) (list : List Avp) (v : TypedAvp T) (a : Avp) → AreValues Is values list → IsValueOf Is v a → AreValues Is (values ++ v ∷ []) (list ++ a ∷ [])
+values_more : {T : Type 0} (Is : List ℕ → T → Type 0) (values : List (TypedAvp T)) (list : List Avp) (v : TypedAvp T) (a : Avp) → AreTypedOf Is values list → IsTypedOf Is v a → AreTypedOf Is (values ++ v ∷ []) (list ++ a ∷ [])
 values_more Is [] [] v a h k = (k, tt)
 values_more Is [] (b ∷ list) v a h k = absurd h
 values_more Is (w ∷ values) [] v a h k = absurd h
@@ -254,14 +254,14 @@ coded_more code avps i d b lt e =
     ∙ ap (λ (c : Bool). coded_front code avps i ++ cond c (a ∷ []) []) e
 
 pub values_next : {T : Type 0} (Is : List ℕ → T → Type 0) (code : ℕ) (avps : List AvpView) (i : ℕ) (d : AvpView) (values : List (TypedAvp T)) (v : TypedAvp T) → i < length avps → is_coded code (seen (get_or avps i d)) ≡ true
-    → AreValues Is values (coded_front code avps i) → IsValueOf Is v (seen (get_or avps i d)) → AreValues Is (values ++ v ∷ []) (coded_front code avps (i + 1))
+    → AreTypedOf Is values (coded_front code avps i) → IsTypedOf Is v (seen (get_or avps i d)) → AreTypedOf Is (values ++ v ∷ []) (coded_front code avps (i + 1))
 values_next Is code avps i d values v lt own h k =
-    subst (AreValues Is (values ++ v ∷ [])) (sym (coded_more code avps i d true lt own)) (values_more Is values (coded_front code avps i) v (seen (get_or avps i d)) h k)
+    subst (AreTypedOf Is (values ++ v ∷ [])) (sym (coded_more code avps i d true lt own)) (values_more Is values (coded_front code avps i) v (seen (get_or avps i d)) h k)
 
 pub values_other : {T : Type 0} (Is : List ℕ → T → Type 0) (code : ℕ) (avps : List AvpView) (i : ℕ) (d : AvpView) (values : List (TypedAvp T)) → i < length avps → is_coded code (seen (get_or avps i d)) ≡ false
-    → AreValues Is values (coded_front code avps i) → AreValues Is values (coded_front code avps (i + 1))
+    → AreTypedOf Is values (coded_front code avps i) → AreTypedOf Is values (coded_front code avps (i + 1))
 values_other Is code avps i d values lt other h =
-    subst (AreValues Is values) (sym (coded_more code avps i d false lt other ∙ append-nil (coded_front code avps i))) h
+    subst (AreTypedOf Is values) (sym (coded_more code avps i d false lt other ∙ append-nil (coded_front code avps i))) h
 
 pub short_at : (list : List Avp) (place : ℕ) (a : Avp) → Some a ≡ slice_get list place → All (λ x. length_of x < 2 ^ 24) list → length_of a < 2 ^ 24
 short_at list place a e h =

@@ -8,7 +8,7 @@ ghost use Rattle.dia_avp.specs.Encoding.{length_of};
 ghost use Rattle.dia_dict.specs.declared.definition.Definition.{Definition};
 ghost use Rattle.dia_dict.specs.Dictionary.{known};
 ghost use Rattle.dia_tree.specs.Canonical.{canonical};
-ghost use Rattle.dia_command.specs.Field.{IsOctets, IsNumber, IsType, IsAction, IsGroup, IsValueOf, AreValues};
+ghost use Rattle.dia_command.specs.Field.{IsOctets, IsNumber, IsType, IsAction, IsGroup, IsTypedOf, AreTypedOf};
 ghost use Rattle.dia_msg.specs.Taken.{untaken};
 ghost use Rattle.dia_msg.specs.Sorting.{seen_all};
 ghost use Rattle.dia_msg.specs.Source.{IsReady, IsOne, IsPerhaps, IsSeveral, AreNumbers, AreTexts, IsSound, entry_at, takes};
@@ -126,7 +126,7 @@ impl Source<'_> {
     // The value of an AVP, with its flags.
     fn value<T: FromAvp>(&self, avp: &AvpView<'_>) -> Result<TypedAvp<T>, AllocError>
         requires { (code : ℕ) × T.has_kind self.now.dictionary.now code × IsSound self.now.dictionary.now code (seen avp.now) }
-        ensures { IfOk result (λ v. IsValueOf (T.is_value (known self.now.dictionary.now)) v (seen avp.now)) }
+        ensures { IfOk result (λ v. IsTypedOf (T.is_value (known self.now.dictionary.now)) v (seen avp.now)) }
     {
         Ok(TypedAvp {
             mandatory: avp.mandatory,
@@ -140,7 +140,7 @@ impl Source<'_> {
         requires ready { IsReady self.now.dictionary.now self.now.format.now (seen_all self.now.avps.now) self.now.sorted.now }
         requires held { IsPerhaps self.now.format.now place }
         requires kind { T.has_kind self.now.dictionary.now (entry_at self.now.format.now place).code }
-        ensures { IfOk result (λ f. AreValues (T.is_value (known self.now.dictionary.now)) (option_to_list f) (takes self.now.format.now (seen_all self.now.avps.now) place)) }
+        ensures { IfOk result (λ f. AreTypedOf (T.is_value (known self.now.dictionary.now)) (option_to_list f) (takes self.now.format.now (seen_all self.now.avps.now) place)) }
     {
         match self.sorted.first(place, self.avps) {
             Some(avp) => Ok(Some(self.value(&avp)?)),
@@ -153,7 +153,7 @@ impl Source<'_> {
         requires ready { IsReady self.now.dictionary.now self.now.format.now (seen_all self.now.avps.now) self.now.sorted.now }
         requires held { IsOne self.now.format.now place }
         requires kind { T.has_kind self.now.dictionary.now (entry_at self.now.format.now place).code }
-        ensures { IfOk result (λ f. AreValues (T.is_value (known self.now.dictionary.now)) (f ∷ []) (takes self.now.format.now (seen_all self.now.avps.now) place)) }
+        ensures { IfOk result (λ f. AreTypedOf (T.is_value (known self.now.dictionary.now)) (f ∷ []) (takes self.now.format.now (seen_all self.now.avps.now) place)) }
     {
         Ok(self.perhaps(place)?.unwrap())
     }
@@ -163,7 +163,7 @@ impl Source<'_> {
         requires ready { IsReady self.now.dictionary.now self.now.format.now (seen_all self.now.avps.now) self.now.sorted.now }
         requires held { IsSeveral self.now.format.now place }
         requires kind { T.has_kind self.now.dictionary.now (entry_at self.now.format.now place).code }
-        ensures { IfOk result (λ f. AreValues (T.is_value (known self.now.dictionary.now)) f (takes self.now.format.now (seen_all self.now.avps.now) place)) }
+        ensures { IfOk result (λ f. AreTypedOf (T.is_value (known self.now.dictionary.now)) f (takes self.now.format.now (seen_all self.now.avps.now) place)) }
     {
         let code = self.format[place].code;
         let mut values = TypedAvps::new(self.alloc);

@@ -1,6 +1,6 @@
 use Rattle.std.proofs.Common.{Some, None, [], ◌∷◌, refl, sym, subst}
 use Rattle.dia_dict.specs.Dictionary.{known}
-use Rattle.dia_command.specs.Field.{AreValues}
+use Rattle.dia_command.specs.Field.{AreTypedOf}
 use Rattle.dia_msg.specs.Sorting.{seen_all}
 use Rattle.dia_msg.specs.Source.{entry_at}
 use Rattle.dia_msg.proofs.SourceLemmas.{taken_seen, taken_sound}
@@ -19,12 +19,12 @@ pub returns-in_ok-value-in-Some : goal.returns-in_ok-value-in-Some
 returns-in_ok-value-in-Some g c =
     let fs = c.args.self.now.format.now in
     let list = seen_all c.args.self.now.avps.now in
-    subst (AreValues (g.T.FromAvp.is_value (known c.args.self.now.dictionary.now)) (c.in_ok-value-in-Some.field-0 ∷ []))
+    subst (AreTypedOf (g.T.FromAvp.is_value (known c.args.self.now.dictionary.now)) (c.in_ok-value-in-Some.field-0 ∷ []))
     (sym (taken_seen c.args.self.now.dictionary.now fs list c.args.self.now.sorted.now c.args.place (Some c.in-Some.avp) c.requires.ready c.requires.held c.in-Some.ensures)) (c.in_ok-value-in-Some.ensures, tt)
 
 pub returns-in-None : goal.returns-in-None
 returns-in-None g c =
     let fs = c.args.self.now.format.now in
     let list = seen_all c.args.self.now.avps.now in
-    subst (AreValues (g.T.FromAvp.is_value (known c.args.self.now.dictionary.now)) [])
+    subst (AreTypedOf (g.T.FromAvp.is_value (known c.args.self.now.dictionary.now)) [])
     (sym (taken_seen c.args.self.now.dictionary.now fs list c.args.self.now.sorted.now c.args.place None c.requires.ready c.requires.held c.in-None.ensures)) tt
