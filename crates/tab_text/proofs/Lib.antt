@@ -1,9 +1,12 @@
 pub mod PiecesLemmas
+pub mod TokenLemmas
+pub mod NameLemmas
 pub mod Headers
 pub mod RoomLemmas
 pub mod RoomsLemmas
 pub mod CellsLemmas
 pub mod WellNamed
+pub mod GroupLemmas
 pub mod FaultLemmas
 pub mod ReaderLemmas
 pub mod NamesLemmas

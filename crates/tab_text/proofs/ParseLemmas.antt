@@ -1,15 +1,15 @@
 use Rattle.std.proofs.Common.{◌≡◌, ℕ, ◌≤◌, Bool, true, false, List, [], ◌∷◌, ◌++◌, length, map, Option, Some, None, if◌then◌else◌, arith, refl, sym, ◌∙◌}
 use Rattle.std.specs.List.{All}
-use Rattle.std.proofs.lemmas.List.{append_assoc, append-nil, map_push, length_push, length-map}
+use Rattle.std.proofs.lemmas.List.{append_assoc, append-nil, map_push, length_push}
 use Rattle.std.proofs.lemmas.List.Elements.{All-push}
 use Rattle.tab_text.specs.Lines.{Line, lines, kept}
-use Rattle.tab_text.specs.Cells.{Cells, NamedRow, columns_of, cells_of}
-use Rattle.tab_text.specs.Rows.{Names, rows_in, lines_in, rows_of, row_lines, IsWellNamed, names_of, numbered}
-use Rattle.tab_text.specs.Faults.{has_room, first_fault}
+use Rattle.tab_text.specs.Cells.{Cells, NamedRow, columns_of, groups}
+use Rattle.tab_text.specs.Rows.{Names, spelled, cells_in, rows_of, IsWellNamed, names_of, numbered}
+use Rattle.tab_text.specs.Faults.{fault_at, has_room, first_fault}
 use Rattle.tab_text.specs.Passing.{fault_behind}
 use Rattle.tab_text.specs.Reading.{lines_left, named}
 use Rattle.tab_text.specs.Rooms.{with_row}
-use Rattle.tab_text.specs.Reader.{IsAt, IsOpened, TakesRow}
+use Rattle.tab_text.specs.Reader.{IsAt, IsOpened, TakesRow, HasEnded}
 use Rattle.tab_text.specs.declared.limits.TheConstants.{MAX_ROWS, MAX_ROW_GUARDS, MAX_ROW_ACTIONS}
 use Rattle.tab_text.specs.declared.fault.TextCode.TheVariants.{TooManyNames}
 use Rattle.tab_text.specs.declared.fault.TextFault.{TextFault}
@@ -17,19 +17,23 @@ use Rattle.tab_text.specs.declared.reader.Reader.{Reader}
 use Rattle.tab_text.specs.declared.row.Row.{Row}
 use Rattle.tab_text.specs.declared.cells.RowNames.{RowNames}
 use Rattle.tab_text.proofs.NamesLemmas.{names_of-push}
-use Rattle.tab_text.proofs.ReaderLemmas.{cells_of-line}
 
--- a text's lines up to a reader were checked: they have no fault, and these are their names
-pub record IsChecked (text : List ℕ) (reader : Reader) (names : Names) (header : Line) (body : List Line) : Type 0 where
-  pub at : IsAt header body reader
-  pub kept : kept (lines text) ≡ header ∷ body ++ kept (lines_left reader.lines)
-  pub fault : first_fault text ≡ fault_behind (header ∷ body) (lines_left reader.lines)
-  pub names_are : names ≡ names_of (rows_in (header ∷ body))
+-- a text's rows are these and those that a reader has left
+abbrev pub AreRows : List ℕ → Reader → Line → List Cells → Type 0
+AreRows text reader header rows =
+    cells_in (kept (lines text)) ≡ rows ++ groups (columns_of header.octets) (kept (lines_left reader.lines))
+
+-- a text's rows up to a reader were checked: they have no fault, and these are their names
+pub record IsChecked (text : List ℕ) (reader : Reader) (names : Names) (header : Line) (rows : List Cells) : Type 0 where
+  pub at : IsAt header rows reader
+  pub all : AreRows text reader header rows
+  pub fault : first_fault text ≡ fault_behind header rows (lines_left reader.lines)
+  pub names_are : names ≡ names_of (spelled rows)
   pub room : has_room names ≡ true
 
-no-names : (header : Line) → ◌≡◌ {A = Names} (record { states = []; kinds = []; guards = []; actions = [] }) (names_of (rows_in (header ∷ [])))
-unfolding names_of rows_in
-no-names header = refl
+no-names : ◌≡◌ {A = Names} (record { states = []; kinds = []; guards = []; actions = [] }) (names_of (spelled []))
+unfolding names_of
+no-names = refl
 
 no-names-fit : has_room (record { states = []; kinds = []; guards = []; actions = [] }) ≡ true
 unfolding has_room
@@ -38,78 +42,73 @@ no-names-fit = refl
 pub checked-none : (text : List ℕ) (reader : Reader) (names : Names) (header : Line) → IsOpened text header reader → ◌≡◌ {A = Names} names (record { states = []; kinds = []; guards = []; actions = [] }) → IsChecked text reader names header []
 checked-none text reader names header opened none = record {
   at = opened.at;
-  kept = opened.kept;
+  all = rw opened.kept refl;
   fault = opened.fault;
-  names_are = none ∙ no-names header;
+  names_are = none ∙ no-names;
   room = rw none no-names-fit;
 }
 
--- the names of the rows up to a line, and that line's
-names-more : (header : Line) (body left : List Line) (row : RowNames) (line : Line) (reader : Reader) (names : Names) → TakesRow header body left row line reader → names ≡ names_of (rows_in (header ∷ body)) → with_row names (named row) ≡ names_of (rows_in (header ∷ body ++ line ∷ []))
-names-more header body left row line reader names takes is =
-    rw (takes.taken.rows, names_of-push (rows_in (header ∷ body)) (named row), is) refl
+-- the names of the rows up to one, and that one's
+names-more : (header : Line) (rows : List Cells) (left : List Line) (row : RowNames) (cells : Cells) (reader : Reader) (names : Names) → TakesRow header rows left row cells reader → names ≡ names_of (spelled rows) → with_row names (named row) ≡ names_of (spelled (rows ++ cells ∷ []))
+names-more header rows left row cells reader names takes is =
+    rw (takes.taken.rows_are, names_of-push (spelled rows) (named row), is) refl
 
-kept-more : (text : List ℕ) (header : Line) (body : List Line) (line : Line) (left rest : List Line) → kept (lines text) ≡ header ∷ body ++ kept left → kept left ≡ line ∷ rest → kept (lines text) ≡ header ∷ body ++ line ∷ [] ++ rest
-kept-more text header body line left rest all next = all ∙ rw (next, append_assoc) refl
+all-more : (text : List ℕ) (old new : Reader) (header : Line) (rows : List Cells) (cells : Cells) → AreRows text old header rows → groups (columns_of header.octets) (kept (lines_left old.lines)) ≡ cells ∷ groups (columns_of header.octets) (kept (lines_left new.lines)) → AreRows text new header (rows ++ cells ∷ [])
+all-more text old new header rows cells all next =
+    all ∙ rw next (sym (append_assoc rows (cells ∷ []) (groups (columns_of header.octets) (kept (lines_left new.lines)))))
 
-pub checked-more : (text : List ℕ) (old new : Reader) (names : Names) (header : Line) (body : List Line) (row : RowNames) (line : Line) (after : Names) → IsChecked text old names header body → TakesRow header body (lines_left old.lines) row line new → after ≡ with_row names (named row) → true ≡ has_room (with_row names (named row)) → IsChecked text new after header (body ++ line ∷ [])
-checked-more text old new names header body row line after checked takes is room =
-    let more = names-more header body (lines_left old.lines) row line new names takes checked.names_are in
-    let fits : has_room (names_of (rows_in (header ∷ body ++ line ∷ []))) ≡ true = rw (← more) (sym room) in
+pub checked-more : (text : List ℕ) (old new : Reader) (names : Names) (header : Line) (rows : List Cells) (row : RowNames) (cells : Cells) (after : Names) → IsChecked text old names header rows → TakesRow header rows (lines_left old.lines) row cells new → after ≡ with_row names (named row) → true ≡ has_room (with_row names (named row)) → IsChecked text new after header (rows ++ cells ∷ [])
+checked-more text old new names header rows row cells after checked takes is room =
+    let more = names-more header rows (lines_left old.lines) row cells new names takes checked.names_are in
+    let fits : has_room (names_of (spelled (rows ++ cells ∷ []))) ≡ true = rw (← more) (sym room) in
     record {
       at = takes.taken.at;
-      kept = kept-more text header body line (lines_left old.lines) (kept (lines_left new.lines)) checked.kept takes.kept;
+      all = all-more text old new header rows cells checked.all takes.groups;
       fault = checked.fault ∙ takes.fault ∙ rw fits refl;
       names_are = is ∙ more;
       room = rw is (sym room);
     }
 
 -- a row for whose names there is no room
-pub checked-over : (text : List ℕ) (old new : Reader) (names : Names) (header : Line) (body : List Line) (row : RowNames) (line : Line) → IsChecked text old names header body → TakesRow header body (lines_left old.lines) row line new → false ≡ has_room (with_row names (named row)) → first_fault text ≡ Some (record { line = row.line; code = TooManyNames })
-checked-over text old new names header body row line checked takes full =
-    let more = names-more header body (lines_left old.lines) row line new names takes checked.names_are in
-    let over : has_room (names_of (rows_in (header ∷ body ++ line ∷ []))) ≡ false = rw (← more) (sym full) in
+pub checked-over : (text : List ℕ) (old new : Reader) (names : Names) (header : Line) (rows : List Cells) (row : RowNames) (cells : Cells) → IsChecked text old names header rows → TakesRow header rows (lines_left old.lines) row cells new → false ≡ has_room (with_row names (named row)) → first_fault text ≡ Some (fault_at row.line TooManyNames)
+checked-over text old new names header rows row cells checked takes full =
+    let more = names-more header rows (lines_left old.lines) row cells new names takes checked.names_are in
+    let over : has_room (names_of (spelled (rows ++ cells ∷ []))) ≡ false = rw (← more) (sym full) in
     checked.fault ∙ takes.fault ∙ rw over refl
 
--- a text's lines up to a reader were read, and these are the numbers of their rows
-pub record IsFilled (text : List ℕ) (reader : Reader) (names : Names) (rows : List Row) (lines_begun : List ℕ) (header : Line) (body : List Line) : Type 0 where
-  pub at : IsAt header body reader
-  pub kept : kept (lines text) ≡ header ∷ body ++ kept (lines_left reader.lines)
-  pub fault : fault_behind (header ∷ body) (lines_left reader.lines) ≡ None
-  pub rows_are : rows ≡ map (numbered names) (rows_in (header ∷ body))
-  pub lines_are : lines_begun ≡ lines_in (header ∷ body)
-  pub count : length (rows_in (header ∷ body)) ≡ length body
-  pub few_rows : length body ≤ MAX_ROWS
-  pub well_named : All IsWellNamed (rows_in (header ∷ body))
-  pub few_guards : All (λ (row : NamedRow). length row.guards ≤ MAX_ROW_GUARDS) (rows_in (header ∷ body))
-  pub few_actions : All (λ (row : NamedRow). length row.actions ≤ MAX_ROW_ACTIONS) (rows_in (header ∷ body))
+-- where no row is left, the rows are all
+all-ended : (text : List ℕ) (reader : Reader) (header : Line) (rows : List Cells) → AreRows text reader header rows → groups (columns_of header.octets) (kept (lines_left reader.lines)) ≡ [] → cells_in (kept (lines text)) ≡ rows
+all-ended text reader header rows all ended = all ∙ rw ended (append-nil rows)
 
-no-rows : (header : Line) → rows_in (header ∷ []) ≡ []
-unfolding rows_in
-no-rows header = refl
+pub checked-names : (text : List ℕ) (reader : Reader) (names : Names) (header : Line) (rows : List Cells) → IsChecked text reader names header rows → HasEnded header rows (lines_left reader.lines) → names ≡ names_of (rows_of text)
+checked-names text reader names header rows checked ended =
+    rw (all-ended text reader header rows checked.all ended.groups) checked.names_are
 
-no-lines : (header : Line) → lines_in (header ∷ []) ≡ []
-unfolding lines_in
-no-lines header = refl
+-- a text's rows up to a reader were read, and these are their numbers
+pub record IsFilled (text : List ℕ) (reader : Reader) (names : Names) (numbers : List Row) (begun : List ℕ) (header : Line) (rows : List Cells) : Type 0 where
+  pub at : IsAt header rows reader
+  pub all : AreRows text reader header rows
+  pub fault : fault_behind header rows (lines_left reader.lines) ≡ None
+  pub rows_are : numbers ≡ map (numbered names) (spelled rows)
+  pub lines_are : begun ≡ map (λ (cells : Cells). cells.line) rows
+  pub count : length (spelled rows) ≡ length rows
+  pub few_rows : length rows ≤ MAX_ROWS
+  pub well_named : All IsWellNamed (spelled rows)
+  pub few_guards : All (λ (row : NamedRow). length row.guards ≤ MAX_ROW_GUARDS) (spelled rows)
+  pub few_actions : All (λ (row : NamedRow). length row.actions ≤ MAX_ROW_ACTIONS) (spelled rows)
 
-lines_in-push : (header : Line) (body : List Line) (line : Line) → lines_in (header ∷ body ++ line ∷ []) ≡ lines_in (header ∷ body) ++ line.number ∷ []
-unfolding lines_in
-lines_in-push header body line =
-    let columns = columns_of header.octets in
-    rw (map_push (cells_of columns) body line, map_push (λ (cells : Cells). cells.line) (map (cells_of columns) body) (cells_of columns line), cells_of-line columns line) refl
-
-pub filled-none : (text : List ℕ) (reader : Reader) (names : Names) (header : Line) (rows : List Row) (begun : List ℕ) → IsOpened text header reader → first_fault text ≡ None → rows ≡ [] → begun ≡ [] → IsFilled text reader names rows begun header []
-filled-none text reader names header rows begun opened sound none empty = record {
+pub filled-none : (text : List ℕ) (reader : Reader) (names : Names) (header : Line) (numbers : List Row) (begun : List ℕ) → IsOpened text header reader → first_fault text ≡ None → numbers ≡ [] → begun ≡ [] → IsFilled text reader names numbers begun header []
+filled-none text reader names header numbers begun opened sound none empty = record {
   at = opened.at;
-  kept = opened.kept;
+  all = rw opened.kept refl;
   fault = sym opened.fault ∙ sound;
-  rows_are = rw (none, no-rows header) refl;
-  lines_are = rw (empty, no-lines header) refl;
-  count = rw (no-rows header) refl;
+  rows_are = none;
+  lines_are = empty;
+  count = refl;
   few_rows = omega arith;
-  well_named = rw (no-rows header) (λ k d below. absurd (omega arith));
-  few_guards = rw (no-rows header) (λ k d below. absurd (omega arith));
-  few_actions = rw (no-rows header) (λ k d below. absurd (omega arith));
+  well_named = λ k d below. absurd (omega arith);
+  few_guards = λ k d below. absurd (omega arith);
+  few_actions = λ k d below. absurd (omega arith);
 }
 
 -- where no fault comes, there is room
@@ -117,24 +116,22 @@ sound-more : (test : Bool) (rest : Option TextFault) (fault : TextFault) → Non
 sound-more true rest fault none = sym none
 sound-more false rest fault none = cc
 
-pub filled-more : (text : List ℕ) (old new : Reader) (names : Names) (header : Line) (body : List Line) (row : RowNames) (line : Line) (rows after : List Row) (begun more : List ℕ) → IsFilled text old names rows begun header body → TakesRow header body (lines_left old.lines) row line new → after ≡ rows ++ numbered names (named row) ∷ [] → more ≡ begun ++ row.line ∷ [] → IsFilled text new names after more header (body ++ line ∷ [])
-filled-more text old new names header body row line rows after begun more filled takes pushed lined = record {
-  at = takes.taken.at;
-  kept = kept-more text header body line (lines_left old.lines) (kept (lines_left new.lines)) filled.kept takes.kept;
-  fault = sound-more (has_room (names_of (rows_in (header ∷ body ++ line ∷ [])))) (fault_behind (header ∷ body ++ line ∷ []) (lines_left new.lines)) (record { line = row.line; code = TooManyNames }) (sym filled.fault ∙ takes.fault);
-  rows_are = rw (pushed, takes.taken.rows, map_push (numbered names) (rows_in (header ∷ body)) (named row), filled.rows_are) refl;
-  lines_are = rw (lined, filled.lines_are, takes.taken.number, lines_in-push header body line) refl;
-  count = rw (takes.taken.rows, length_push (rows_in (header ∷ body)) (named row), length_push body line, filled.count) refl;
-  few_rows = rw (length_push body line) (omega (arith, takes.taken.room));
-  well_named = rw takes.taken.rows (All-push IsWellNamed (rows_in (header ∷ body)) (named row) filled.well_named takes.taken.well);
-  few_guards = rw takes.taken.rows (All-push (λ (r : NamedRow). length r.guards ≤ MAX_ROW_GUARDS) (rows_in (header ∷ body)) (named row) filled.few_guards takes.taken.few_guards);
-  few_actions = rw takes.taken.rows (All-push (λ (r : NamedRow). length r.actions ≤ MAX_ROW_ACTIONS) (rows_in (header ∷ body)) (named row) filled.few_actions takes.taken.few_actions);
-}
+pub filled-more : (text : List ℕ) (old new : Reader) (names : Names) (header : Line) (rows : List Cells) (row : RowNames) (cells : Cells) (numbers after : List Row) (begun more : List ℕ) → IsFilled text old names numbers begun header rows → TakesRow header rows (lines_left old.lines) row cells new → after ≡ numbers ++ numbered names (named row) ∷ [] → more ≡ begun ++ row.line ∷ [] → IsFilled text new names after more header (rows ++ cells ∷ [])
+filled-more text old new names header rows row cells numbers after begun more filled takes pushed lined =
+    let room = takes.taken.room in
+    record {
+      at = takes.taken.at;
+      all = all-more text old new header rows cells filled.all takes.groups;
+      fault = sound-more (has_room (names_of (spelled (rows ++ cells ∷ [])))) (fault_behind header (rows ++ cells ∷ []) (lines_left new.lines)) (fault_at row.line TooManyNames) (sym filled.fault ∙ takes.fault);
+      rows_are = rw (pushed, takes.taken.rows_are, map_push (numbered names) (spelled rows) (named row), filled.rows_are) refl;
+      lines_are = rw (lined, filled.lines_are, takes.taken.number, map_push (λ (c : Cells). c.line) rows cells) refl;
+      count = rw (takes.taken.rows_are, length_push (spelled rows) (named row), length_push rows cells, filled.count) refl;
+      few_rows = rw (length_push rows cells) (omega (arith, room));
+      well_named = rw takes.taken.rows_are (All-push IsWellNamed (spelled rows) (named row) filled.well_named takes.taken.well);
+      few_guards = rw takes.taken.rows_are (All-push (λ (r : NamedRow). length r.guards ≤ MAX_ROW_GUARDS) (spelled rows) (named row) filled.few_guards takes.taken.few_guards);
+      few_actions = rw takes.taken.rows_are (All-push (λ (r : NamedRow). length r.actions ≤ MAX_ROW_ACTIONS) (spelled rows) (named row) filled.few_actions takes.taken.few_actions);
+    }
 
--- behind the last row there are as many lines as rows
-pub filled-each : (text : List ℕ) (reader : Reader) (names : Names) (rows : List Row) (begun : List ℕ) (header : Line) (body : List Line) → IsFilled text reader names rows begun header body → kept (lines_left reader.lines) ≡ [] → length (row_lines text) ≡ length (rows_of text)
-unfolding lines_in
-filled-each text reader names rows begun header body filled ended =
-    let columns = columns_of header.octets in
-    let all : kept (lines text) ≡ header ∷ body = filled.kept ∙ rw (ended, append-nil body) refl in
-    rw (all, length-map (map (cells_of columns) body) (λ (cells : Cells). cells.line), length-map body (cells_of columns), filled.count) refl
+-- behind the last row all rows of the text are read
+pub filled-all : (text : List ℕ) (reader : Reader) (names : Names) (numbers : List Row) (begun : List ℕ) (header : Line) (rows : List Cells) → IsFilled text reader names numbers begun header rows → HasEnded header rows (lines_left reader.lines) → cells_in (kept (lines text)) ≡ rows
+filled-all text reader names numbers begun header rows filled ended = all-ended text reader header rows filled.all ended.groups

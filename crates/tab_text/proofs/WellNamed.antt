@@ -1,9 +1,9 @@
-use Rattle.std.proofs.Common.{◌≡◌, ℕ, ◌<◌, suc, zero, ◌==◌, Bool, true, false, ◌&&◌, ◌||◌, List, [], ◌∷◌, map, Option, Some, None, option_map, codes, arith, refl, sym}
-use Rattle.std.specs.List.{All, list_all, slice_split}
+use Rattle.std.proofs.Common.{◌≡◌, ℕ, ◌<◌, suc, zero, ◌==◌, Bool, true, false, ◌||◌, List, [], ◌∷◌, Option, Some, None, option_map, codes, arith, refl, sym}
+use Rattle.std.specs.List.{All}
 use Rattle.std.specs.Str.{bytes_eq}
 use Rattle.std.proofs.lemmas.List.Elements.{All-cons}
-use Rattle.tab_text.specs.Words.{words, trimmed, is_name}
-use Rattle.tab_text.specs.Cells.{Cells, NamedRow, guards_of, condition_of, all_names, actions_of, joined, is_state, row_with, row_of}
+use Rattle.tab_text.specs.Words.{tokens, is_name}
+use Rattle.tab_text.specs.Cells.{Cells, NamedRow, names_apart, condition_of, is_dash, actions_of, joined, is_state, row_with, row_of}
 use Rattle.tab_text.specs.Rows.{state_behind, IsWellNamed}
 use Rattle.tab_text.specs.Faults.{is_empty, lacks_cell}
 use Rattle.tab_text.specs.Passing.{own_fault}
@@ -24,24 +24,24 @@ with-first : (guard : List ℕ) (rest : Option (List (List ℕ))) → is_name gu
 with-first guard None is all = tt
 with-first guard (Some guards) is all = All-cons (λ name. is_name name ≡ true) guard guards is all
 
-one-guard : (guard : List ℕ) (test : Bool) → is_name guard ≡ test → AllNames (guards_of (guard ∷ []))
-one-guard guard true is = rw is (All-cons (λ name. is_name name ≡ true) guard [] is no-names)
-one-guard guard false is = rw is tt
+one-name : (between name : List ℕ) (test : Bool) → is_name name ≡ test → AllNames (names_apart between (name ∷ []))
+one-name between name true is = rw is (All-cons (λ n. is_name n ≡ true) name [] is no-names)
+one-name between name false is = rw is tt
 
-more-guards : (guard word : List ℕ) (rest : List (List ℕ)) (test between : Bool) → is_name guard ≡ test → bytes_eq word (codes "and") ≡ between → AllNames (guards_of rest) → AllNames (guards_of (guard ∷ word ∷ rest))
-more-guards guard word rest true true is and all = rw (is, and) (with-first guard (guards_of rest) is all)
-more-guards guard word rest true false is and all = rw (is, and) tt
-more-guards guard word rest false between is and all = rw is tt
+more-names : (between name word : List ℕ) (rest : List (List ℕ)) (test other : Bool) → is_name name ≡ test → bytes_eq word between ≡ other → AllNames (names_apart between rest) → AllNames (names_apart between (name ∷ word ∷ rest))
+more-names between name word rest true true is and all = rw (is, and) (with-first name (names_apart between rest) is all)
+more-names between name word rest true false is and all = rw (is, and) tt
+more-names between name word rest false other is and all = rw is tt
 
-guards-named : (found : List (List ℕ)) → AllNames (guards_of found)
-guards-named [] = tt
-guards-named (guard ∷ []) = one-guard guard (is_name guard) refl
-guards-named (guard ∷ word ∷ rest) =
-    more-guards guard word rest (is_name guard) (bytes_eq word (codes "and")) refl refl (guards-named rest)
+names-named : (between : List ℕ) (found : List (List ℕ)) → AllNames (names_apart between found)
+names-named between [] = tt
+names-named between (name ∷ []) = one-name between name (is_name name) refl
+names-named between (name ∷ word ∷ rest) =
+    more-names between name word rest (is_name name) (bytes_eq word between) refl refl (names-named between rest)
 
 condition-cons : (word : List ℕ) (rest : List (List ℕ)) (test : Bool) → bytes_eq word (codes "when") ≡ test → AllNames (condition_of (word ∷ rest))
 unfolding condition_of
-condition-cons word rest true is = rw is (guards-named rest)
+condition-cons word rest true is = rw is (names-named (codes "and") rest)
 condition-cons word rest false is = rw is tt
 
 condition-none : AllNames (condition_of [])
@@ -52,28 +52,10 @@ condition-named : (found : List (List ℕ)) → AllNames (condition_of found)
 condition-named [] = condition-none
 condition-named (word ∷ rest) = condition-cons word rest (bytes_eq word (codes "when")) refl
 
-and-left : (a b : Bool) → (a && b) ≡ true → a ≡ true
-and-left true b is = refl
-and-left false b is = is
-
-and-right : (a b : Bool) → (a && b) ≡ true → b ≡ true
-and-right true b is = is
-and-right false b is = cc
-
-each-named : (names : List (List ℕ)) → list_all is_name names ≡ true → AreNames names
-each-named [] all = no-names
-each-named (name ∷ names) all =
-    All-cons (λ n. is_name n ≡ true) name names (and-left (is_name name) (list_all is_name names) all) (each-named names (and-right (is_name name) (list_all is_name names) all))
-
-all-names : (names : List (List ℕ)) (test : Bool) → list_all is_name names ≡ test → AllNames (all_names names)
-all-names names true all = rw all (each-named names all)
-all-names names false all = rw all tt
-
-actions-cases : (action : List ℕ) (test : Bool) → bytes_eq action (codes "-") ≡ test → AllNames (actions_of action)
+actions-cases : (found : List (List ℕ)) (test : Bool) → is_dash found ≡ test → AllNames (actions_of found)
 unfolding actions_of
-actions-cases action true is = rw is no-names
-actions-cases action false is =
-    rw is (all-names (map trimmed (slice_split (λ b. b == 44) action)) (list_all is_name (map trimmed (slice_split (λ b. b == 44) action))) refl)
+actions-cases found true is = rw is no-names
+actions-cases found false is = rw is (names-named (codes ",") found)
 
 -- what is known of a row that cells spell, but for its state, which may be empty
 abbrev IsSpelledRow : Cells → Option NamedRow → Type 0
@@ -88,7 +70,7 @@ joined-named cells kind (Some guards) (Some actions) s k n g a = (refl, s, k, n,
 
 cells-named : (cells : Cells) (kind : List ℕ) (condition : List (List ℕ)) (s k n : Bool) → is_state cells.state ≡ s → is_name kind ≡ k → is_name cells.next ≡ n → IsSpelledRow cells (row_with cells (kind ∷ condition))
 cells-named cells kind condition true true true s k n =
-    rw (s, k, n) (joined-named cells kind (condition_of condition) (actions_of cells.action) s k n (condition-named condition) (actions-cases cells.action (bytes_eq cells.action (codes "-")) refl))
+    rw (s, k, n) (joined-named cells kind (condition_of condition) (actions_of (tokens cells.action)) s k n (condition-named condition) (actions-cases (tokens cells.action) (is_dash (tokens cells.action)) refl))
 cells-named cells kind condition true true false s k n = rw (s, k, n) tt
 cells-named cells kind condition true false test s k n = rw (s, k) tt
 cells-named cells kind condition false other test s k n = rw s tt
@@ -100,7 +82,7 @@ row-with-named cells (kind ∷ condition) =
 
 row-named : (cells : Cells) (row : NamedRow) → row_of cells ≡ Some row → IsSpelledRow cells (Some row)
 unfolding row_of
-row-named cells row is = rw is at (row-with-named cells (map (λ word. word.octets) (words cells.event)))
+row-named cells row is = rw is at (row-with-named cells (tokens cells.event))
 
 or-last : (a b c : Bool) → (a || b || c || true) ≡ true
 or-last true b c = refl
@@ -109,7 +91,7 @@ or-last false false true = refl
 or-last false false false = refl
 
 lacks-state : (cells : Cells) → cells.state ≡ [] → lacks_cell true cells ≡ true
-lacks-state cells is = rw is (or-last (is_empty cells.event) (is_empty cells.action) (is_empty cells.next))
+lacks-state cells is = rw is (or-last (is_empty (tokens cells.event)) (is_empty (tokens cells.action)) (is_empty cells.next))
 
 first-has-state : (cells : Cells) → cells.state ≡ [] → own_fault true cells ≡ None → ⊥
 unfolding own_fault

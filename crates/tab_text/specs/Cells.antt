@@ -1,9 +1,10 @@
-use Rattle.std.specs.Prelude.{ℕ, ◌-◌, ◌==◌, ◌&&◌, Bool, true, List, [], ◌∷◌, map, take, drop, Option, Some, None, option_map, codes, if◌then◌else◌, slice_index}
-use Rattle.std.specs.List.{list_all, slice_split}
+use Rattle.std.specs.Prelude.{ℕ, ◌==◌, ◌&&◌, Bool, true, false, List, [], ◌∷◌, ◌++◌, map, take, drop, Option, Some, None, option_map, codes, if◌then◌else◌, slice_index}
+use Rattle.std.specs.List.{flat_map}
 use Rattle.std.specs.Str.{bytes_eq}
 use Rattle.std.specs.Cmp.Lexicographic.{pointwise}
-use Rattle.tab_text.specs.Lines.{Line}
-use Rattle.tab_text.specs.Words.{words, trimmed, is_name}
+use Rattle.tab_text.specs.Lines.{Line, is_more, more_lines}
+use Rattle.tab_text.specs.Words.{words, tokens, trimmed, is_name}
+use Rattle.tab_text.specs.declared.cells.Span.{Span}
 use Rattle.tab_text.specs.declared.header.Columns.{Columns}
 
 -- the words that a header has
@@ -32,23 +33,58 @@ pub record Cells : Type 0 where
   pub action : List ℕ
   pub next : List ℕ
 
--- a cell goes from its column's start to the next column's, and is trimmed
-abbrev pub cell : ℕ → ℕ → List ℕ → List ℕ
-cell from to octets = trimmed (take (to - from) (drop from octets))
+-- the columns: where each begins, and where the next one does
+abbrev pub state_span : Columns → Span
+state_span columns = record { from = 2; to = Some columns.event }
 
--- the cells of a line
-unfoldable pub cells_of : Columns → Line → Cells
-cells_of columns line = record {
+abbrev pub event_span : Columns → Span
+event_span columns = record { from = columns.event; to = Some columns.action }
+
+abbrev pub action_span : Columns → Span
+action_span columns = record { from = columns.action; to = Some columns.next }
+
+abbrev pub next_span : Columns → Span
+next_span columns = record { from = columns.next; to = None }
+
+-- the bytes up to where the next column begins
+abbrev pub front_of : Option ℕ → List ℕ → List ℕ
+front_of None octets = octets
+front_of (Some to) octets = take to octets
+
+-- a cell goes from its column's start to the next column's, and is trimmed
+abbrev pub cell : Span → List ℕ → List ℕ
+cell span octets = trimmed (drop span.from (front_of span.to octets))
+
+-- the parts of a cell on the lines of its row
+abbrev pub parts : Span → List Line → List (List ℕ)
+parts span all = map (λ line. cell span line.octets) all
+
+-- two parts of a cell with one blank between, where both are there
+abbrev pub with_blank : List ℕ → List ℕ → List ℕ
+with_blank [] behind = behind
+with_blank (b ∷ bs) [] = b ∷ bs
+with_blank (b ∷ bs) (c ∷ cs) = (b ∷ bs) ++ 32 ∷ c ∷ cs
+
+-- parts of a cell with one blank between those that are there
+abbrev pub with_blanks : List (List ℕ) → List ℕ
+with_blanks [] = []
+with_blanks (part ∷ rest) = with_blank part (with_blanks rest)
+
+-- the cells of a row that begins on a line and goes on on others: the parts of Event and Action with blanks between
+unfoldable pub row_cells : Columns → Line → List Line → Cells
+row_cells columns line more = record {
   line = line.number;
-  state = cell 2 columns.event line.octets;
-  event = cell columns.event columns.action line.octets;
-  action = cell columns.action columns.next line.octets;
-  next = trimmed (drop columns.next line.octets);
+  state = flat_map (λ part. part) (parts (state_span columns) (line ∷ more));
+  event = with_blanks (parts (event_span columns) (line ∷ more));
+  action = with_blanks (parts (action_span columns) (line ∷ more));
+  next = flat_map (λ part. part) (parts (next_span columns) (line ∷ more));
 }
 
--- the rows' cells, of the lines behind the header: each line is a row
+-- the rows' cells, of the lines behind the header: each line that continues none begins a row, with the lines that continue it
 abbrev pub groups : Columns → List Line → List Cells
-groups columns body = map (cells_of columns) body
+groups columns [] = []
+groups columns (line ∷ rest) =
+    if is_more line.octets then groups columns rest else row_cells columns line (more_lines rest) ∷ groups columns rest
 
 -- a row by its names; an empty state is that of the row before
 pub record NamedRow : Type 0 where
@@ -58,29 +94,27 @@ pub record NamedRow : Type 0 where
   pub actions : List (List ℕ)
   pub next : List ℕ
 
--- the guards of `guard and guard`
-abbrev pub guards_of : List (List ℕ) → Option (List (List ℕ))
-guards_of [] = None
-guards_of (guard ∷ []) = if is_name guard then Some (guard ∷ []) else None
-guards_of (guard ∷ word ∷ rest) =
-    if is_name guard && bytes_eq word (codes "and") then option_map (λ guards. guard ∷ guards) (guards_of rest) else None
+-- names with this word between
+abbrev pub names_apart : List ℕ → List (List ℕ) → Option (List (List ℕ))
+names_apart between [] = None
+names_apart between (name ∷ []) = if is_name name then Some (name ∷ []) else None
+names_apart between (name ∷ word ∷ rest) =
+    if is_name name && bytes_eq word between then option_map (λ names. name ∷ names) (names_apart between rest) else None
 
 -- the guards behind a kind: none, or `when guard and guard`
 unfoldable pub condition_of : List (List ℕ) → Option (List (List ℕ))
 condition_of [] = Some []
-condition_of (word ∷ rest) = if bytes_eq word (codes "when") then guards_of rest else None
+condition_of (word ∷ rest) = if bytes_eq word (codes "when") then names_apart (codes "and") rest else None
 
--- the list, where all of it are names
-abbrev pub all_names : List (List ℕ) → Option (List (List ℕ))
-all_names names = if list_all is_name names then Some names else None
-
--- the names between commas
-abbrev pub names_between : List ℕ → Option (List (List ℕ))
-names_between action = all_names (map trimmed (slice_split (λ b. b == 44) action))
+-- `-` alone is no action
+abbrev pub is_dash : List (List ℕ) → Bool
+is_dash [] = false
+is_dash (word ∷ []) = bytes_eq word (codes "-")
+is_dash (word ∷ other ∷ rest) = false
 
 -- the actions of a cell: names with commas between, or `-` for none
-unfoldable pub actions_of : List ℕ → Option (List (List ℕ))
-actions_of action = if bytes_eq action (codes "-") then Some [] else names_between action
+unfoldable pub actions_of : List (List ℕ) → Option (List (List ℕ))
+actions_of found = if is_dash found then Some [] else names_apart (codes ",") found
 
 -- the row of cells whose guards and actions are these, where they are names
 abbrev pub joined : Cells → List ℕ → Option (List (List ℕ)) → Option (List (List ℕ)) → Option NamedRow
@@ -98,8 +132,8 @@ is_state (b ∷ bs) = is_name (b ∷ bs)
 abbrev pub row_with : Cells → List (List ℕ) → Option NamedRow
 row_with cells [] = None
 row_with cells (kind ∷ condition) =
-    if is_state cells.state && is_name kind && is_name cells.next then joined cells kind (condition_of condition) (actions_of cells.action) else None
+    if is_state cells.state && is_name kind && is_name cells.next then joined cells kind (condition_of condition) (actions_of (tokens cells.action)) else None
 
 -- the row that cells spell, where each is made of names as its column wants it
 unfoldable pub row_of : Cells → Option NamedRow
-row_of cells = row_with cells (map (λ word. word.octets) (words cells.event))
+row_of cells = row_with cells (tokens cells.event)

@@ -1,25 +1,27 @@
 use Rattle.std.specs.Prelude.{ℕ, ◌==◌, ◌++◌, ◌&&◌, ◌||◌, not, map, nat_lt, nat_le, Bool, true, false, List, [], ◌∷◌, length, Option, Some, None, is_none, if◌then◌else◌}
 use Rattle.std.specs.List.{filter_map, flat_map}
-use Rattle.tab_text.specs.Lines.{Line, lines, kept, is_plain, is_skipped, is_row_line}
-use Rattle.tab_text.specs.Cells.{Cells, NamedRow, is_header, columns_of, cells_of, groups, row_of}
+use Rattle.tab_text.specs.Lines.{Line, lines, kept, is_plain, is_skipped, is_more, is_row_line, more_lines}
+use Rattle.tab_text.specs.Words.{tokens}
+use Rattle.tab_text.specs.Cells.{Cells, NamedRow, is_header, columns_of, row_cells, groups, row_of}
+use Rattle.tab_text.specs.declared.header.Columns.{Columns}
 use Rattle.tab_text.specs.Rows.{Names, filled, names_of}
 use Rattle.tab_text.specs.declared.limits.TheConstants.{MAX_TEXT, MAX_ROWS, MAX_STATES, MAX_KINDS, MAX_GUARDS, MAX_ACTIONS, MAX_ROW_GUARDS, MAX_ROW_ACTIONS}
 use Rattle.tab_text.specs.declared.fault.TextCode.{TextCode}
-use Rattle.tab_text.specs.declared.fault.TextCode.TheVariants.{NoHeader, BadByte, EmptyCell, BadName, TooManyRows, TooManyNames, TooManyInRow, TooLong}
+use Rattle.tab_text.specs.declared.fault.TextCode.TheVariants.{NoHeader, BadByte, NoRowToContinue, EmptyCell, BadName, TooManyRows, TooManyNames, TooManyInRow, TooLong}
 use Rattle.tab_text.specs.declared.fault.TextFault.{TextFault}
 
 -- a fault of a line
 abbrev pub fault_at : ℕ → TextCode → TextFault
 fault_at line code = record { line = line; code = code }
 
-abbrev pub is_empty : List ℕ → Bool
+abbrev pub is_empty : {A : Type 0} → List A → Bool
 is_empty [] = true
-is_empty (b ∷ bs) = false
+is_empty (x ∷ xs) = false
 
--- a row lacks its event, its action or its next state, or the first row its state
+-- a row lacks its event, its action or its next state, or the first row its state: a cell is there where it has a word
 abbrev pub lacks_cell : Bool → Cells → Bool
 lacks_cell is_first cells =
-    is_empty cells.event || is_empty cells.action || is_empty cells.next || (is_first && is_empty cells.state)
+    is_empty (tokens cells.event) || is_empty (tokens cells.action) || is_empty cells.next || (is_first && is_empty cells.state)
 
 -- a row has over 4 guards or over 8 actions
 abbrev pub has_many : Option NamedRow → Bool
@@ -47,37 +49,44 @@ row_tests before cells =
     ∷ (not (has_room (names_of (filled [] (filter_map row_of (before ++ cells ∷ []))))), TooManyNames)
     ∷ []
 
--- what can be wrong with a line that is kept: the first is the header, the others are rows
-unfoldable pub kept_tests : List Line → Line → List (Bool × TextCode)
-kept_tests [] line = (not (is_header line.octets), NoHeader) ∷ []
-kept_tests (header ∷ body) line =
+-- what can be wrong with a line behind the rows that begin before it: it continues a row, or begins one with the lines that continue it
+unfoldable pub body_tests : List Cells → Columns → Line → List Line → List (Bool × TextCode)
+body_tests rows columns line more =
+    if is_more line.octets then (is_empty rows, NoRowToContinue) ∷ [] else row_tests rows (row_cells columns line more)
+
+-- what can be wrong with a line that is kept, between those that are kept: the first is the header
+unfoldable pub kept_tests : List Line → Line → List Line → List (Bool × TextCode)
+kept_tests [] line behind = (not (is_header line.octets), NoHeader) ∷ []
+kept_tests (header ∷ body) line behind =
     (not (is_row_line line.octets), BadByte)
-    ∷ row_tests (groups (columns_of header.octets) body) (cells_of (columns_of header.octets) line)
+    ∷ body_tests (groups (columns_of header.octets) body) (columns_of header.octets) line (more_lines behind)
 
--- what can be wrong with a line of a text, behind the lines before it
-unfoldable pub line_tests : List Line → Line → List (Bool × TextCode)
-line_tests before line =
-    (not (is_plain line.octets), BadByte) ∷ (if is_skipped line.octets then [] else kept_tests (kept before) line)
+-- what can be wrong with a line of a text, between the lines before it and those behind
+unfoldable pub line_tests : List Line → Line → List Line → List (Bool × TextCode)
+line_tests before line behind =
+    (not (is_plain line.octets), BadByte)
+    ∷ (if is_skipped line.octets then [] else kept_tests (kept before) line (kept behind))
 
--- a line of a text, and the lines before it
+-- a line of a text, the lines before it and those behind
 pub record Place : Type 0 where
   pub before : List Line
   pub line : Line
+  pub behind : List Line
 
 -- each line, behind these lines and those between
 abbrev pub places : List Line → List Line → List Place
 places before [] = []
-places before (line ∷ rest) = record { before = before; line = line } ∷ places (before ++ line ∷ []) rest
+places before (line ∷ rest) = record { before = before; line = line; behind = rest } ∷ places (before ++ line ∷ []) rest
 
 -- the faults of a line, in the order of their tests
 abbrev pub faults_at : Place → List TextFault
-faults_at place = map (fault_at place.line.number) (codes_of (line_tests place.before place.line))
+faults_at place = map (fault_at place.line.number) (codes_of (line_tests place.before place.line place.behind))
 
 -- the faults of a text's kept lines as a whole: they lack a header, or rows
 abbrev pub end_faults : List Line → List TextFault
 end_faults [] = fault_at 0 NoHeader ∷ []
-end_faults (header ∷ []) = fault_at header.number EmptyCell ∷ []
-end_faults (header ∷ row ∷ rows) = []
+end_faults (header ∷ body) =
+    if is_empty (groups (columns_of header.octets) body) then fault_at header.number EmptyCell ∷ [] else []
 
 -- all faults of a text: its length, then those of its lines by line, then those of the whole
 unfoldable pub faults : List ℕ → List TextFault

@@ -1,4 +1,5 @@
 pub mod Codes
+pub mod Fronts
 pub mod Contents
 pub mod Lines
 pub mod Words

@@ -1,4 +1,4 @@
-use Rattle.std.specs.Prelude.{ℕ, ◌+◌, ◌==◌, ◌&&◌, ◌||◌, not, nat_le, Bool, false, List, [], ◌∷◌, take, filter}
+use Rattle.std.specs.Prelude.{ℕ, ◌+◌, ◌==◌, ◌&&◌, ◌||◌, not, nat_le, Bool, false, List, [], ◌∷◌, take, filter, if◌then◌else◌}
 use Rattle.std.specs.List.{list_all, slice_split}
 use Rattle.std.specs.Str.{bytes_eq}
 
@@ -37,6 +37,16 @@ is_skipped octets = is_blank octets || is_comment octets
 abbrev pub kept : List Line → List Line
 kept all = filter (λ line. not (is_skipped line.octets)) all
 
--- a row's line has blanks in byte 0 and byte 1
+-- a `+` in byte 0 continues the row before
+abbrev pub is_more : List ℕ → Bool
+is_more [] = false
+is_more (b ∷ bs) = b == 43
+
+-- behind the header a line has a blank or `+` in byte 0, and a blank in byte 1 where it has one
 abbrev pub is_row_line : List ℕ → Bool
-is_row_line octets = bytes_eq (take 2 octets) (32 ∷ 32 ∷ [])
+is_row_line octets = bytes_eq (take 2 octets) (32 ∷ 32 ∷ []) || bytes_eq (take 2 octets) (43 ∷ 32 ∷ []) || bytes_eq octets (43 ∷ [])
+
+-- of lines that are kept, those in front that continue the row before
+abbrev pub more_lines : List Line → List Line
+more_lines [] = []
+more_lines (line ∷ rest) = if is_more line.octets then line ∷ more_lines rest else []

@@ -1,15 +1,15 @@
 -- what one pass over a text finds first, from the lines that are kept before and the lines behind; the definition of a text's
 -- faults is in Faults, and the two are shown to be one
-use Rattle.std.specs.Prelude.{◌==◌, ◌++◌, not, nat_le, Bool, List, [], ◌∷◌, length, Option, Some, None, option_map, is_none, if◌then◌else◌}
+use Rattle.std.specs.Prelude.{ℕ, ◌==◌, ◌++◌, not, nat_le, Bool, true, false, List, [], ◌∷◌, length, Option, Some, None, option_map, is_none, Result, Ok, Err, if◌then◌else◌}
 use Rattle.std.specs.Option.{option_or}
 use Rattle.std.specs.List.{filter_map}
-use Rattle.tab_text.specs.Lines.{Line, kept, is_plain, is_skipped, is_row_line}
-use Rattle.tab_text.specs.Cells.{Cells, is_header, columns_of, cells_of, groups, row_of}
+use Rattle.tab_text.specs.Lines.{Line, kept, is_plain, is_skipped, is_more, is_row_line, more_lines}
+use Rattle.tab_text.specs.Cells.{Cells, is_header, columns_of, row_cells, row_of}
 use Rattle.tab_text.specs.Rows.{filled, names_of}
-use Rattle.tab_text.specs.Faults.{lacks_cell, has_many, has_room}
+use Rattle.tab_text.specs.Faults.{fault_at, is_empty, lacks_cell, has_many, has_room}
 use Rattle.tab_text.specs.declared.limits.TheConstants.{MAX_ROWS}
 use Rattle.tab_text.specs.declared.fault.TextCode.{TextCode}
-use Rattle.tab_text.specs.declared.fault.TextCode.TheVariants.{NoHeader, BadByte, EmptyCell, BadName, TooManyRows, TooManyNames, TooManyInRow}
+use Rattle.tab_text.specs.declared.fault.TextCode.TheVariants.{NoHeader, BadByte, NoRowToContinue, EmptyCell, BadName, TooManyRows, TooManyNames, TooManyInRow}
 use Rattle.tab_text.specs.declared.fault.TextFault.{TextFault}
 
 -- the first code whose test holds
@@ -38,25 +38,39 @@ room_fault before cells = first_code (
 abbrev pub row_fault : List Cells → Cells → Option TextCode
 row_fault before cells = option_or (own_fault (length before == 0) cells) (room_fault before cells)
 
--- the fault of a line that is kept behind those that were kept before it: the first is the header, the others are rows
-unfoldable pub kept_fault : List Line → Line → Option TextCode
-kept_fault [] line = if is_header line.octets then None else Some NoHeader
-kept_fault (header ∷ body) line =
-    if is_row_line line.octets then row_fault (groups (columns_of header.octets) body) (cells_of (columns_of header.octets) line) else Some BadByte
+-- what a line behind the header is, where a row begins before it or none does: a row begins on it, or it is passed over
+abbrev pub line_case : Bool → List ℕ → Result Bool TextCode
+line_case some_row octets =
+    if not (is_plain octets) then Err BadByte
+    else if is_skipped octets then Ok false
+    else if not (is_row_line octets) then Err BadByte
+    else if is_more octets then (if some_row then Ok false else Err NoRowToContinue)
+    else Ok true
 
--- the fault of a line: its bytes are looked at first, and a line that is skipped has no other
-unfoldable pub line_fault : List Line → Line → Option TextCode
-line_fault before line =
-    if not (is_plain line.octets) then Some BadByte else (if is_skipped line.octets then None else kept_fault before line)
+-- the fault of a text whose lines have none: it lacks rows
+abbrev pub end_fault : Line → List Cells → Option TextFault
+end_fault header rows = if is_empty rows then Some (record { line = header.number; code = EmptyCell }) else None
 
--- the fault of a text whose lines have none: it lacks a header, or rows
-abbrev pub end_fault : List Line → Option TextFault
-end_fault [] = Some (record { line = 0; code = NoHeader })
-end_fault (header ∷ []) = Some (record { line = header.number; code = EmptyCell })
-end_fault (header ∷ row ∷ rows) = None
+-- the first fault from a line on, by what the line is, and by the first fault behind it where it is passed over or begins a row
+abbrev pub fault_step : List Cells → Cells → Result Bool TextCode → Option TextFault → Option TextFault → Option TextFault
+fault_step rows cells (Err code) passed begun = Some (fault_at cells.line code)
+fault_step rows cells (Ok false) passed begun = passed
+fault_step rows cells (Ok true) passed begun = option_or (option_map (fault_at cells.line) (row_fault rows cells)) begun
 
--- the first fault of lines behind those that were kept before them
-abbrev pub fault_behind : List Line → List Line → Option TextFault
-fault_behind before [] = end_fault before
-fault_behind before (line ∷ rest) =
-    option_or (option_map (λ code. record { line = line.number; code = code }) (line_fault before line)) (fault_behind (before ++ kept (line ∷ [])) rest)
+-- the first fault of lines behind a header and these rows
+abbrev pub fault_behind : Line → List Cells → List Line → Option TextFault
+fault_behind header rows [] = end_fault header rows
+fault_behind header rows (line ∷ rest) =
+    fault_step rows (row_cells (columns_of header.octets) line (more_lines (kept rest)))
+    (line_case (not (is_empty rows)) line.octets)
+    (fault_behind header rows rest)
+    (fault_behind header (rows ++ row_cells (columns_of header.octets) line (more_lines (kept rest)) ∷ []) rest)
+
+-- the first fault of lines before which there is no header
+abbrev pub head_fault : List Line → Option TextFault
+head_fault [] = Some (fault_at 0 NoHeader)
+head_fault (line ∷ rest) =
+    if not (is_plain line.octets) then Some (fault_at line.number BadByte)
+    else if is_skipped line.octets then head_fault rest
+    else if is_header line.octets then fault_behind line [] rest
+    else Some (fault_at line.number NoHeader)

@@ -1,11 +1,11 @@
 use Rattle.std.specs.Prelude.{ℕ, ◌≡◌, ◌==◌, true, ◌<◌, ◌≤◌, List, [], ◌∷◌, ◌++◌, length, All, Option, Some, None, Result, Ok, Err, if◌then◌else◌}
 use Rattle.tab_text.specs.Lines.{Line, lines, kept}
 use Rattle.tab_text.specs.Words.{is_name}
-use Rattle.tab_text.specs.Cells.{NamedRow, columns_of, cells_of, row_of}
-use Rattle.tab_text.specs.Rows.{rows_in, names_of, IsWellNamed}
-use Rattle.tab_text.specs.Faults.{first_fault, has_room}
-use Rattle.tab_text.specs.Passing.{own_fault, fault_behind, kept_fault}
-use Rattle.tab_text.specs.Reading.{lines_left, named}
+use Rattle.tab_text.specs.Cells.{Cells, NamedRow, columns_of, groups, row_of}
+use Rattle.tab_text.specs.Rows.{spelled, names_of, IsWellNamed}
+use Rattle.tab_text.specs.Faults.{fault_at, first_fault, has_room}
+use Rattle.tab_text.specs.Passing.{own_fault, row_fault, fault_behind}
+use Rattle.tab_text.specs.Reading.{lines_left, octets_in, named}
 use Rattle.tab_text.specs.declared.limits.TheConstants.{MAX_ROWS, MAX_ROW_GUARDS, MAX_ROW_ACTIONS}
 use Rattle.tab_text.specs.declared.fault.TextCode.TheVariants.{TooManyNames}
 use Rattle.tab_text.specs.declared.fault.TextFault.{TextFault}
@@ -19,60 +19,61 @@ abbrev pub last_state : List ℕ → List NamedRow → List ℕ
 last_state before [] = before
 last_state before (row ∷ rows) = last_state row.state rows
 
--- a reader has taken off the header and these lines behind it
-pub record IsAt (header : Line) (body : List Line) (reader : Reader) : Type 0 where
+-- a reader has taken off the header and these rows
+pub record IsAt (header : Line) (rows : List Cells) (reader : Reader) : Type 0 where
   pub line : reader.header ≡ header.number
   pub columns : reader.columns ≡ columns_of header.octets
-  pub count : reader.count ≡ length body
-  pub state : reader.state.now ≡ last_state [] (rows_in (header ∷ body))
-  pub named : 0 < length body → is_name reader.state.now ≡ true
+  pub count : reader.count ≡ length rows
+  pub state : octets_in reader.state ≡ last_state [] (spelled rows)
+  pub named : 0 < length rows → is_name (octets_in reader.state) ≡ true
 
 -- a reader stands behind the header of a text
 pub record IsOpened (text : List ℕ) (header : Line) (reader : Reader) : Type 0 where
   pub at : IsAt header [] reader
   pub kept : kept (lines text) ≡ header ∷ kept (lines_left reader.lines)
-  pub fault : first_fault text ≡ fault_behind (header ∷ []) (lines_left reader.lines)
+  pub fault : first_fault text ≡ fault_behind header [] (lines_left reader.lines)
 
--- a line's row was read, its state as it is written
-pub record IsRead (header : Line) (body : List Line) (line : Line) (row : RowNames) : Type 0 where
-  pub found : row_of (cells_of (columns_of header.octets) line) ≡ Some (named row)
-  pub number : row.line ≡ line.number
-  pub room : length body < MAX_ROWS
+-- a row was read behind others, its state as it is written
+pub record IsRead (rows : List Cells) (cells : Cells) (row : RowNames) : Type 0 where
+  pub found : row_of cells ≡ Some (named row)
+  pub number : row.line ≡ cells.line
+  pub room : length rows < MAX_ROWS
   pub few_guards : length (named row).guards ≤ MAX_ROW_GUARDS
   pub few_actions : length (named row).actions ≤ MAX_ROW_ACTIONS
-  pub sound : own_fault (length body == 0) (cells_of (columns_of header.octets) line) ≡ None
+  pub sound : own_fault (length rows == 0) cells ≡ None
   -- whether there is room for its names is left open
-  pub fault : kept_fault (header ∷ body) line ≡ (if has_room (names_of (rows_in (header ∷ body ++ line ∷ []))) then None else Some TooManyNames)
+  pub fault : row_fault rows cells ≡ (if has_room (names_of (spelled (rows ++ cells ∷ []))) then None else Some TooManyNames)
 
--- a reader took off the row of a line
-pub record TakesLine (header : Line) (body : List Line) (line : Line) (row : RowNames) (reader : Reader) : Type 0 where
-  pub at : IsAt header (body ++ line ∷ []) reader
-  pub rows : rows_in (header ∷ body ++ line ∷ []) ≡ rows_in (header ∷ body) ++ named row ∷ []
+-- a reader took off a row
+pub record TakesCells (header : Line) (rows : List Cells) (cells : Cells) (row : RowNames) (reader : Reader) : Type 0 where
+  pub at : IsAt header (rows ++ cells ∷ []) reader
+  pub rows_are : spelled (rows ++ cells ∷ []) ≡ spelled rows ++ named row ∷ []
   pub well : IsWellNamed (named row)
-  pub number : row.line ≡ line.number
-  pub room : length body < MAX_ROWS
+  pub number : row.line ≡ cells.line
+  pub room : length rows < MAX_ROWS
   pub few_guards : length (named row).guards ≤ MAX_ROW_GUARDS
   pub few_actions : length (named row).actions ≤ MAX_ROW_ACTIONS
-  pub fault : kept_fault (header ∷ body) line ≡ (if has_room (names_of (rows_in (header ∷ body ++ line ∷ []))) then None else Some TooManyNames)
+  pub fault : row_fault rows cells ≡ (if has_room (names_of (spelled (rows ++ cells ∷ []))) then None else Some TooManyNames)
 
--- a reader took off the next row, which is that of this line
-pub record TakesRow (header : Line) (body left : List Line) (row : RowNames) (line : Line) (reader : Reader) : Type 0 where
-  pub taken : TakesLine header body line row reader
-  pub kept : kept left ≡ line ∷ kept (lines_left reader.lines)
-  pub fault : fault_behind (header ∷ body) left
-      ≡ (if has_room (names_of (rows_in (header ∷ body ++ line ∷ []))) then fault_behind (header ∷ body ++ line ∷ []) (lines_left reader.lines) else Some (record { line = row.line; code = TooManyNames }))
+-- a reader took off the next row, which has these cells
+pub record TakesRow (header : Line) (rows : List Cells) (left : List Line) (row : RowNames) (cells : Cells) (reader : Reader) : Type 0 where
+  pub taken : TakesCells header rows cells row reader
+  pub groups : groups (columns_of header.octets) (kept left) ≡ cells ∷ groups (columns_of header.octets) (kept (lines_left reader.lines))
+  pub shorter : length (lines_left reader.lines) < length left
+  pub fault : fault_behind header rows left
+      ≡ (if has_room (names_of (spelled (rows ++ cells ∷ []))) then fault_behind header (rows ++ cells ∷ []) (lines_left reader.lines) else Some (fault_at row.line TooManyNames))
 
 -- no row is left, and no fault
-pub record HasEnded (header : Line) (body left : List Line) : Type 0 where
-  pub kept : kept left ≡ []
-  pub fault : fault_behind (header ∷ body) left ≡ None
-  pub some_row : 0 < length body
+pub record HasEnded (header : Line) (rows : List Cells) (left : List Line) : Type 0 where
+  pub groups : groups (columns_of header.octets) (kept left) ≡ []
+  pub fault : fault_behind header rows left ≡ None
+  pub some_row : 0 < length rows
 
 -- what taking off the next row answers, where these lines were left
-abbrev pub IsNextRow : Line → List Line → List Line → Result (Option RowNames) TextFault → Reader → Type 0
-IsNextRow header body left (Err fault) reader = fault_behind (header ∷ body) left ≡ Some fault
-IsNextRow header body left (Ok None) reader = HasEnded header body left
-IsNextRow header body left (Ok (Some row)) reader = (line : Line) × TakesRow header body left row line reader
+abbrev pub IsNextRow : Line → List Cells → List Line → Result (Option RowNames) TextFault → Reader → Type 0
+IsNextRow header rows left (Err fault) reader = fault_behind header rows left ≡ Some fault
+IsNextRow header rows left (Ok None) reader = HasEnded header rows left
+IsNextRow header rows left (Ok (Some row)) reader = (cells : Cells) × TakesRow header rows left row cells reader
 
 -- rows within the limits of a table
 pub record IsShort (rows : List NamedRow) : Type 0 where

@@ -1,16 +1,22 @@
-use Rattle.std.specs.Prelude.{ℕ, ◌≡◌, ◌+◌, ◌≤◌, nat_lt, Bool, List, [], ◌∷◌, length, map, take, Option, Some, None, Result, Ok, Err, if◌then◌else◌}
-use Rattle.tab_text.specs.Lines.{Line, numbered_from, is_plain, is_skipped}
-use Rattle.tab_text.specs.Cells.{Cells, NamedRow, row_of}
-use Rattle.tab_text.specs.Passing.{own_fault}
+use Rattle.std.specs.Prelude.{ℕ, ◌≡◌, ◌+◌, ◌≤◌, ◌++◌, Bool, true, false, List, [], ◌∷◌, length, map, Option, Some, None, Result, Ok, Err, if◌then◌else◌}
+use Rattle.std.specs.List.{flat_map}
+use Rattle.tab_text.specs.Lines.{Line, numbered_from, kept, is_plain, is_skipped, more_lines}
+use Rattle.tab_text.specs.Words.{tokens}
+use Rattle.tab_text.specs.Cells.{Cells, NamedRow, parts, row_cells, row_of}
+use Rattle.tab_text.specs.Faults.{fault_at}
+use Rattle.tab_text.specs.Passing.{own_fault, line_case}
 use Rattle.tab_text.specs.Pieces.{pieces_left}
-use Rattle.tab_text.specs.declared.limits.TheConstants.{MAX_ROW_GUARDS, MAX_ROW_ACTIONS}
+use Rattle.tab_text.specs.Fronts.{values_in, IsFront}
+use Rattle.tab_text.specs.declared.limits.TheConstants.{MAX_NAME, MAX_ROW_GUARDS, MAX_ROW_ACTIONS}
+use Rattle.tab_text.specs.declared.fault.TextCode.{TextCode}
 use Rattle.tab_text.specs.declared.fault.TextCode.TheVariants.{BadByte}
 use Rattle.tab_text.specs.declared.fault.TextFault.{TextFault}
+use Rattle.tab_text.specs.declared.front.Front.{Front}
 use Rattle.tab_text.specs.declared.lines.Lines.{Lines}
 use Rattle.tab_text.specs.declared.lines.TextLine.{TextLine}
-use Rattle.tab_text.specs.declared.cells.RowCells.{RowCells}
+use Rattle.tab_text.specs.declared.cells.RowCell.{RowCell}
+use Rattle.tab_text.specs.declared.cells.RowLines.{RowLines}
 use Rattle.tab_text.specs.declared.cells.RowNames.{RowNames}
-use Rattle.tab_text.specs.declared.room.Few.{Few}
 
 -- a line as it was taken off
 abbrev pub line_of : TextLine → Line
@@ -25,55 +31,74 @@ abbrev pub first_kept : List Line → Result (Option (Line × List Line)) TextFa
 first_kept [] = Ok None
 first_kept (line ∷ rest) =
     if is_plain line.octets then (if is_skipped line.octets then first_kept rest else Ok (Some (line, rest)))
-    else Err (record { line = line.number; code = BadByte })
+    else Err (fault_at line.number BadByte)
 
--- an answer is the first line that is kept, where these lines were left and those are left now
-abbrev pub IsFirstKept : List Line → Result (Option TextLine) TextFault → List Line → Type 0
-IsFirstKept old (Err fault) new = first_kept old ≡ Err fault
-IsFirstKept old (Ok None) new = first_kept old ≡ Ok None
-IsFirstKept old (Ok (Some line)) new = first_kept old ≡ Ok (Some (line_of line, new))
+-- the first line on which a row begins, by what a line is and what is found behind it
+abbrev pub row_step : Line → List Line → Result Bool TextCode → Result (Option (Line × List Line)) TextFault → Result (Option (Line × List Line)) TextFault
+row_step line rest (Err code) later = Err (fault_at line.number code)
+row_step line rest (Ok false) later = later
+row_step line rest (Ok true) later = Ok (Some (line, rest))
 
--- cells as they were cut
-abbrev pub cells_in : RowCells → Cells
-cells_in cells = record {
-  line = cells.line;
-  state = cells.state.now;
-  event = cells.event.now;
-  action = cells.action.now;
-  next = cells.next.now;
-}
+-- the first line on which a row begins, with the lines behind it, or a fault before it
+abbrev pub first_row : Bool → List Line → Result (Option (Line × List Line)) TextFault
+first_row some_row [] = Ok None
+first_row some_row (line ∷ rest) = row_step line rest (line_case some_row line.octets) (first_row some_row rest)
+
+-- an answer is the line that was found, and these lines are left now
+abbrev pub IsFound : Result (Option (Line × List Line)) TextFault → Result (Option TextLine) TextFault → List Line → Type 0
+IsFound found (Err fault) new = found ≡ Err fault
+IsFound found (Ok None) new = found ≡ Ok None
+IsFound found (Ok (Some line)) new = found ≡ Ok (Some (line_of line, new))
+
+-- the lines in front that continue a row
+abbrev pub lines_more : Lines → List Line
+lines_more l = more_lines (kept (lines_left l))
+
+-- the words that are left of a cell, and its bytes where nothing stands between its parts
+abbrev pub cell_words : RowCell → List (List ℕ)
+cell_words c = tokens c.rest.now ++ flat_map tokens (parts c.span (lines_more c.behind))
+
+abbrev pub cell_octets : RowCell → List ℕ
+cell_octets c = c.rest.now ++ flat_map (λ part. part) (parts c.span (lines_more c.behind))
+
+-- the cells of a row that begins on a line
+abbrev pub cells_at : RowLines → Cells
+cells_at row = row_cells row.columns (line_of row.line) (lines_more row.behind)
+
+-- the bytes of a name
+abbrev pub octets_in : Front ℕ MAX_NAME → List ℕ
+octets_in name = values_in name
 
 -- the names that are kept of a list
-abbrev pub few_names : Few → List (List ℕ)
-few_names few = take few.len (map (λ name. name.now) few.names)
+abbrev pub few_names : Front (Front ℕ MAX_NAME) MAX_ROW_ACTIONS → List (List ℕ)
+few_names few = map octets_in (values_in few)
 
--- of a list of names the first 8 are kept, and whether it has more
-pub record IsFront (names : List (List ℕ)) (few : Few) : Type 0 where
-  pub front : few_names few ≡ take MAX_ROW_ACTIONS names
-  pub more : few.more ≡ nat_lt MAX_ROW_ACTIONS (length names)
+-- the front of a list of names is kept
+abbrev pub IsFewOf : List (List ℕ) → Front (Front ℕ MAX_NAME) MAX_ROW_ACTIONS → Type 0
+IsFewOf names few = (list : List (Front ℕ MAX_NAME)) × (names ≡ map octets_in list) × IsFront list few
 
 -- a list was found, and its front is kept
-abbrev pub IsFrontOf : Option (List (List ℕ)) → Few → Type 0
+abbrev pub IsFrontOf : Option (List (List ℕ)) → Front (Front ℕ MAX_NAME) MAX_ROW_ACTIONS → Type 0
 IsFrontOf None few = ⊥
-IsFrontOf (Some names) few = IsFront names few
+IsFrontOf (Some names) few = IsFewOf names few
 
 -- a row by its names
 abbrev pub named : RowNames → NamedRow
 named row = record {
-  state = row.state.now;
-  kind = row.kind.now;
+  state = octets_in row.state;
+  kind = octets_in row.kind;
   guards = few_names row.guards;
   actions = few_names row.actions;
-  next = row.next.now;
+  next = octets_in row.next;
 }
 
 -- a row was found, but of its guards and actions only the front is kept
 pub record IsRowFront (found : NamedRow) (row : RowNames) : Type 0 where
-  pub state : found.state ≡ row.state.now
-  pub kind : found.kind ≡ row.kind.now
-  pub guards : IsFront found.guards row.guards
-  pub actions : IsFront found.actions row.actions
-  pub next : found.next ≡ row.next.now
+  pub state : found.state ≡ octets_in row.state
+  pub kind : found.kind ≡ octets_in row.kind
+  pub guards : IsFewOf found.guards row.guards
+  pub actions : IsFewOf found.actions row.actions
+  pub next : found.next ≡ octets_in row.next
 
 abbrev pub IsRowFrontOf : Option NamedRow → RowNames → Type 0
 IsRowFrontOf None row = ⊥

@@ -1,12 +1,13 @@
-use Rattle.std.specs.Prelude.{ℕ, nat_lt, List, [], ◌∷◌, ◌++◌, length, map, take, fold, if◌then◌else◌}
+use Rattle.std.specs.Prelude.{ℕ, nat_lt, List, [], ◌∷◌, ◌++◌, length, map, fold, if◌then◌else◌}
 use Rattle.tab_text.specs.Cells.{NamedRow}
 use Rattle.tab_text.specs.Rows.{Names, place_of}
+use Rattle.tab_text.specs.Reading.{octets_in}
 use Rattle.tab_text.specs.declared.room.Room.{Room}
 use Rattle.tab_text.specs.declared.room.Rooms.{Rooms}
 
 -- the names in a room
 abbrev pub names_in : Room → List (List ℕ)
-names_in room = take room.len (map (λ name. name.now) room.names)
+names_in room = map octets_in room.names
 
 -- names with one more behind them, where it isn't there yet
 abbrev pub with_name : List (List ℕ) → List ℕ → List (List ℕ)

@@ -4,7 +4,7 @@ use Rattle.std.specs.Str.{bytes_eq}
 use Rattle.tab_text.specs.Contents.{Contents, IsTable}
 use Rattle.tab_text.specs.Lines.{Line, lines, kept}
 use Rattle.tab_text.specs.Words.{is_name}
-use Rattle.tab_text.specs.Cells.{NamedRow, columns_of, groups, row_of}
+use Rattle.tab_text.specs.Cells.{Cells, NamedRow, columns_of, groups, row_of}
 use Rattle.tab_text.specs.declared.row.Row.{Row}
 
 -- the state of a row behind a row with this state: an empty State cell means the state of the row before
@@ -18,23 +18,22 @@ filled before [] = []
 filled before (row ∷ rows) =
     record row { state = state_behind before row.state } ∷ filled (state_behind before row.state) rows
 
--- the rows of the lines that are kept, the first of which is the header
-unfoldable pub rows_in : List Line → List NamedRow
-rows_in [] = []
-rows_in (header ∷ body) = filled [] (filter_map row_of (groups (columns_of header.octets) body))
+-- the rows that cells spell, with their states filled in
+abbrev pub spelled : List Cells → List NamedRow
+spelled rows = filled [] (filter_map row_of rows)
+
+-- the cells of the rows of the lines that are kept, the first of which is the header
+abbrev pub cells_in : List Line → List Cells
+cells_in [] = []
+cells_in (header ∷ body) = groups (columns_of header.octets) body
 
 -- the rows of a text
 abbrev pub rows_of : List ℕ → List NamedRow
-rows_of text = rows_in (kept (lines text))
-
--- the lines on which the rows of the lines that are kept begin
-unfoldable pub lines_in : List Line → List ℕ
-lines_in [] = []
-lines_in (header ∷ body) = map (λ cells. cells.line) (groups (columns_of header.octets) body)
+rows_of text = spelled (cells_in (kept (lines text)))
 
 -- the lines on which the rows of a text begin
 abbrev pub row_lines : List ℕ → List ℕ
-row_lines text = lines_in (kept (lines text))
+row_lines text = map (λ cells. cells.line) (cells_in (kept (lines text)))
 
 -- names in order of first appearance, each once
 abbrev pub distinct : List (List ℕ) → List (List ℕ)

@@ -1,5 +1,5 @@
 use Rattle.std.specs.Prelude.{ℕ, ◌+◌, ◌==◌, ◌&&◌, ◌||◌, not, nat_le, Bool, true, false, List, [], ◌∷◌, length, filter, reverse, codes, if◌then◌else◌}
-use Rattle.std.specs.List.{list_all, slice_split}
+use Rattle.std.specs.List.{list_all, slice_split, flat_map}
 use Rattle.std.specs.Str.{bytes_eq}
 use Rattle.tab_text.specs.declared.limits.TheConstants.{MAX_NAME}
 
@@ -40,6 +40,18 @@ is_word (b ∷ bs) = true
 -- the words of a line: what stands between its blanks
 unfoldable pub words : List ℕ → List Word
 words octets = filter (λ word. is_word word.octets) (placed_from 0 (slice_split (λ b. b == 32) octets))
+
+-- a comma stands between blanks
+abbrev pub apart : List ℕ → List ℕ
+apart octets = flat_map (λ b. if b == 44 then 32 ∷ 44 ∷ 32 ∷ [] else b ∷ []) octets
+
+-- the words of a cell: what stands between its blanks, where a comma is a word by itself
+unfoldable pub tokens : List ℕ → List (List ℕ)
+tokens cell = filter is_word (slice_split (λ b. b == 32) (apart cell))
+
+-- a word of a cell ends at a blank or a comma
+abbrev pub is_token_end : ℕ → Bool
+is_token_end b = (b == 32) || (b == 44)
 
 -- without the blanks in front
 abbrev pub trimmed_front : List ℕ → List ℕ

@@ -1,78 +1,183 @@
-ghost use Rattle.std.specs.Prelude.{◌≡◌, ◌-◌, None, Some, MatchOption, MatchResult, IfSome, map};
-ghost use Rattle.tab_text.specs.Words.{trimmed};
-ghost use Rattle.tab_text.specs.Cells.{cell, cells_of, guards_of, condition_of, names_between, actions_of, is_state, row_of};
-ghost use Rattle.tab_text.specs.Faults.{lacks_cell};
+ghost use Rattle.std.specs.Prelude.{◌≡◌, ◌∷◌, [], ◌==◌, ◌≤◌, position, length, drop, take, List, ℕ, None, Some, MatchOption, MatchResult, IfSome};
+ghost use Rattle.std.specs.List.{flat_map};
+ghost use Rattle.tab_text.specs.Words.{tokens, is_token_end, is_name};
+ghost use Rattle.tab_text.specs.Fronts.{IsFront};
+ghost use Rattle.tab_text.specs.Cells.{cell, front_of, parts, state_span, event_span, action_span, next_span, names_apart, condition_of, is_dash, actions_of, is_state, row_of, NamedRow};
+ghost use Rattle.tab_text.specs.Faults.{is_empty, lacks_cell, has_many};
 ghost use Rattle.tab_text.specs.Passing.{own_fault};
-ghost use Rattle.tab_text.specs.Pieces.{words_left};
-ghost use Rattle.tab_text.specs.Reading.{line_of, cells_in, IsFrontOf, IsRowFrontOf, IsOwnRow};
+ghost use Rattle.tab_text.specs.Reading.{line_of, lines_more, cell_words, cell_octets, cells_at, IsFrontOf, IsRowFront, IsRowFrontOf, IsOwnRow};
 
 use crate::fault::TextCode;
+use crate::front::Front;
 use crate::header::Columns;
-use crate::limits::{MAX_ROW_ACTIONS, MAX_ROW_GUARDS};
-use crate::lines::TextLine;
-use crate::pieces::{Pieces, Words};
-use crate::room::Few;
-use crate::spelling::{is_name, trimmed};
+use crate::limits::{MAX_NAME, MAX_ROW_ACTIONS, MAX_ROW_GUARDS};
+use crate::lines::{Lines, TextLine};
+use crate::spelling::{is_name, trimmed, trimmed_front};
 
-/// The cells of a row, and the line on which it begins.
+/// The bytes of a name or a cell, of which no more are kept than a name has.
+pub(crate) type Name = Front<u8, MAX_NAME>;
+
+/// Names of a row's guards or actions.
+pub(crate) type Few = Front<Name, MAX_ROW_ACTIONS>;
+
+/// Where a column begins, and where the next one does.
 #[derive(Clone, Copy)]
-pub(crate) struct RowCells<'a> {
-    pub(crate) line: usize,
-    pub(crate) state: &'a [u8],
-    pub(crate) event: &'a [u8],
-    pub(crate) action: &'a [u8],
-    pub(crate) next: &'a [u8],
+pub(crate) struct Span {
+    from: usize,
+    to: Option<usize>,
 }
 
-/// What stands between two places of a line, trimmed.
-fn cell(line: &[u8], from: usize, to: usize) -> &[u8]
-    ensures { result.now ≡ cell from to line.now }
+/// What stands in a column of a line, trimmed.
+fn cell(span: Span, line: &[u8]) -> &[u8]
+    ensures { result.now ≡ cell span line.now }
 {
-    let to = to.min(line.len());
-    let from = from.min(to);
-    trimmed(&line[from..to])
+    let front = match span.to {
+        None => line,
+        Some(to) => &line[..to.min(line.len())],
+    };
+    trimmed(&front[span.from.min(front.len())..])
 }
 
-/// The cells of a line.
-#[tactic(auto, unfolding(crate::specs::Cells::cells_of))]
-pub(crate) fn cells_of<'a>(columns: Columns, line: TextLine<'a>) -> RowCells<'a>
-    ensures { cells_in result ≡ cells_of columns (line_of line.entry) }
+/// Where the word in front ends: at a blank or a comma.
+fn token_end(text: &[u8]) -> Option<usize>
+    ensures { result ≡ position is_token_end text.now }
 {
-    RowCells {
-        line: line.number,
-        state: cell(line.octets, 2, columns.event),
-        event: cell(line.octets, columns.event, columns.action),
-        action: cell(line.octets, columns.action, columns.next),
-        next: cell(line.octets, columns.next, line.octets.len()),
+    text.iter().position(|b| *b == b' ' || *b == b',')
+}
+
+/// The first word of a part of a cell, and what stands behind it; a comma is a word by itself.
+fn first_word(part: &[u8]) -> Option<(&[u8], &[u8])>
+    ensures { MatchOption result (tokens part.now ≡ []) (λ found. tokens part.now ≡ found.0.now ∷ tokens found.1.now) }
+{
+    let rest = trimmed_front(part);
+    if rest.is_empty() {
+        return None;
+    }
+    if rest[0] == b',' {
+        return Some((&rest[..1], &rest[1..]));
+    }
+    let len = token_end(rest).unwrap_or(rest.len());
+    Some((&rest[..len], &rest[len..]))
+}
+
+/// What is left of a cell: of its part on one line, and its parts on the lines that continue it.
+#[derive(Clone, Copy)]
+struct RowCell<'a> {
+    rest: &'a [u8],
+    span: Span,
+    behind: Lines<'a>,
+}
+
+impl<'a> RowCell<'a> {
+    /// The next word.
+    fn next(&mut self) -> Option<&'a [u8]>
+        ensures { MatchOption result (cell_words self.old ≡ []) (λ word. cell_words self.old ≡ word.now ∷ cell_words self.new) }
+    {
+        loop {
+            if let Some((word, rest)) = first_word(self.rest) {
+                self.rest = rest;
+                return Some(word);
+            }
+            let line = self.behind.next_more()?;
+            self.rest = cell(self.span, line.octets);
+        }
+    }
+
+    /// The bytes, with nothing between the parts.
+    fn joined(mut self) -> Name
+        ensures { IsFront (cell_octets self.entry) result }
+    {
+        let mut name = Name::new();
+        name.extend(self.rest);
+        while let Some(line) = self.behind.next_more() {
+            name.extend(cell(self.span, line.octets));
+        }
+        name
+    }
+}
+
+/// A line on which a row begins, and the lines behind it, the first of which may continue it.
+#[derive(Clone, Copy)]
+pub(crate) struct RowLines<'a> {
+    pub(crate) columns: Columns,
+    pub(crate) line: TextLine<'a>,
+    pub(crate) behind: Lines<'a>,
+}
+
+impl<'a> RowLines<'a> {
+    /// A cell of the row.
+    fn cell(self, from: usize, to: Option<usize>) -> RowCell<'a>
+        ensures words { cell_words result ≡ flat_map tokens (parts (record { from = from; to = to }) (line_of self.entry.line ∷ lines_more self.entry.behind)) }
+        ensures octets { cell_octets result ≡ flat_map (λ part. part) (parts (record { from = from; to = to }) (line_of self.entry.line ∷ lines_more self.entry.behind)) }
+    {
+        let span = Span { from, to };
+        RowCell {
+            rest: cell(span, self.line.octets),
+            span,
+            behind: self.behind,
+        }
+    }
+
+    fn state(self) -> Name
+        ensures { IsFront (cells_at self.entry).state result }
+    {
+        self.cell(2, Some(self.columns.event)).joined()
+    }
+
+    fn event(self) -> RowCell<'a>
+        ensures { cell_words result ≡ tokens (cells_at self.entry).event }
+    {
+        self.cell(self.columns.event, Some(self.columns.action))
+    }
+
+    fn action(self) -> RowCell<'a>
+        ensures { cell_words result ≡ tokens (cells_at self.entry).action }
+    {
+        self.cell(self.columns.action, Some(self.columns.next))
+    }
+
+    fn next(self) -> Name
+        ensures { IsFront (cells_at self.entry).next result }
+    {
+        self.cell(self.columns.next, None).joined()
     }
 }
 
 /// A row by its names.
-#[derive(Drop)]
-pub(crate) struct RowNames<'a> {
+#[derive(Clone, Copy)]
+pub(crate) struct RowNames {
     pub(crate) line: usize,
-    pub(crate) state: &'a [u8],
-    pub(crate) kind: &'a [u8],
-    pub(crate) guards: Few<'a>,
-    pub(crate) actions: Few<'a>,
-    pub(crate) next: &'a [u8],
+    pub(crate) state: Name,
+    pub(crate) kind: Name,
+    pub(crate) guards: Few,
+    pub(crate) actions: Few,
+    pub(crate) next: Name,
 }
 
-/// The guards of `guard and guard`.
-fn guards_of<'a>(words: &mut Words<'a>) -> Option<Few<'a>>
-    ensures { MatchOption result (guards_of (map (λ word. word.octets) (words_left words.old)) ≡ None) (IsFrontOf (guards_of (map (λ word. word.octets) (words_left words.old)))) }
+/// The name that a word is.
+fn name_of(word: &[u8]) -> Name
+    ensures { IsFront word.now result }
 {
-    let mut guards = Few::new();
+    let mut name = Name::new();
+    name.extend(word);
+    name
+}
+
+/// The names with this word between.
+fn names_apart(words: &mut RowCell, between: &[u8]) -> Option<Few>
+    ensures { MatchOption result (names_apart between.now (cell_words words.old) ≡ None) (IsFrontOf (names_apart between.now (cell_words words.old))) }
+{
+    let mut names = Few::new();
     loop {
-        let guard = words.next()?.octets;
-        if !is_name(guard) {
+        let name = words.next()?;
+        if !is_name(name) {
             return None;
         }
-        guards.push(guard);
+        names.push(name_of(name));
         match words.next() {
-            None => return Some(guards),
+            None => return Some(names),
             Some(word) => {
-                if word.octets != b"and".as_slice() {
+                if word != between {
                     return None;
                 }
             }
@@ -82,14 +187,14 @@ fn guards_of<'a>(words: &mut Words<'a>) -> Option<Few<'a>>
 
 /// The guards behind a kind: none, or `when guard and guard`.
 #[tactic(auto, unfolding(crate::specs::Cells::condition_of))]
-fn condition_of<'a>(words: &mut Words<'a>) -> Option<Few<'a>>
-    ensures { MatchOption result (condition_of (map (λ word. word.octets) (words_left words.old)) ≡ None) (IsFrontOf (condition_of (map (λ word. word.octets) (words_left words.old)))) }
+fn condition_of(words: &mut RowCell) -> Option<Few>
+    ensures { MatchOption result (condition_of (cell_words words.old) ≡ None) (IsFrontOf (condition_of (cell_words words.old))) }
 {
     match words.next() {
         None => Some(Few::new()),
         Some(word) => {
-            if word.octets == b"when".as_slice() {
-                guards_of(words)
+            if word == b"when".as_slice() {
+                names_apart(words, b"and")
             } else {
                 None
             }
@@ -97,78 +202,102 @@ fn condition_of<'a>(words: &mut Words<'a>) -> Option<Few<'a>>
     }
 }
 
-/// The names between commas.
-fn names_between<'a>(action: &'a [u8]) -> Option<Few<'a>>
-    ensures { MatchOption result (names_between action.now ≡ None) (IsFrontOf (names_between action.now)) }
+/// Whether a cell is `-` alone.
+fn is_dash(mut words: RowCell) -> bool
+    ensures { result ≡ is_dash (cell_words words.entry) }
 {
-    let mut names = Few::new();
-    let mut pieces = Pieces::new(action, b',');
-    while let Some(piece) = pieces.next() {
-        let name = trimmed(piece);
-        if !is_name(name) {
-            return None;
-        }
-        names.push(name);
+    match words.next() {
+        None => false,
+        Some(word) => word == b"-".as_slice() && words.next().is_none(),
     }
-    Some(names)
 }
 
 /// The actions of a cell.
 #[tactic(auto, unfolding(crate::specs::Cells::actions_of))]
-fn actions_of<'a>(action: &'a [u8]) -> Option<Few<'a>>
-    ensures { MatchOption result (actions_of action.now ≡ None) (IsFrontOf (actions_of action.now)) }
+fn actions_of(mut words: RowCell) -> Option<Few>
+    ensures { MatchOption result (actions_of (cell_words words.entry) ≡ None) (IsFrontOf (actions_of (cell_words words.entry))) }
 {
-    if action == b"-".as_slice() {
+    if is_dash(words) {
         Some(Few::new())
     } else {
-        names_between(action)
+        names_apart(&mut words, b",")
     }
 }
 
-/// Whether a State cell is empty or has a name.
-fn is_state(state: &[u8]) -> bool
-    ensures { result ≡ is_state state.now }
+/// Whether the bytes of a cell are a name.
+fn is_named(cell: &Name) -> bool
+    ensures { (octets : List ℕ) → IsFront octets cell.now → result ≡ is_name octets }
 {
-    state.is_empty() || is_name(state)
+    !cell.is_over(MAX_NAME) && is_name(cell.as_slice())
+}
+
+/// Whether a State or Next cell is empty.
+fn is_bare(cell: &Name) -> bool
+    ensures { (octets : List ℕ) → IsFront octets cell.now → result ≡ is_empty octets }
+{
+    cell.as_slice().is_empty()
+}
+
+/// Whether an Event or Action cell is empty.
+fn is_wordless(mut cell: RowCell) -> bool
+    ensures { result ≡ is_empty (cell_words cell.entry) }
+{
+    cell.next().is_none()
+}
+
+/// Whether a State cell is empty or has a name.
+fn is_state(cell: &Name) -> bool
+    ensures { (octets : List ℕ) → IsFront octets cell.now → result ≡ is_state octets }
+{
+    is_bare(cell) || is_named(cell)
 }
 
 /// The row that cells spell.
 #[tactic(auto, unfolding(crate::specs::Cells::row_of))]
-fn row_of<'a>(cells: RowCells<'a>) -> Option<RowNames<'a>>
-    ensures row { MatchOption result (row_of (cells_in cells.entry) ≡ None) (IsRowFrontOf (row_of (cells_in cells.entry))) }
-    ensures line { IfSome result (λ row. row.line ≡ cells.entry.line) }
+fn row_of(cells: RowLines) -> Option<RowNames>
+    ensures row { MatchOption result (row_of (cells_at cells.entry) ≡ None) (IsRowFrontOf (row_of (cells_at cells.entry))) }
+    ensures line { IfSome result (λ row. row.line ≡ cells.entry.line.number) }
 {
-    let mut words = Words::new(cells.event);
-    let kind = words.next()?.octets;
-    if !is_state(cells.state) || !is_name(kind) || !is_name(cells.next) {
+    let mut words = cells.event();
+    let kind = words.next()?;
+    let state = cells.state();
+    let next = cells.next();
+    if !is_state(&state) || !is_name(kind) || !is_named(&next) {
         return None;
     }
     let guards = condition_of(&mut words)?;
-    let actions = actions_of(cells.action)?;
+    let actions = actions_of(cells.action())?;
     Some(RowNames {
-        line: cells.line,
-        state: cells.state,
-        kind,
+        line: cells.line.number,
+        state,
+        kind: name_of(kind),
         guards,
         actions,
-        next: cells.next,
+        next,
     })
 }
 
 /// Whether a row lacks a cell that it must have.
-fn lacks_cell(cells: RowCells, is_first: bool) -> bool
-    ensures { result ≡ lacks_cell is_first (cells_in cells.entry) }
+fn lacks_cell(cells: RowLines, is_first: bool) -> bool
+    ensures { result ≡ lacks_cell is_first (cells_at cells.entry) }
 {
-    cells.event.is_empty()
-        || cells.action.is_empty()
-        || cells.next.is_empty()
-        || (is_first && cells.state.is_empty())
+    is_wordless(cells.event())
+        || is_wordless(cells.action())
+        || is_bare(&cells.next())
+        || (is_first && is_bare(&cells.state()))
+}
+
+/// Whether a row has over 4 guards or over 8 actions.
+fn has_many(row: &RowNames) -> bool
+    ensures { (found : NamedRow) → IsRowFront found row.now → result ≡ has_many (Some found) }
+{
+    row.guards.is_over(MAX_ROW_GUARDS) || row.actions.is_over(MAX_ROW_ACTIONS)
 }
 
 /// The row of cells, or the first fault that it has by itself.
 #[tactic(auto, unfolding(crate::specs::Passing::own_fault))]
-pub(crate) fn read_row<'a>(cells: RowCells<'a>, is_first: bool) -> Result<RowNames<'a>, TextCode>
-    ensures { MatchResult result (IsOwnRow is_first (cells_in cells.entry)) (λ code. own_fault is_first (cells_in cells.entry) ≡ Some code) }
+pub(crate) fn read_row(cells: RowLines, is_first: bool) -> Result<RowNames, TextCode>
+    ensures { MatchResult result (IsOwnRow is_first (cells_at cells.entry)) (λ code. own_fault is_first (cells_at cells.entry) ≡ Some code) }
 {
     if lacks_cell(cells, is_first) {
         return Err(TextCode::EmptyCell);
@@ -176,7 +305,7 @@ pub(crate) fn read_row<'a>(cells: RowCells<'a>, is_first: bool) -> Result<RowNam
     let Some(row) = row_of(cells) else {
         return Err(TextCode::BadName);
     };
-    if row.guards.is_over(MAX_ROW_GUARDS) || row.actions.is_over(MAX_ROW_ACTIONS) {
+    if has_many(&row) {
         return Err(TextCode::TooManyInRow);
     }
     Ok(row)

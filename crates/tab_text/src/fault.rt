@@ -11,9 +11,12 @@ pub enum TextCode {
     /// The first line that isn't skipped is no header, or there is none.
     #[error("wanted a header: the words State, Event, Action and Next, the first at byte 2")]
     NoHeader,
-    /// A byte that a text can't have, or byte 0 or 1 of a row's line isn't blank.
-    #[error("wanted bytes 0x20 to 0x7E alone, and blanks in the first two bytes of a row's line")]
+    /// A byte that a text can't have, or one in byte 0 or 1 of a row's line that can't stand there.
+    #[error("wanted bytes 0x20 to 0x7E alone, in a row's line a blank or + in byte 0 and a blank in byte 1")]
     BadByte,
+    /// A line with `+` in byte 0 before which no row begins.
+    #[error("wanted a row before a line that continues one")]
+    NoRowToContinue,
     /// A row lacks a cell, or the table has no row.
     #[error("wanted a row with Event, Action and Next, and in the first row with a State")]
     EmptyCell,
@@ -35,7 +38,7 @@ pub enum TextCode {
 }
 
 impl TextCode {
-    /// The number that stands for the fault in messages. 4 is kept for lines that continue a row.
+    /// The number that stands for the fault in messages.
     pub fn number(self) -> u8
         ensures { result ≡ number_of self }
     {
@@ -43,6 +46,7 @@ impl TextCode {
             TextCode::NoHeader => 1,
             TextCode::BadByte => 2,
             TextCode::EmptyCell => 3,
+            TextCode::NoRowToContinue => 4,
             TextCode::BadName => 5,
             TextCode::TooManyRows => 6,
             TextCode::TooManyNames => 7,

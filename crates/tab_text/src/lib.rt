@@ -3,6 +3,7 @@
 
 mod cells;
 mod fault;
+mod front;
 mod header;
 mod limits;
 mod lines;

@@ -13,7 +13,7 @@ use crate::table::Table;
 use std::alloc::Global;
 
 /// The names of a text, where it has no fault.
-fn check<'a>(text: &'a [u8]) -> Result<Rooms<'a>, TextFault>
+fn check(text: &[u8]) -> Result<Rooms, TextFault>
     ensures sound { OnOk result (first_fault text.now ≡ None) }
     ensures names { IfOk result (λ rooms. rooms_names rooms ≡ names_of (rows_of text.now)) }
     ensures room { OnOk result (has_room (names_of (rows_of text.now)) ≡ true) }
@@ -33,11 +33,7 @@ fn check<'a>(text: &'a [u8]) -> Result<Rooms<'a>, TextFault>
 }
 
 /// The rows of a text that has these names, and the line on which each begins.
-fn fill<'a>(
-    alloc: Global,
-    text: &'a [u8],
-    names: &Rooms<'a>,
-) -> Result<(Vec<Row>, Vec<usize>), ParseError>
+fn fill(alloc: Global, text: &[u8], names: &Rooms) -> Result<(Vec<Row>, Vec<usize>), ParseError>
     requires { first_fault text.now ≡ None }
     ensures rows { IfOk result (λ filled. filled.0.items ≡ map (numbered (rooms_names names.now)) (rows_of text.now)) }
     ensures lines { IfOk result (λ filled. filled.1.items ≡ row_lines text.now) }
@@ -59,9 +55,11 @@ fn fill<'a>(
 ///
 /// A text is lines of the bytes 0x20 to 0x7E; the last may lack its newline. Blank lines, and lines
 /// with `#` in byte 0, are skipped. The first other line is the header, the words State, Event,
-/// Action and Next, the first at byte 2; each cell begins where its column's word does. An empty
-/// State cell means the state of the row before. An Event cell is `Kind` or
-/// `Kind when guard and guard`; actions have commas between, and `-` alone is none.
+/// Action and Next, the first at byte 2; each cell begins where its column's word does. A line with
+/// `+` in byte 0 continues the row before it: its parts of Event and Action are joined to the row's
+/// with one blank, those of State and Next with none. An empty State cell means the state of the row
+/// before. An Event cell is `Kind` or `Kind when guard and guard`; actions have commas between, and
+/// `-` alone is none. A row's fault is told at its first line.
 pub fn parse(alloc: Global, text: &[u8]) -> Result<Table, ParseError>
     ensures table { IfOk result (λ table. table ≡ table_of text.now) }
     ensures sound { OnOk result (first_fault text.now ≡ None) }

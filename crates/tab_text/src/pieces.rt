@@ -1,8 +1,9 @@
 //! A text taken apart: its pieces between separators, and its words between blanks.
 ghost use Rattle.std.specs.Prelude.{◌≡◌, ◌==◌, ◌+◌, ◌^◌, ◌<◌, ◌≤◌, ◌∷◌, [], length, position, MatchOption, IfNone};
 
+use std::alloc::AllocError;
+
 /// Takes off the pieces of a text between separators, one after another.
-#[derive(Drop)]
 pub struct Pieces<'a> {
     text: &'a [u8],
     separator: u8,
@@ -10,6 +11,14 @@ pub struct Pieces<'a> {
     from: usize,
     ghost within: { from ≤ length text.now + 1 },
 }
+
+impl<'a> Clone for Pieces<'a> {
+    fn clone(&self) -> Result<Pieces<'a>, AllocError> {
+        Ok(*self)
+    }
+}
+
+impl<'a> Copy for Pieces<'a> {}
 
 impl<'a> Pieces<'a> {
     ghost use Rattle.tab_text.specs.Pieces.{pieces_in, pieces_left, IsFirstPiece};

@@ -1,18 +1,46 @@
-ghost use Rattle.std.specs.Prelude.{◌≡◌, ◌<◌, Some, List, ◌∷◌, MatchResult, OnOk};
+ghost use Rattle.std.specs.Prelude.{◌≡◌, ◌<◌, Bool, true, false, Ok, Err, Some, List, ◌∷◌, MatchResult, OnOk};
 ghost use Rattle.tab_text.specs.Rows.{state_behind};
+ghost use Rattle.tab_text.specs.Passing.{line_case};
+ghost use Rattle.tab_text.specs.Reading.{octets_in};
 
-use crate::cells::{RowNames, cells_of, read_row};
+use crate::cells::{Name, RowLines, RowNames, read_row};
 use crate::fault::{TextCode, TextFault};
 use crate::header::{Columns, header_of};
 use crate::limits::{MAX_ROWS, MAX_TEXT};
 use crate::lines::{Lines, TextLine};
-use crate::spelling::is_row_line;
+use crate::spelling::{is_more, is_plain, is_row_line, is_skipped};
 
 /// The state of a row: an empty State cell means the state of the row before.
-fn state_behind<'a>(before: &'a [u8], state: &'a [u8]) -> &'a [u8]
-    ensures { result.now ≡ state_behind before.now state.now }
+fn state_behind(before: Name, state: Name) -> Name
+    ensures { octets_in result ≡ state_behind (octets_in before) (octets_in state) }
 {
-    if state.is_empty() { before } else { state }
+    if state.as_slice().is_empty() {
+        before
+    } else {
+        state
+    }
+}
+
+/// Whether a row begins on a line behind the header, which else is passed over, or its fault.
+fn begins_row(line: &[u8], some_row: bool) -> Result<bool, TextCode>
+    ensures { MatchResult result (λ begins. line_case some_row line.now ≡ Ok begins) (λ code. line_case some_row line.now ≡ Err code) }
+{
+    if !is_plain(line) {
+        return Err(TextCode::BadByte);
+    }
+    if is_skipped(line) {
+        return Ok(false);
+    }
+    if !is_row_line(line) {
+        return Err(TextCode::BadByte);
+    }
+    if !is_more(line) {
+        return Ok(true);
+    }
+    if !some_row {
+        return Err(TextCode::NoRowToContinue);
+    }
+    Ok(false)
 }
 
 /// Takes off the rows of a text, one after another.
@@ -25,15 +53,17 @@ pub(crate) struct Reader<'a> {
     /// How many rows were taken off.
     pub(crate) count: usize,
     /// The state of the last of them.
-    state: &'a [u8],
+    state: Name,
 }
 
 impl<'a> Reader<'a> {
     ghost use Rattle.tab_text.specs.Lines.{Line};
     ghost use Rattle.tab_text.specs.Faults.{first_fault};
-    ghost use Rattle.tab_text.specs.Passing.{kept_fault};
-    ghost use Rattle.tab_text.specs.Reading.{lines_left, line_of};
-    ghost use Rattle.tab_text.specs.Reader.{IsAt, IsRead, TakesLine, IsOpened, IsNextRow};
+    ghost use Rattle.std.specs.Prelude.{not, ◌==◌};
+    ghost use Rattle.tab_text.specs.Cells.{Cells};
+    ghost use Rattle.tab_text.specs.Passing.{row_fault};
+    ghost use Rattle.tab_text.specs.Reading.{lines_left, first_row, IsFound, cells_at};
+    ghost use Rattle.tab_text.specs.Reader.{IsAt, IsRead, TakesCells, IsOpened, IsNextRow};
 
     /// Reads a text's header.
     pub(crate) fn open(text: &'a [u8]) -> Result<Reader<'a>, TextFault>
@@ -63,22 +93,49 @@ impl<'a> Reader<'a> {
             header: line.number,
             columns,
             count: 0,
-            state: &[],
+            state: Name::new(),
         })
     }
 
-    /// The next row, with its state filled in.
-    pub(crate) fn next_row(&mut self) -> Result<Option<RowNames<'a>>, TextFault>
-        ensures { (header : Line) (body : List Line) → IsAt header body self.old → IsNextRow header body (lines_left self.old.lines) result self.new }
+    /// The next line on which a row begins.
+    fn next_line(&mut self) -> Result<Option<TextLine<'a>>, TextFault>
+        ensures found { IsFound (first_row (not (self.old.count == 0)) (lines_left self.old.lines)) result (lines_left self.new.lines) }
+        ensures kept { (header : Line) (rows : List Cells) → IsAt header rows self.old → IsAt header rows self.new }
     {
-        match self.lines.next_kept()? {
-            Some(line) => match self.read(line) {
-                Ok(row) => Ok(Some(row)),
-                Err(code) => Err(TextFault {
-                    line: line.number,
-                    code,
-                }),
-            },
+        while let Some(line) = self.lines.next() {
+            match begins_row(line.octets, self.count != 0) {
+                Ok(true) => return Ok(Some(line)),
+                Ok(false) => {}
+                Err(code) => {
+                    return Err(TextFault {
+                        line: line.number,
+                        code,
+                    });
+                }
+            }
+        }
+        Ok(None)
+    }
+
+    /// The next row, with its state filled in.
+    pub(crate) fn next_row(&mut self) -> Result<Option<RowNames>, TextFault>
+        ensures { (header : Line) (rows : List Cells) → IsAt header rows self.old → IsNextRow header rows (lines_left self.old.lines) result self.new }
+    {
+        match self.next_line()? {
+            Some(line) => {
+                let cells = RowLines {
+                    columns: self.columns,
+                    line,
+                    behind: self.lines,
+                };
+                match self.read(cells) {
+                    Ok(row) => Ok(Some(row)),
+                    Err(code) => Err(TextFault {
+                        line: line.number,
+                        code,
+                    }),
+                }
+            }
             None => {
                 if self.count == 0 {
                     return Err(TextFault {
@@ -91,30 +148,27 @@ impl<'a> Reader<'a> {
         }
     }
 
-    /// The row of a line as it is written, or its first fault; whether there is room for its names
+    /// The row of cells as it is written, or its first fault; whether there is room for its names
     /// is left open.
-    fn row_at(&self, line: TextLine<'a>) -> Result<RowNames<'a>, TextCode>
+    fn row_at(&self, cells: RowLines) -> Result<RowNames, TextCode>
         ensures room { OnOk result (self.now.count < MAX_ROWS) }
-        ensures row { (header : Line) (body : List Line) → IsAt header body self.now
-            → MatchResult result (IsRead header body (line_of line.entry)) (λ code. kept_fault (header ∷ body) (line_of line.entry) ≡ Some code) }
+        ensures row { (header : Line) (rows : List Cells) → IsAt header rows self.now
+            → MatchResult result (IsRead rows (cells_at cells.entry)) (λ code. row_fault rows (cells_at cells.entry) ≡ Some code) }
     {
-        if !is_row_line(line.octets) {
-            return Err(TextCode::BadByte);
-        }
-        let row = read_row(cells_of(self.columns, line), self.count == 0)?;
+        let row = read_row(cells, self.count == 0)?;
         if self.count >= MAX_ROWS {
             return Err(TextCode::TooManyRows);
         }
         Ok(row)
     }
 
-    /// Takes off the row of a line, with its state filled in.
-    fn read(&mut self, line: TextLine<'a>) -> Result<RowNames<'a>, TextCode>
-        ensures row { (header : Line) (body : List Line) → IsAt header body self.old
-            → MatchResult result (λ row. TakesLine header body (line_of line.entry) row self.new) (λ code. kept_fault (header ∷ body) (line_of line.entry) ≡ Some code) }
+    /// Takes off a row, with its state filled in.
+    fn read(&mut self, cells: RowLines) -> Result<RowNames, TextCode>
+        ensures row { (header : Line) (rows : List Cells) → IsAt header rows self.old
+            → MatchResult result (λ row. TakesCells header rows (cells_at cells.entry) row self.new) (λ code. row_fault rows (cells_at cells.entry) ≡ Some code) }
         ensures lines { lines_left self.new.lines ≡ lines_left self.old.lines }
     {
-        let row = self.row_at(line)?;
+        let row = self.row_at(cells)?;
         let state = state_behind(self.state, row.state);
         self.state = state;
         self.count += 1;

@@ -1,6 +1,6 @@
 ghost use Rattle.std.specs.Prelude.{◌≡◌};
 ghost use Rattle.std.specs.List.{list_all};
-ghost use Rattle.tab_text.specs.Lines.{is_plain, is_blank, is_comment, is_skipped, is_row_line};
+ghost use Rattle.tab_text.specs.Lines.{is_plain, is_blank, is_comment, is_skipped, is_more, is_row_line};
 ghost use Rattle.tab_text.specs.Words.{is_letter, is_name_byte, is_spelled, is_name, trimmed_front, trimmed_back, trimmed};
 
 use crate::limits::MAX_NAME;
@@ -48,7 +48,7 @@ pub(crate) fn is_name(octets: &[u8]) -> bool
 }
 
 /// Without the blanks in front.
-fn trimmed_front(mut octets: &[u8]) -> &[u8]
+pub(crate) fn trimmed_front(mut octets: &[u8]) -> &[u8]
     ensures { result.now ≡ trimmed_front octets.now }
 {
     while let [b' ', rest @ ..] = octets {
@@ -107,9 +107,19 @@ fn is_comment(octets: &[u8]) -> bool
     }
 }
 
-/// Whether a line begins as a row's line does.
+/// Whether a line continues the row before it.
+pub(crate) fn is_more(octets: &[u8]) -> bool
+    ensures { result ≡ is_more octets.now }
+{
+    match octets {
+        [] => false,
+        [first, ..] => *first == b'+',
+    }
+}
+
+/// Whether a line begins as one behind the header does.
 pub(crate) fn is_row_line(octets: &[u8]) -> bool
     ensures { result ≡ is_row_line octets.now }
 {
-    octets.starts_with(b"  ")
+    octets.starts_with(b"  ") || octets.starts_with(b"+ ") || octets == b"+".as_slice()
 }

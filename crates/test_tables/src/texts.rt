@@ -98,7 +98,7 @@ const HEADERS: [(&[u8], usize, TextCode); 12] = [
     (
         b"  State Event Action Next\n+ A     b     -      C",
         2,
-        TextCode::BadByte,
+        TextCode::NoRowToContinue,
     ),
     (
         b"  State Event Action Next\n A      b     -      C",
@@ -333,7 +333,7 @@ fn texts_rows_and_names_have_their_limits(rt: HostRuntime) -> Result<(), Fail> {
 }
 
 /// Each code, its number, and its message on line 7.
-const MESSAGES: [(TextCode, u8, &str); 8] = [
+const MESSAGES: [(TextCode, u8, &str); 9] = [
     (
         TextCode::NoHeader,
         1,
@@ -342,7 +342,12 @@ const MESSAGES: [(TextCode, u8, &str); 8] = [
     (
         TextCode::BadByte,
         2,
-        "line 7: wanted bytes 0x20 to 0x7E alone, and blanks in the first two bytes of a row's line",
+        "line 7: wanted bytes 0x20 to 0x7E alone, in a row's line a blank or + in byte 0 and a blank in byte 1",
+    ),
+    (
+        TextCode::NoRowToContinue,
+        4,
+        "line 7: wanted a row before a line that continues one",
     ),
     (
         TextCode::EmptyCell,

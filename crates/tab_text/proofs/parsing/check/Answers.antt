@@ -1,5 +1,6 @@
-use Rattle.std.proofs.Common.{◌∷◌, [], ◌++◌}
-use Rattle.tab_text.proofs.ParseLemmas.{checked-none, checked-more, checked-over}
+use Rattle.std.proofs.Common.{◌∷◌, [], ◌++◌, ◌∙◌}
+use Rattle.tab_text.specs.Rooms.{rooms_names}
+use Rattle.tab_text.proofs.ParseLemmas.{checked-none, checked-more, checked-over, checked-names}
 use Rattle.tab_text.proofs.parsing.check.Goals as goal
 
 pub loop-row-init : goal.loop-row-init
@@ -21,3 +22,27 @@ loop-row-preserved c =
       so_far.1 ++ next.0 ∷ [],
       checked-more c.args.text.now c.loop-row.reader c.next_row.new.self _ so_far.0 so_far.1 c.in-Some.row next.0 _ so_far.2 next.1 c.if-not-add.ensures.added c.if-not-add.ensures.room,
     )
+
+pub loop-row-smaller : goal.loop-row-smaller
+loop-row-smaller c =
+    let so_far = c.loop-row.invariant in
+    let next = rw c.in-Some.is at (c.in_ok-row.ensures so_far.0 so_far.1 so_far.2.at) in
+    next.1.shorter
+
+pub returns-clause-sound : goal.returns-clause-sound
+returns-clause-sound c =
+    let so_far = c.loop-row.invariant in
+    let ended = rw c.in_default.is at (c.in_ok-row.ensures so_far.0 so_far.1 so_far.2.at) in
+    so_far.2.fault ∙ ended.fault
+
+pub returns-clause-names : goal.returns-clause-names
+returns-clause-names c =
+    let so_far = c.loop-row.invariant in
+    let ended = rw c.in_default.is at (c.in_ok-row.ensures so_far.0 so_far.1 so_far.2.at) in
+    checked-names c.args.text.now c.loop-row.reader (rooms_names c.loop-row.names) so_far.0 so_far.1 so_far.2 ended
+
+pub returns-clause-room : goal.returns-clause-room
+returns-clause-room c =
+    let so_far = c.loop-row.invariant in
+    let ended = rw c.in_default.is at (c.in_ok-row.ensures so_far.0 so_far.1 so_far.2.at) in
+    rw (← checked-names c.args.text.now c.loop-row.reader (rooms_names c.loop-row.names) so_far.0 so_far.1 so_far.2 ended) so_far.2.room

@@ -1,5 +1,6 @@
 use Rattle.std.proofs.Common.{List, length}
-use Rattle.tab_text.specs.Lines.{Line, kept}
+use Rattle.tab_text.specs.Lines.{Line}
+use Rattle.tab_text.specs.Cells.{Cells}
 use Rattle.tab_text.specs.Reading.{lines_left}
 use Rattle.tab_text.specs.Rooms.{rooms_names}
 use Rattle.tab_text.proofs.ParseLemmas.{IsChecked}
@@ -7,7 +8,7 @@ use Rattle.tab_text.proofs.parsing.check.Given as goal
 
 abbrev pub invariant-loop-row : goal.invariant-loop-row
 invariant-loop-row l =
-    (header : Line) × (body : List Line) × IsChecked l.text l.reader (rooms_names l.names) header body
+    (header : Line) × (rows : List Cells) × IsChecked l.text l.reader (rooms_names l.names) header rows
 
 abbrev pub decreases-loop-row : goal.decreases-loop-row
-decreases-loop-row l = length (kept (lines_left l.reader.lines))
+decreases-loop-row l = length (lines_left l.reader.lines)

@@ -1,5 +1,6 @@
 use Rattle.std.proofs.Common.{List, length}
-use Rattle.tab_text.specs.Lines.{Line, kept}
+use Rattle.tab_text.specs.Lines.{Line}
+use Rattle.tab_text.specs.Cells.{Cells}
 use Rattle.tab_text.specs.Reading.{lines_left}
 use Rattle.tab_text.specs.Rooms.{rooms_names}
 use Rattle.tab_text.proofs.ParseLemmas.{IsFilled}
@@ -7,7 +8,7 @@ use Rattle.tab_text.proofs.parsing.fill.Given as goal
 
 abbrev pub invariant-loop-lines : goal.invariant-loop-lines
 invariant-loop-lines l =
-    (header : Line) × (body : List Line) × IsFilled l.text l.reader (rooms_names l.names) l.rows.items l.lines.items header body
+    (header : Line) × (rows : List Cells) × IsFilled l.text l.reader (rooms_names l.names) l.rows.items l.lines.items header rows
 
 abbrev pub decreases-loop-lines : goal.decreases-loop-lines
-decreases-loop-lines l = length (kept (lines_left l.reader.lines))
+decreases-loop-lines l = length (lines_left l.reader.lines)

@@ -1,0 +1,9 @@
+use Rattle.std.proofs.Common.{◌≡◌, length}
+use Rattle.tab_text.specs.Reading.{lines_more, cell_words}
+use Rattle.tab_text.proofs.cells.RowCell.next.Given as goal
+
+abbrev pub invariant-loop-word : goal.invariant-loop-word
+invariant-loop-word l = cell_words l.self ≡ cell_words l.initial.self
+
+abbrev pub decreases-loop-word : goal.decreases-loop-word
+decreases-loop-word l = length (lines_more l.self.behind)

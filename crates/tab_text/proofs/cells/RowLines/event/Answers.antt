@@ -1,0 +1,9 @@
+use Rattle.std.proofs.Common.{sym, ◌∙◌}
+use Rattle.tab_text.specs.Reading.{line_of, lines_more}
+use Rattle.tab_text.proofs.TokenLemmas.{event-words}
+use Rattle.tab_text.proofs.cells.RowLines.event.Goals as goal
+
+pub returns : goal.returns
+returns c =
+    let row = c.args.self in
+    c.cell.ensures.words ∙ sym (event-words row.columns (line_of row.line) (lines_more row.behind))
