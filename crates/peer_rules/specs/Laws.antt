@@ -2,7 +2,7 @@
 use Rattle.std.specs.Prelude.{ℕ, ◌+◌, ◌*◌, ◌==◌, if◌then◌else◌, List, [], ◌∷◌, map, codes}
 use Rattle.std.specs.List.{range_with_len}
 use Rattle.base_codes.specs.declared.deed_code.DeedCode.{DeedCode}
-use Rattle.base_codes.specs.declared.deed_code.DeedCode.TheVariants.{ToSession, Dial, Undial, SndCer, SndCea, SndDwa, SndDpr, SndDpa, SndMsg}
+use Rattle.base_codes.specs.declared.deed_code.DeedCode.TheVariants.{ToSession, SndCer, SndCea, SndDwa, SndDpr, SndDpa, SndMsg}
 use Rattle.base_codes.specs.declared.deed_code.DeedCode.TheVariants as deeds
 use Rattle.base_codes.specs.DeedCodes.{number_of}
 use Rattle.base_codes.specs.declared.peer_register.TheConstants as r
@@ -36,6 +36,17 @@ arm = deed deeds.Arm (NewRegister r.TIMER ∷ Constant 30 ∷ [])
 abbrev pub disarm : Change
 disarm = deed deeds.Disarm []
 
+-- a connection to the peer is opened, as the new dial, or that of the last one is closed
+abbrev pub dial : Change
+dial = deed deeds.Dial (Register r.MACHINE ∷ NewRegister r.DIAL ∷ [])
+
+abbrev pub undial : Change
+undial = deed deeds.Undial (Register r.MACHINE ∷ Register r.DIAL ∷ [])
+
+-- who wins the election is told, and the line that the CER came on
+abbrev pub elect : Change
+elect = deed deeds.Elect (Register r.WIN ∷ Register r.R_LINE ∷ [])
+
 -- a line is closed
 abbrev pub close : Atom → Change
 close line = deed deeds.Close (Constant 0 ∷ line ∷ [])
@@ -63,15 +74,15 @@ act name changes = record { name = name; value = changes }
 -- the actions, in the order of their first appearance in the table
 abbrev pub acts : List (Named (List Change))
 acts =
-    act (codes "I-Snd-Conn-Req") (next r.DIAL ∷ next r.TIMER ∷ deed Dial (Register r.MACHINE ∷ NewRegister r.DIAL ∷ []) ∷ arm ∷ [])
+    act (codes "I-Snd-Conn-Req") (next r.DIAL ∷ next r.TIMER ∷ dial ∷ arm ∷ [])
     ∷ act (codes "R-Accept") (set r.R_LINE (Fact f.LINE) ∷ [])
     ∷ act (codes "Process-CER") (set r.WIN (Fact f.LOCAL_WINS) ∷ set r.HOP_BY_HOP (Fact f.HOP_BY_HOP) ∷ set r.END_TO_END (Fact f.END_TO_END) ∷ [])
     ∷ act (codes "R-Snd-CEA") (next r.TIMER ∷ answer SndCea (Register r.R_LINE) (Register r.HOP_BY_HOP) (Register r.END_TO_END) ∷ disarm ∷ [])
     ∷ act (codes "I-Snd-CER") (set r.I_LINE (Fact f.LINE) ∷ next r.REQUESTS ∷ request SndCer (Fact f.LINE) ∷ [])
     ∷ act (codes "Cleanup") (set r.I_LINE (Constant 0) ∷ next r.TIMER ∷ disarm ∷ [])
-    ∷ act (codes "Error") (set r.I_LINE (Constant 0) ∷ set r.R_LINE (Constant 0) ∷ next r.DIAL ∷ next r.TIMER ∷ close (Register r.I_LINE) ∷ close (Register r.R_LINE) ∷ deed Undial (Register r.MACHINE ∷ Register r.DIAL ∷ []) ∷ disarm ∷ [])
+    ∷ act (codes "Error") (set r.I_LINE (Constant 0) ∷ set r.R_LINE (Constant 0) ∷ next r.DIAL ∷ next r.TIMER ∷ close (Register r.I_LINE) ∷ close (Register r.R_LINE) ∷ undial ∷ disarm ∷ [])
     ∷ act (codes "Process-CEA") (next r.TIMER ∷ disarm ∷ [])
-    ∷ act (codes "Elect") (deed deeds.Elect (Register r.WIN ∷ Register r.R_LINE ∷ []) ∷ [])
+    ∷ act (codes "Elect") (elect ∷ [])
     ∷ act (codes "I-Disc") (set r.I_LINE (Constant 0) ∷ close (Register r.I_LINE) ∷ [])
     ∷ act (codes "R-Disc") (set r.R_LINE (Constant 0) ∷ close (Register r.R_LINE) ∷ [])
     ∷ act (codes "R-Reject") (close (Fact f.LINE) ∷ [])

@@ -4,3 +4,5 @@ pub mod Lines
 pub mod Sides
 pub mod Events
 pub mod Election
+pub mod Messages
+pub mod Registering

@@ -63,8 +63,11 @@ pub(crate) enum Step {
     /// The timer's new generation is armed, or disarmed.
     Arm,
     Disarm,
-    /// A deed of two arguments.
-    Deed(DeedCode, Atom, Atom),
+    /// Opens a connection to the peer, as the new dial, or closes that of the last one.
+    Dial,
+    Undial,
+    /// Tells who wins the election.
+    Elect,
     /// Closes a line.
     Close(Atom),
     /// A request of this machine to a line.
@@ -75,118 +78,40 @@ pub(crate) enum Step {
     Forward(DeedCode, Atom),
 }
 
-use Step::{Answer, Arm, Close, Deed, Disarm, Forward, Next, Request, Set};
+use Step::{Answer, Arm, Close, Dial, Disarm, Elect, Forward, Next, Request, Set, Undial};
 
-/// Each action's name and what it does, in the order of the first appearance in the table.
+/// An action: its name and what it does.
+macro_rules! act {
+    ($name:expr => $($step:expr),*) => {
+        ($name, &[$($step),*])
+    };
+}
+
+/// The actions, in the order of their first appearance in the table.
 pub(crate) const ACTS: [(&str, &[Step]); 23] = [
-    (
-        "I-Snd-Conn-Req",
-        &[
-            Next(DIAL),
-            Next(TIMER),
-            Deed(
-                DeedCode::Dial,
-                Atom::Register(MACHINE),
-                Atom::NewRegister(DIAL),
-            ),
-            Arm,
-        ],
-    ),
-    ("R-Accept", &[Set(R_LINE, LINE)]),
-    (
-        "Process-CER",
-        &[
-            Set(WIN, WINS),
-            Set(HOP_BY_HOP, ITS_HOP),
-            Set(END_TO_END, ITS_END),
-        ],
-    ),
-    (
-        "R-Snd-CEA",
-        &[
-            Next(TIMER),
-            Answer(DeedCode::SndCea, R, CER_HOP, CER_END),
-            Disarm,
-        ],
-    ),
-    (
-        "I-Snd-CER",
-        &[
-            Set(I_LINE, LINE),
-            Next(REQUESTS),
-            Request(DeedCode::SndCer, LINE),
-        ],
-    ),
-    ("Cleanup", &[Set(I_LINE, NONE), Next(TIMER), Disarm]),
-    (
-        "Error",
-        &[
-            Set(I_LINE, NONE),
-            Set(R_LINE, NONE),
-            Next(DIAL),
-            Next(TIMER),
-            Close(I),
-            Close(R),
-            Deed(
-                DeedCode::Undial,
-                Atom::Register(MACHINE),
-                Atom::Register(DIAL),
-            ),
-            Disarm,
-        ],
-    ),
-    ("Process-CEA", &[Next(TIMER), Disarm]),
-    ("Elect", &[Deed(DeedCode::Elect, Atom::Register(WIN), R)]),
-    ("I-Disc", &[Set(I_LINE, NONE), Close(I)]),
-    ("R-Disc", &[Set(R_LINE, NONE), Close(R)]),
-    ("R-Reject", &[Close(LINE)]),
-    ("R-Snd-Message", &[Forward(DeedCode::SndMsg, R)]),
-    ("Process", &[Forward(DeedCode::ToSession, LINE)]),
-    ("Process-DWR", &[]),
-    (
-        "R-Snd-DWA",
-        &[Answer(DeedCode::SndDwa, R, ITS_HOP, ITS_END)],
-    ),
-    ("Process-DWA", &[]),
-    (
-        "R-Snd-DPR",
-        &[
-            Next(REQUESTS),
-            Next(TIMER),
-            Request(DeedCode::SndDpr, R),
-            Arm,
-        ],
-    ),
-    (
-        "R-Snd-DPA",
-        &[
-            Next(TIMER),
-            Answer(DeedCode::SndDpa, R, ITS_HOP, ITS_END),
-            Arm,
-        ],
-    ),
-    ("I-Snd-Message", &[Forward(DeedCode::SndMsg, I)]),
-    (
-        "I-Snd-DWA",
-        &[Answer(DeedCode::SndDwa, I, ITS_HOP, ITS_END)],
-    ),
-    (
-        "I-Snd-DPR",
-        &[
-            Next(REQUESTS),
-            Next(TIMER),
-            Request(DeedCode::SndDpr, I),
-            Arm,
-        ],
-    ),
-    (
-        "I-Snd-DPA",
-        &[
-            Next(TIMER),
-            Answer(DeedCode::SndDpa, I, ITS_HOP, ITS_END),
-            Arm,
-        ],
-    ),
+    act!("I-Snd-Conn-Req" => Next(DIAL), Next(TIMER), Dial, Arm),
+    act!("R-Accept" => Set(R_LINE, LINE)),
+    act!("Process-CER" => Set(WIN, WINS), Set(HOP_BY_HOP, ITS_HOP), Set(END_TO_END, ITS_END)),
+    act!("R-Snd-CEA" => Next(TIMER), Answer(DeedCode::SndCea, R, CER_HOP, CER_END), Disarm),
+    act!("I-Snd-CER" => Set(I_LINE, LINE), Next(REQUESTS), Request(DeedCode::SndCer, LINE)),
+    act!("Cleanup" => Set(I_LINE, NONE), Next(TIMER), Disarm),
+    act!("Error" => Set(I_LINE, NONE), Set(R_LINE, NONE), Next(DIAL), Next(TIMER), Close(I), Close(R), Undial, Disarm),
+    act!("Process-CEA" => Next(TIMER), Disarm),
+    act!("Elect" => Elect),
+    act!("I-Disc" => Set(I_LINE, NONE), Close(I)),
+    act!("R-Disc" => Set(R_LINE, NONE), Close(R)),
+    act!("R-Reject" => Close(LINE)),
+    act!("R-Snd-Message" => Forward(DeedCode::SndMsg, R)),
+    act!("Process" => Forward(DeedCode::ToSession, LINE)),
+    act!("Process-DWR" =>),
+    act!("R-Snd-DWA" => Answer(DeedCode::SndDwa, R, ITS_HOP, ITS_END)),
+    act!("Process-DWA" =>),
+    act!("R-Snd-DPR" => Next(REQUESTS), Next(TIMER), Request(DeedCode::SndDpr, R), Arm),
+    act!("R-Snd-DPA" => Next(TIMER), Answer(DeedCode::SndDpa, R, ITS_HOP, ITS_END), Arm),
+    act!("I-Snd-Message" => Forward(DeedCode::SndMsg, I)),
+    act!("I-Snd-DWA" => Answer(DeedCode::SndDwa, I, ITS_HOP, ITS_END)),
+    act!("I-Snd-DPR" => Next(REQUESTS), Next(TIMER), Request(DeedCode::SndDpr, I), Arm),
+    act!("I-Snd-DPA" => Next(TIMER), Answer(DeedCode::SndDpa, I, ITS_HOP, ITS_END), Arm),
 ];
 
 /// A deed with these arguments.
@@ -239,7 +164,17 @@ fn change_of(alloc: Global, step: &Step) -> Result<Change, AllocError>
             &[Atom::NewRegister(TIMER), Atom::Constant(TICKS)],
         ),
         Disarm => deed(alloc, DeedCode::Disarm, &[]),
-        Deed(code, a, b) => deed(alloc, *code, &[*a, *b]),
+        Dial => deed(
+            alloc,
+            DeedCode::Dial,
+            &[Atom::Register(MACHINE), Atom::NewRegister(DIAL)],
+        ),
+        Undial => deed(
+            alloc,
+            DeedCode::Undial,
+            &[Atom::Register(MACHINE), Atom::Register(DIAL)],
+        ),
+        Elect => deed(alloc, DeedCode::Elect, &[Atom::Register(WIN), R]),
         Close(line) => deed(alloc, DeedCode::Close, &[NONE, *line]),
         Request(code, line) => {
             let (machine, count) = (Atom::Register(MACHINE), Atom::NewRegister(REQUESTS));
