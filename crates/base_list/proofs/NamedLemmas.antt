@@ -1,6 +1,7 @@
-use Rattle.std.proofs.Common.{◌≡◌, ◌≢◌, ℕ, ◌<◌, ◌≤◌, Bool, true, false, cond, List, [], ◌∷◌, ◌++◌, Option, Some, None, length, get_or, arith, refl, length-append, is_some}
+use Rattle.std.proofs.Common.{◌≡◌, ◌≢◌, ℕ, ◌<◌, ◌≤◌, Bool, true, false, cond, List, [], ◌∷◌, ◌++◌, Option, Some, None, length, get_or, take, arith, refl, length-append, is_some}
 use Rattle.std.specs.Prelude.{position, nat_le, nat_lt, Result, Ok, Err, OnOk, OnErr}
 use Rattle.std.specs.List.{position_or_len, slice_get}
+use Rattle.std.proofs.lemmas.List.{length-take, get_or-take}
 use Rattle.std.specs.Str.{bytes_eq}
 use Rattle.std.proofs.lemmas.Slice.Eq.{bytes_eq-Decides}
 use Rattle.std.proofs.lemmas.List.Sums.{fails_before_first}
@@ -65,3 +66,15 @@ pub entry_of-place : {T : Type 0} (name : List ℕ) (entries : List (Named T)) (
 entry_of-place name entries place h =
     let first = at-first entries (position_or_len (λ entry. bytes_eq entry.name name) entries) place h in
     rw (find_at (λ entry. bytes_eq entry.name name) entries, first) refl
+
+-- the names of a front differ, and it is within the limit
+pub IsKept-take : {T : Type 0} (limit n : ℕ) (entries : List (Named T)) → IsKept limit entries → IsKept limit (take n entries)
+IsKept-take limit n entries kept = record {
+  named = λ i j d less within.
+      let front = length-take n entries in
+      let here : j < n = omega arith in
+      let whole : j < length entries = omega arith in
+      let before : i < n = omega arith in
+      rw (get_or-take n entries i d before, get_or-take n entries j d here) (kept.named i j d less whole);
+  few = omega (arith, length-take n entries, kept.few);
+}

@@ -1,6 +1,6 @@
 //! Values under names.
 
-ghost use Rattle.std.specs.Prelude.{◌≡◌, ◌<◌, ◌++◌, ◌∷◌, [], Some, None, OnOk, OnErr, IfErr, IfSome, length, ◌==◌};
+ghost use Rattle.std.specs.Prelude.{◌≡◌, ◌<◌, ◌++◌, ◌∷◌, [], Some, None, OnOk, OnErr, IfErr, IfSome, length, take, ◌==◌};
 ghost use Rattle.std.specs.List.{slice_get};
 
 use crate::error::{AddError, AddFault};
@@ -30,8 +30,8 @@ impl<T: Drop> From<Refused<T>> for AddError {
     }
 }
 
-/// Values under names of their own, numbered from 0 in order of adding. Nothing is taken out, so a place stays that of
-/// its name. Looking for a name takes time in proportion to the list: it is for lists that are made once.
+/// Values under names of their own, numbered from 0 in order of adding. Only the last ones are ever taken out, so a
+/// place stays that of its name. Looking for a name takes time in proportion to the list: it is for lists that are made once.
 #[derive(Debug, Drop)]
 pub struct NamedList<T> {
     alloc: Global,
@@ -92,6 +92,20 @@ impl<T: Drop> NamedList<T> {
         ensures { slice_get self.now place ≡ Some result.now }
     {
         &self.entries[place]
+    }
+
+    /// The values with their names, in order.
+    pub fn as_slice(&self) -> &[Named<T>]
+        ensures { result.now ≡ self.now }
+    {
+        self.entries.as_slice()
+    }
+
+    /// Keeps the first values, as many as `len`, and drops those behind them. Takes no memory.
+    pub fn truncate(&mut self, len: usize)
+        ensures { self.new ≡ take len self.old }
+    {
+        self.entries.truncate(len);
     }
 
     /// Why a name may not be added, memory aside.

@@ -1,4 +1,4 @@
-ghost use Rattle.std.specs.Prelude.{◌≡◌, ◌<◌, ◌++◌, ◌∷◌, [], None, length, map, OnOk, OnErr, IfErr};
+ghost use Rattle.std.specs.Prelude.{◌≡◌, ◌<◌, ◌++◌, ◌∷◌, [], None, length, map, take, OnOk, OnErr, IfErr};
 ghost use Rattle.base_list.specs.Adding.{error_of};
 ghost use Rattle.base_list.specs.Named.{refusal};
 ghost use Rattle.tab_law.specs.Books.{guard_answer, ActPermits};
@@ -8,10 +8,10 @@ use base_list::{AddError, Refused};
 use std::alloc::Global;
 use tab_law::{Acted, LawBook, MAX_ACTIONS, MAX_GUARDS, MAX_KINDS, Scene};
 
-/// Kinds of events, and callbacks of guards and of actions, each under its name. Nothing is ever taken out, so a
-/// place stays that of its name. The book has each callback's law in the callback's place.
+/// Kinds of events, and callbacks of guards and of actions, each under its name. Only the last ones are ever
+/// taken out, so a place stays that of its name. The book has each callback's law in the callback's place.
 ///
-/// In: `add_kind`, `add_guard`, `add_act`. Looks: `laws`, `ask`, `act`.
+/// In: `add_kind`, `add_guard`, `add_act`. Out: `truncate`. Looks: `laws`, `ask`, `act`.
 pub struct Registry {
     alloc: Global,
     pub book: LawBook,
@@ -135,5 +135,15 @@ impl Registry {
             Ok(()) => Ok(()),
             Err(_) => unreachable!(),
         }
+    }
+
+    /// Keeps the first kinds, guards and actions, as many as these numbers say, and drops those behind them with their
+    /// callbacks. Takes no memory.
+    pub fn truncate(&mut self, kinds: usize, guards: usize, acts: usize)
+        ensures { self.new.book ≡ record { kinds = take kinds self.old.book.kinds; guards = take guards self.old.book.guards; acts = take acts self.old.book.acts } }
+    {
+        self.book.truncate(kinds, guards, acts);
+        self.guards.truncate(guards);
+        self.acts.truncate(acts);
     }
 }

@@ -1,4 +1,4 @@
-ghost use Rattle.std.specs.Prelude.{◌≡◌, ◌++◌, ◌∷◌, [], None, OnOk, OnErr, IfErr};
+ghost use Rattle.std.specs.Prelude.{◌≡◌, ◌++◌, ◌∷◌, [], None, OnOk, OnErr, IfErr, take};
 ghost use Rattle.base_list.specs.Adding.{error_of};
 ghost use Rattle.base_list.specs.Named.{refusal};
 
@@ -8,10 +8,10 @@ use base_list::{AddError, NamedList, Refused};
 use std::alloc::Global;
 use std::marker::Model;
 
-/// The kinds of events, and the laws of guards and of actions, each under its name. Nothing is ever
-/// taken out, so a place stays that of its name.
+/// The kinds of events, and the laws of guards and of actions, each under its name. Only the last
+/// ones are ever taken out, so a place stays that of its name.
 ///
-/// In: `add_kind`, `add_guard`, `add_act`. Looks: `kinds`, `guards`, `acts`.
+/// In: `add_kind`, `add_guard`, `add_act`. Out: `truncate`. Looks: `kinds`, `guards`, `acts`.
 #[derive(Debug)]
 pub struct LawBook {
     kinds: NamedList<()>,
@@ -115,5 +115,15 @@ impl LawBook {
         ensures err { OnErr result (self.new ≡ self.old) }
     {
         self.acts.add(MAX_ACTIONS, name, law)
+    }
+
+    /// Keeps the first kinds, guards and actions, as many as these numbers say, and drops those behind them. Takes no
+    /// memory.
+    pub fn truncate(&mut self, kinds: usize, guards: usize, acts: usize)
+        ensures { self.new ≡ record { kinds = take kinds self.old.kinds; guards = take guards self.old.guards; acts = take acts self.old.acts } }
+    {
+        self.kinds.truncate(kinds);
+        self.guards.truncate(guards);
+        self.acts.truncate(acts);
     }
 }

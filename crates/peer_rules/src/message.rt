@@ -1,0 +1,225 @@
+//! From a deed of a peer's machine to the message that it sends.
+
+ghost use Rattle.std.specs.Prelude.{◌≡◌, ◌∷◌, [], Some, IfOk, slice_index};
+ghost use Rattle.base_codes.specs.declared.deed_code.DeedCode.TheVariants.{SndCer, SndCea, SndDwa, SndDpr, SndDpa};
+ghost use Rattle.peer_rules.specs.Messages.{made, header, lowest, identifier, request_header, answer_header, address_of, product_name, message_by, message_of};
+
+use base_codes::{CommandCode, DeedCode};
+use dia_avp::{AvpList, Octets};
+use dia_command::{
+    CapabilitiesExchangeAnswer, CapabilitiesExchangeRequest, Command, DeviceWatchdogAnswer,
+    DisconnectPeerAnswer, DisconnectPeerRequest, Flags, Header, Identity, Text, TypedAvp,
+    TypedAvps,
+};
+use std::alloc::{AllocError, Global};
+use tab_law::Deed;
+
+/// What the messages of a machine say of names: who this node is, and the Session-Id of the machine, empty where it has
+/// none.
+#[derive(Clone, Copy)]
+pub struct Names<'a> {
+    pub identity: &'a Identity,
+    pub session: &'a [u8],
+}
+
+/// What a CER tells of this node (RFC 6733 section 5.3.1).
+const PRODUCT: &str = "dbench";
+
+const VENDOR: u32 = 0;
+
+/// Diameter Credit-Control (RFC 8506 section 1.3).
+const APPLICATION: u32 = 4;
+
+/// REBOOTING (RFC 6733 section 5.4.3).
+const CAUSE: u32 = 0;
+
+fn made<T>(value: T) -> TypedAvp<T>
+    ensures { result ≡ made value }
+{
+    TypedAvp {
+        mandatory: true,
+        protected: false,
+        value,
+    }
+}
+
+fn header(request: bool, command: CommandCode, hop_by_hop: u32, end_to_end: u32) -> Header
+    ensures { result ≡ header request command hop_by_hop end_to_end }
+{
+    Header {
+        length: 0,
+        flags: Flags {
+            request,
+            proxiable: false,
+            error: false,
+            retransmitted: false,
+        },
+        command: command.number(),
+        application: 0,
+        hop_by_hop,
+        end_to_end,
+    }
+}
+
+/// The lowest 32 bits.
+fn lowest(number: u64) -> u32
+    ensures { result ≡ lowest number }
+{
+    (number % 0x1_0000_0000) as u32
+}
+
+/// The identifier of a request, by its machine's number and the count of its requests.
+fn identifier(machine: u64, count: u64) -> u32
+    ensures { result ≡ identifier machine count }
+{
+    (machine % 0x1_0000 * 0x1_0000 + count % 0x1_0000) as u32
+}
+
+fn request_header(command: CommandCode, deed: &Deed) -> Header
+    ensures { result ≡ request_header command deed.now.a }
+{
+    deed.known();
+    let identifier = identifier(deed.a[2], deed.a[3]);
+    header(true, command, identifier, identifier)
+}
+
+fn answer_header(command: CommandCode, deed: &Deed) -> Header
+    ensures { result ≡ answer_header command deed.now.a }
+{
+    deed.known();
+    header(false, command, lowest(deed.a[2]), lowest(deed.a[3]))
+}
+
+/// The Result-Code that a deed hands in.
+fn result_code(deed: &Deed) -> TypedAvp<u32>
+    ensures { result ≡ made (lowest (slice_index deed.now.a 4)) }
+{
+    deed.known();
+    made(lowest(deed.a[4]))
+}
+
+fn copy_of(alloc: Global, octets: &Octets) -> Result<TypedAvp<Octets>, AllocError>
+    ensures { IfOk result (λ avp. avp ≡ made octets.now) }
+{
+    Ok(made(octets.copy(alloc)?))
+}
+
+/// The one Host-IP-Address: family 1, IPv4, and the four octets.
+fn addresses(alloc: Global, identity: &Identity) -> Result<TypedAvps<Octets>, AllocError>
+    ensures { IfOk result (λ list. list ≡ made (address_of identity.now) ∷ []) }
+{
+    let mut octets = Vec::with_capacity(alloc, 6)?;
+    octets.extend_from_slice(&[0, 1])?;
+    octets.extend_from_slice(&identity.address)?;
+    let mut list = TypedAvps::new(alloc);
+    list.push(made(Octets::new(octets)))?;
+    Ok(list)
+}
+
+fn applications(alloc: Global) -> Result<TypedAvps<u32>, AllocError>
+    ensures { IfOk result (λ list. list ≡ made 4 ∷ []) }
+{
+    let mut list = TypedAvps::new(alloc);
+    list.push(made(APPLICATION))?;
+    Ok(list)
+}
+
+fn product(alloc: Global) -> Result<TypedAvp<Text>, AllocError>
+    ensures { IfOk result (λ avp. avp ≡ product_name) }
+{
+    Ok(TypedAvp {
+        mandatory: false,
+        protected: false,
+        value: Text::from_str(alloc, PRODUCT)?,
+    })
+}
+
+fn cer(alloc: Global, deed: &Deed, identity: &Identity) -> Result<Command, AllocError>
+    ensures { IfOk result (λ c. message_by identity.now deed.now.a SndCer ≡ Some c) }
+{
+    Ok(Command::Cer(CapabilitiesExchangeRequest {
+        header: request_header(CommandCode::CapabilitiesExchange, deed),
+        origin_host: copy_of(alloc, &identity.host)?,
+        origin_realm: copy_of(alloc, &identity.realm)?,
+        host_ip_address: addresses(alloc, identity)?,
+        vendor_id: made(VENDOR),
+        product_name: product(alloc)?,
+        auth_application_id: applications(alloc)?,
+        rest: AvpList::new(alloc),
+    }))
+}
+
+fn cea(alloc: Global, deed: &Deed, identity: &Identity) -> Result<Command, AllocError>
+    ensures { IfOk result (λ c. message_by identity.now deed.now.a SndCea ≡ Some c) }
+{
+    Ok(Command::Cea(CapabilitiesExchangeAnswer {
+        header: answer_header(CommandCode::CapabilitiesExchange, deed),
+        result_code: result_code(deed),
+        origin_host: copy_of(alloc, &identity.host)?,
+        origin_realm: copy_of(alloc, &identity.realm)?,
+        host_ip_address: addresses(alloc, identity)?,
+        vendor_id: made(VENDOR),
+        product_name: product(alloc)?,
+        auth_application_id: applications(alloc)?,
+        rest: AvpList::new(alloc),
+    }))
+}
+
+fn dwa(alloc: Global, deed: &Deed, identity: &Identity) -> Result<Command, AllocError>
+    ensures { IfOk result (λ c. message_by identity.now deed.now.a SndDwa ≡ Some c) }
+{
+    Ok(Command::Dwa(DeviceWatchdogAnswer {
+        header: answer_header(CommandCode::DeviceWatchdog, deed),
+        result_code: result_code(deed),
+        origin_host: copy_of(alloc, &identity.host)?,
+        origin_realm: copy_of(alloc, &identity.realm)?,
+        rest: AvpList::new(alloc),
+    }))
+}
+
+fn dpr(alloc: Global, deed: &Deed, identity: &Identity) -> Result<Command, AllocError>
+    ensures { IfOk result (λ c. message_by identity.now deed.now.a SndDpr ≡ Some c) }
+{
+    Ok(Command::Dpr(DisconnectPeerRequest {
+        header: request_header(CommandCode::DisconnectPeer, deed),
+        origin_host: copy_of(alloc, &identity.host)?,
+        origin_realm: copy_of(alloc, &identity.realm)?,
+        disconnect_cause: made(CAUSE),
+        rest: AvpList::new(alloc),
+    }))
+}
+
+fn dpa(alloc: Global, deed: &Deed, identity: &Identity) -> Result<Command, AllocError>
+    ensures { IfOk result (λ c. message_by identity.now deed.now.a SndDpa ≡ Some c) }
+{
+    Ok(Command::Dpa(DisconnectPeerAnswer {
+        header: answer_header(CommandCode::DisconnectPeer, deed),
+        result_code: result_code(deed),
+        origin_host: copy_of(alloc, &identity.host)?,
+        origin_realm: copy_of(alloc, &identity.realm)?,
+        rest: AvpList::new(alloc),
+    }))
+}
+
+/// The message that a deed of a peer's machine sends: a CER, CEA, DWA, DPR or DPA of the node that `names` tells, and none
+/// for any other deed (RFC 6733 sections 5.3 to 5.5). Arguments 2 and 3 give the identifiers: in a request both are the
+/// machine's number times 65,536 and the count of its requests modulo 65,536, in an answer they are those of its request,
+/// and argument 4 is the Result-Code; all modulo 2^32. `length` is 0: writing computes it. All AVPs have flag M but
+/// Product-Name.
+pub fn peer_message(
+    alloc: Global,
+    deed: &Deed,
+    names: &Names<'_>,
+) -> Result<Option<Command>, AllocError>
+    ensures { IfOk result (λ message. message ≡ message_of names.now.identity.now deed.now) }
+{
+    let identity = names.identity;
+    Ok(match DeedCode::coded(deed.code) {
+        Some(DeedCode::SndCer) => Some(cer(alloc, deed, identity)?),
+        Some(DeedCode::SndCea) => Some(cea(alloc, deed, identity)?),
+        Some(DeedCode::SndDwa) => Some(dwa(alloc, deed, identity)?),
+        Some(DeedCode::SndDpr) => Some(dpr(alloc, deed, identity)?),
+        Some(DeedCode::SndDpa) => Some(dpa(alloc, deed, identity)?),
+        _ => None,
+    })
+}
