@@ -67,14 +67,16 @@ length-encode command = length-append (header_octets (header_of command) (messag
 pub length-parts : (list rest : List Avp) → length (encoding (list ++ rest)) ≡ length (encoding list) + length (encoding rest)
 length-parts list rest = ap length (flat_map-append encoded list rest) ∙ length-append (encoding list) (encoding rest)
 
+pub encoding-parts : (out : List ℕ) (list rest : List Avp) → (out ++ encoding list) ++ encoding rest ≡ out ++ encoding (list ++ rest)
+encoding-parts out list rest =
+    append_assoc out (encoding list) (encoding rest) ∙ ap (λ (l : List ℕ). out ++ l) (sym (flat_map-append encoded list rest))
+
 -- what an encoding is made of
-pub encode-parts : (command : Command) (out : List ℕ) (list rest : List Avp) → list ++ rest ≡ avps_of command → ((out ++ header_octets (header_of command) (message_len command)) ++ encoding list) ++ encoding rest ≡ out ++ encode command
+pub encode-parts : (command : Command) (out : List ℕ) (list : List Avp) → list ≡ avps_of command → (out ++ header_octets (header_of command) (message_len command)) ++ encoding list ≡ out ++ encode command
 unfolding encode
-encode-parts command out list rest e =
+encode-parts command out list e =
     let front = header_octets (header_of command) (message_len command) in
-    append_assoc (out ++ front) (encoding list) (encoding rest)
-    ∙ append_assoc out front (encoding list ++ encoding rest)
-    ∙ ap (λ (l : List ℕ). out ++ (front ++ l)) (sym (flat_map-append encoded list rest) ∙ ap encoding e)
+    append_assoc out front (encoding list) ∙ ap (λ (l : List Avp). out ++ (front ++ encoding l)) e
 
 -- an encoding is one message by its own header
 pub encode-whole : (command : Command) → message_len command < 2 ^ 24 → IsWholeMessage (encode command)

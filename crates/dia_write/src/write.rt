@@ -143,6 +143,17 @@ fn put_fields(format: &[AvpFormat], fields: &[Values<'_>], out: &mut Vec<u8>)
     }
 }
 
+// Appends the AVPs of fields and of a rest, for which there is room.
+fn put_all(format: &[AvpFormat], fields: &[Values<'_>], rest: &AvpList, out: &mut Vec<u8>)
+    requires short { length (encoding (values_avps format.now fields.now ++ rest.now)) < 2 ^ 24 }
+    requires room { vec_len out.old + length (encoding (values_avps format.now fields.now ++ rest.now)) ≤ vec_capacity out.old }
+    ensures items { out.new.items ≡ out.old.items ++ encoding (values_avps format.now fields.now ++ rest.now) }
+    ensures room { vec_capacity out.old ≤ vec_capacity out.new }
+{
+    put_fields(format, fields, out);
+    put_avps(rest.as_slice(), out);
+}
+
 // Appends the header of a message of so many octets, for which there is room.
 fn put_header(header: &Header, len: usize, out: &mut Vec<u8>)
     requires short { len < 2 ^ 24 }
@@ -168,8 +179,7 @@ fn write_fields(
     };
     out.reserve(len)?;
     put_header(command.header(), len, out);
-    put_fields(format, values, out);
-    put_avps(command.rest().as_slice(), out);
+    put_all(format, values, command.rest(), out);
     Ok(())
 }
 

@@ -1,18 +1,11 @@
-use Rattle.std.proofs.Common.{◌≡◌, ◌<◌, ◌^◌, ◌++◌, List, length, sym, ap, ◌∙◌, arith}
+use Rattle.std.proofs.Common.{◌≡◌, ◌<◌, ◌^◌, ◌++◌, List, length, ap, ◌∙◌, arith}
 use Rattle.dia_avp.specs.declared.avp.Avp.{Avp}
 use Rattle.dia_avp.specs.Encoding.{encoding}
-use Rattle.dia_avp.proofs.Encoded.{short_inner}
 use Rattle.dia_command.specs.Command.{avps_of, rest_of}
 use Rattle.dia_write.specs.Values.{values_avps}
 use Rattle.dia_write.specs.Encoding.{message_len}
-use Rattle.dia_write.proofs.WriteLemmas.{avps-all, length-parts, encode-parts, encode-whole, encode-first_frame}
+use Rattle.dia_write.proofs.WriteLemmas.{avps-all, encode-parts, encode-whole, encode-first_frame}
 use Rattle.dia_write.proofs.write.write_fields.Goals as goal
-
-pub put_avps-requires-clause-short : goal.put_avps-requires-clause-short
-put_avps-requires-clause-short c =
-    let list = values_avps c.format_of-format.result.now c.args.values.now in
-    let rest : c.as_slice.result.now ≡ c.rest.result.now = c.as_slice.ensures ∙ c.rest-2.ensures ∙ sym c.rest.ensures in
-    rw rest (short_inner c.rest.result.now (2 ^ 24) (omega (arith, length-parts list c.rest.result.now)))
 
 pub returns : goal.returns
 returns c =
@@ -22,8 +15,8 @@ returns c =
     let len : c.in-Some.len ≡ message_len command = omega (arith, c.in-Some.ensures.1, ap (λ (l : List Avp). length (encoding (list ++ l))) c.rest.ensures, ap (λ (l : List Avp). length (encoding l)) all) in
     let fits : message_len command < 2 ^ 24 = omega (arith, c.in-Some.ensures.0, c.in-Some.ensures.1) in
     record {
-      ok = c.put_avps.ensures.items
-          ∙ rw (c.put_fields.ensures.items, c.put_header.ensures.items, c.reserve.ensures.items, c.header.ensures, len, c.as_slice.ensures, c.rest-2.ensures) (encode-parts command c.args.out.now.items list (rest_of command) all);
+      ok = c.put_all.ensures.items
+          ∙ rw (c.put_header.ensures.items, c.reserve.ensures.items, c.header.ensures, len, c.rest-2.ensures) (encode-parts command c.args.out.now.items (list ++ rest_of command) all);
       too_long = (λ never. absurd (cc), λ le. absurd (omega arith));
       err = tt;
       memory = λ never. absurd (cc);
