@@ -1,6 +1,6 @@
 -- Short texts, and the facts that their words are.
 use Rattle.std.proofs.Common.{◌≡◌, ◌∷◌, ◌++◌, replicate, Some, None, codes, refl}
-use Rattle.tab_text.specs.Words.{words}
+use Rattle.text_parts.specs.Words.{words}
 use Rattle.bench_text.specs.Numbers.{number_of}
 use Rattle.event_text.specs.Events.{fact_of, facts_of}
 

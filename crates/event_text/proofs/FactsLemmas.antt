@@ -4,7 +4,7 @@ use Rattle.std.specs.List.{list_all, list_any, range_with_len}
 use Rattle.std.proofs.lemmas.Bool.{both_ways, cond-false, eqb-false, eqb-true}
 use Rattle.std.proofs.lemmas.List.FromFn.{fill_by_all}
 use Rattle.tab_law.specs.declared.limits.TheConstants.{PLACES}
-use Rattle.tab_text.specs.Words.{Word}
+use Rattle.text_parts.specs.Words.{Word}
 use Rattle.event_text.specs.Events.{are_different, are_facts, fact_of, facts_in, facts_of, value_of}
 
 -- the number of a fact wasn't given before

@@ -6,8 +6,8 @@ use Rattle.tab_law.specs.Books.{Laws}
 use Rattle.base_list.specs.Named.{place_of}
 use Rattle.tab_law.specs.declared.limits.TheConstants.{PLACES}
 use Rattle.tab_step.specs.declared.machine.Event.{Event}
-use Rattle.tab_text.specs.Lines.{Line, lines}
-use Rattle.tab_text.specs.Words.{Word, words}
+use Rattle.text_parts.specs.Lines.{Line, lines}
+use Rattle.text_parts.specs.Words.{Word, words}
 use Rattle.event_text.specs.declared.events.EventsError.{EventsError}
 use Rattle.event_text.specs.declared.events.EventsError.TheVariants.{NoMemory, BadLine}
 

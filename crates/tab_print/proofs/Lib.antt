@@ -1,0 +1,5 @@
+pub mod TextLemmas
+pub mod CellLemmas
+pub mod LineLemmas
+pub mod NumberLemmas
+pub mod BackLemmas

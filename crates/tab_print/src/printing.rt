@@ -2,6 +2,8 @@ ghost use Rattle.std.specs.Prelude.{◌≡◌, ◌++◌, ◌∷◌, [], ◌-◌,
 ghost use Rattle.std.specs.List.{flat_map};
 ghost use Rattle.tab_text.specs.Contents.{IsRowOf};
 ghost use Rattle.tab_print.specs.Cells.{heading, cell_text};
+ghost use Rattle.tab_print.specs.ReadBack.{IsReadAs};
+ghost use Rattle.tab_text.specs.declared.limits.TheConstants.{MAX_TEXT};
 ghost use Rattle.tab_print.specs.Printed.{width, widths_of, padded, header_line, row_line, printed};
 
 use crate::cell::put_cell;
@@ -121,9 +123,11 @@ fn widths_of(alloc: Global, table: &Table) -> Result<Widths, AllocError>
 ///
 /// A column is two blanks wider than its longest cell or its heading. The first begins at byte 2. Names stand as in the
 /// table's lists, guards behind ` when ` with ` and ` between, actions with `, ` between or `-` where there is none.
+/// Where the text is no longer than a text may be, it is read as the same table.
 #[tactic(auto, unfolding(crate::specs::Printed::printed))]
 pub fn print(alloc: Global, table: &Table) -> Result<Vec<u8>, AllocError>
-    ensures { IfOk result (λ text. text.items ≡ printed table.now) }
+    ensures text { IfOk result (λ text. text.items ≡ printed table.now) }
+    ensures read_back { IfOk result (λ text. length text.items ≤ MAX_TEXT → IsReadAs table.now text.items) }
 {
     let widths = widths_of(alloc, table)?;
     let mut out = Vec::new(alloc);

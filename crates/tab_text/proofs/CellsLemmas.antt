@@ -2,13 +2,14 @@ use Rattle.std.proofs.Common.{◌≡◌, ℕ, ◌≤◌, Bool, true, false, ◌|
 use Rattle.std.specs.Str.{bytes_eq}
 use Rattle.std.proofs.lemmas.Bool.Decides.{nat_tests}
 use Rattle.std.proofs.lemmas.List.{map_push, length-map, append_assoc}
-use Rattle.tab_text.specs.Words.{tokens, is_name}
+use Rattle.text_parts.specs.Words.{tokens}
+use Rattle.tab_text.specs.Names.{is_name}
 use Rattle.tab_text.specs.Cells.{Cells, NamedRow, names_apart, condition_of, actions_of, is_state, row_of}
 use Rattle.tab_text.specs.Faults.{lacks_cell, has_many}
 use Rattle.tab_text.specs.Passing.{own_fault}
-use Rattle.tab_text.specs.Fronts.{values_in, IsFront}
+use Rattle.text_parts.specs.Fronts.{values_in, IsFront}
 use Rattle.tab_text.specs.Reading.{octets_in, few_names, named, IsFewOf, IsFrontOf, IsRowFront, IsRowFrontOf, IsOwnRow}
-use Rattle.tab_text.specs.declared.front.Front.{Front}
+use Rattle.text_parts.specs.declared.front.Front.{Front}
 use Rattle.tab_text.specs.declared.cells.RowNames.{RowNames}
 use Rattle.tab_text.specs.declared.fault.TextCode.TheVariants.{TooManyInRow}
 use Rattle.tab_text.proofs.NameLemmas.{name-short, front-whole}

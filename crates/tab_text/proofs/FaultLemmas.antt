@@ -3,7 +3,7 @@ use Rattle.std.specs.List.{filter_map, flat_map}
 use Rattle.std.specs.Option.{option_or}
 use Rattle.std.proofs.lemmas.List.{append-nil, append_assoc}
 use Rattle.std.proofs.lemmas.List.Elements.{filter-append}
-use Rattle.tab_text.specs.Lines.{Line, lines, kept, is_plain, is_skipped, is_more, is_row_line, more_lines}
+use Rattle.text_parts.specs.Lines.{Line, lines, kept, is_plain, is_skipped, is_more, is_row_line, more_lines}
 use Rattle.tab_text.specs.Cells.{Cells, is_header, columns_of, row_cells, groups, row_of}
 use Rattle.tab_text.specs.Rows.{filled, names_of}
 use Rattle.tab_text.specs.Faults.{is_empty, lacks_cell, has_many, has_room, fault_at, codes_of, row_tests, body_tests, kept_tests, line_tests, places, faults_at, end_faults, faults, first_of, first_fault}

@@ -1,5 +1,5 @@
 use Rattle.std.proofs.Common.{◌≡◌, Bool, true, false, List, [], ◌∷◌, ◌++◌, refl, ap}
-use Rattle.tab_text.specs.Lines.{Line, is_more, more_lines}
+use Rattle.text_parts.specs.Lines.{Line, is_more, more_lines}
 use Rattle.tab_text.specs.Cells.{row_cells, groups}
 use Rattle.tab_text.specs.Faults.{is_empty}
 use Rattle.tab_text.specs.declared.header.Columns.{Columns}

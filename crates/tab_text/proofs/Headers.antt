@@ -1,9 +1,9 @@
 use Rattle.std.proofs.Common.{◌≡◌, ℕ, Bool, true, false, ◌&&◌, ◌==◌, List, [], ◌∷◌, map, Some, None, codes, refl, ap, ◌∙◌}
 use Rattle.std.specs.Str.{bytes_eq}
 use Rattle.std.specs.Cmp.Lexicographic.{pointwise}
-use Rattle.tab_text.specs.Words.{Word, words}
+use Rattle.text_parts.specs.Words.{Word, words}
 use Rattle.tab_text.specs.Cells.{is_header, columns_of, starts, heading}
-use Rattle.tab_text.specs.Pieces.{after_word}
+use Rattle.text_parts.specs.Pieces.{after_word}
 
 -- words have these spellings
 abbrev pub spells : List Word → List (List ℕ) → Bool

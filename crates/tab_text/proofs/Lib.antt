@@ -1,4 +1,3 @@
-pub mod PiecesLemmas
 pub mod TokenLemmas
 pub mod NameLemmas
 pub mod Headers

@@ -2,9 +2,9 @@ use Rattle.std.proofs.Common.{◌≡◌, ℕ, ◌≤◌, Bool, true, false, ◌&
 use Rattle.std.specs.Str.{bytes_eq}
 use Rattle.std.proofs.lemmas.Bool.Decides.{nat_tests}
 use Rattle.std.proofs.lemmas.List.{take_all}
-use Rattle.tab_text.specs.Words.{is_spelled, is_name}
-use Rattle.tab_text.specs.Fronts.{values_in, IsFront}
-use Rattle.tab_text.specs.declared.front.Front.{Front}
+use Rattle.tab_text.specs.Names.{is_spelled, is_name}
+use Rattle.text_parts.specs.Fronts.{values_in, IsFront}
+use Rattle.text_parts.specs.declared.front.Front.{Front}
 
 and-false : (a c d : Bool) → (a && false && c && d) ≡ false
 and-false true c d = refl

@@ -2,12 +2,13 @@ use Rattle.std.proofs.Common.{◌≡◌, ℕ, ◌≤◌, Bool, true, false, List
 use Rattle.std.specs.List.{All}
 use Rattle.std.proofs.lemmas.List.{append_assoc, append-nil, map_push, length_push}
 use Rattle.std.proofs.lemmas.List.Elements.{All-push}
-use Rattle.tab_text.specs.Lines.{Line, lines, kept}
+use Rattle.text_parts.specs.Lines.{Line, lines, kept}
 use Rattle.tab_text.specs.Cells.{Cells, NamedRow, columns_of, groups}
 use Rattle.tab_text.specs.Rows.{Names, spelled, cells_in, rows_of, IsWellNamed, names_of, numbered}
 use Rattle.tab_text.specs.Faults.{fault_at, has_room, first_fault}
 use Rattle.tab_text.specs.Passing.{fault_behind}
-use Rattle.tab_text.specs.Reading.{lines_left, named}
+use Rattle.tab_text.specs.Reading.{named}
+use Rattle.text_parts.specs.Left.{lines_left}
 use Rattle.tab_text.specs.Rooms.{with_row}
 use Rattle.tab_text.specs.Reader.{IsAt, IsOpened, TakesRow, HasEnded}
 use Rattle.tab_text.specs.declared.limits.TheConstants.{MAX_ROWS, MAX_ROW_GUARDS, MAX_ROW_ACTIONS}

@@ -2,7 +2,7 @@ use Rattle.std.proofs.Common.{◌≡◌, ℕ, ◌<◌, ◌≤◌, Bool, true, fa
 use Rattle.std.specs.List.{filter_map, cons_option}
 use Rattle.std.specs.Option.{option_or}
 use Rattle.std.proofs.lemmas.Bool.Decides.{nat_tests}
-use Rattle.tab_text.specs.Lines.{Line, lines, kept, is_plain, is_skipped, is_more, is_row_line, more_lines}
+use Rattle.text_parts.specs.Lines.{Line, lines, kept, is_plain, is_skipped, is_more, is_row_line, more_lines}
 use Rattle.tab_text.specs.Cells.{Cells, NamedRow, is_header, columns_of, row_cells, groups, row_of}
 use Rattle.tab_text.specs.Rows.{state_behind, filled, spelled, names_of}
 use Rattle.tab_text.specs.Faults.{fault_at, is_empty, has_room, first_fault}

@@ -7,7 +7,7 @@ use Rattle.std.proofs.lemmas.List.Sums.{prefix_len_is, fold-append}
 use Rattle.tab_text.specs.Rows.{place_of}
 use Rattle.tab_text.specs.Rooms.{with_name, with_names}
 use Rattle.tab_text.specs.Reading.{octets_in}
-use Rattle.tab_text.specs.declared.front.Front.{Front}
+use Rattle.text_parts.specs.declared.front.Front.{Front}
 
 abbrev pub Name : Type 0
 Name = Front ℕ 40

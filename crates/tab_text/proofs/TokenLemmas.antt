@@ -7,8 +7,8 @@ use Rattle.std.proofs.lemmas.List.Splits.{length-slice_split}
 use Rattle.std.proofs.lemmas.List.Sums.{prefix_len-le-length}
 use Rattle.std.proofs.lemmas.Bool.{cases_lt}
 use Rattle.std.proofs.lemmas.Bool.Decides.{nat_tests}
-use Rattle.tab_text.specs.Lines.{Line}
-use Rattle.tab_text.specs.Words.{apart, tokens, is_word, is_token_end, trimmed_front}
+use Rattle.text_parts.specs.Lines.{Line}
+use Rattle.text_parts.specs.Words.{apart, tokens, is_word, is_token_end, trimmed_front}
 use Rattle.tab_text.specs.Cells.{with_blank, with_blanks, row_cells, parts, event_span, action_span}
 use Rattle.tab_text.specs.declared.header.Columns.{Columns}
 
@@ -36,6 +36,12 @@ pub tokens-blank : (front behind : List ℕ) → tokens (front ++ 32 ∷ behind)
 unfolding tokens
 tokens-blank front behind =
     rw (flat_map-append (λ (b : ℕ). if b == 44 then 32 ∷ 44 ∷ 32 ∷ [] else b ∷ []) front (32 ∷ behind), cut-blank (apart front) (apart behind), filter-append is_word (cut (apart front)) (cut (apart behind))) refl
+
+-- the words of two cells with a comma between are the words of both, and the comma
+pub tokens-between : (front behind : List ℕ) → tokens (front ++ 44 ∷ behind) ≡ tokens front ++ (44 ∷ []) ∷ tokens behind
+unfolding tokens
+tokens-between front behind =
+    rw (flat_map-append (λ (b : ℕ). if b == 44 then 32 ∷ 44 ∷ 32 ∷ [] else b ∷ []) front (44 ∷ behind), cut-blank (apart front) (44 ∷ 32 ∷ apart behind), filter-append is_word (cut (apart front)) (cut (44 ∷ 32 ∷ apart behind))) refl
 
 pub tokens-none : tokens [] ≡ []
 unfolding tokens

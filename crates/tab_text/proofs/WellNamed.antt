@@ -2,7 +2,8 @@ use Rattle.std.proofs.Common.{◌≡◌, ℕ, ◌<◌, suc, zero, ◌==◌, Bool
 use Rattle.std.specs.List.{All}
 use Rattle.std.specs.Str.{bytes_eq}
 use Rattle.std.proofs.lemmas.List.Elements.{All-cons}
-use Rattle.tab_text.specs.Words.{tokens, is_name}
+use Rattle.text_parts.specs.Words.{tokens}
+use Rattle.tab_text.specs.Names.{is_name}
 use Rattle.tab_text.specs.Cells.{Cells, NamedRow, names_apart, condition_of, is_dash, actions_of, joined, is_state, row_with, row_of}
 use Rattle.tab_text.specs.Rows.{state_behind, IsWellNamed}
 use Rattle.tab_text.specs.Faults.{is_empty, lacks_cell}

@@ -2,8 +2,9 @@ use Rattle.std.specs.Prelude.{ℕ, ◌==◌, ◌&&◌, Bool, true, false, List, 
 use Rattle.std.specs.List.{flat_map}
 use Rattle.std.specs.Str.{bytes_eq}
 use Rattle.std.specs.Cmp.Lexicographic.{pointwise}
-use Rattle.tab_text.specs.Lines.{Line, is_more, more_lines}
-use Rattle.tab_text.specs.Words.{words, tokens, trimmed, is_name}
+use Rattle.text_parts.specs.Lines.{Line, is_more, more_lines}
+use Rattle.text_parts.specs.Words.{words, tokens, trimmed}
+use Rattle.tab_text.specs.Names.{is_name}
 use Rattle.tab_text.specs.declared.cells.Span.{Span}
 use Rattle.tab_text.specs.declared.header.Columns.{Columns}
 

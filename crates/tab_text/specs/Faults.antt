@@ -1,7 +1,7 @@
 use Rattle.std.specs.Prelude.{ℕ, ◌==◌, ◌++◌, ◌&&◌, ◌||◌, not, map, nat_lt, nat_le, Bool, true, false, List, [], ◌∷◌, length, Option, Some, None, is_none, if◌then◌else◌}
 use Rattle.std.specs.List.{filter_map, flat_map}
-use Rattle.tab_text.specs.Lines.{Line, lines, kept, is_plain, is_skipped, is_more, is_row_line, more_lines}
-use Rattle.tab_text.specs.Words.{tokens}
+use Rattle.text_parts.specs.Lines.{Line, lines, kept, is_plain, is_skipped, is_more, is_row_line, more_lines}
+use Rattle.text_parts.specs.Words.{tokens}
 use Rattle.tab_text.specs.Cells.{Cells, NamedRow, is_header, columns_of, row_cells, groups, row_of}
 use Rattle.tab_text.specs.declared.header.Columns.{Columns}
 use Rattle.tab_text.specs.Rows.{Names, filled, names_of}

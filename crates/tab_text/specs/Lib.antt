@@ -1,13 +1,10 @@
 pub mod Codes
-pub mod Fronts
 pub mod Contents
-pub mod Lines
-pub mod Words
+pub mod Names
 pub mod Cells
 pub mod Rows
 pub mod Faults
 pub mod Passing
-pub mod Pieces
 pub mod Reading
 pub mod Rooms
 pub mod Reader

@@ -3,7 +3,7 @@
 use Rattle.std.specs.Prelude.{ℕ, ◌==◌, ◌++◌, not, nat_le, Bool, true, false, List, [], ◌∷◌, length, Option, Some, None, option_map, is_none, Result, Ok, Err, if◌then◌else◌}
 use Rattle.std.specs.Option.{option_or}
 use Rattle.std.specs.List.{filter_map}
-use Rattle.tab_text.specs.Lines.{Line, kept, is_plain, is_skipped, is_more, is_row_line, more_lines}
+use Rattle.text_parts.specs.Lines.{Line, kept, is_plain, is_skipped, is_more, is_row_line, more_lines}
 use Rattle.tab_text.specs.Cells.{Cells, is_header, columns_of, row_cells, row_of}
 use Rattle.tab_text.specs.Rows.{filled, names_of}
 use Rattle.tab_text.specs.Faults.{fault_at, is_empty, lacks_cell, has_many, has_room}

@@ -1,11 +1,12 @@
 use Rattle.std.specs.Prelude.{ℕ, ◌≡◌, ◌==◌, true, ◌<◌, ◌≤◌, List, [], ◌∷◌, ◌++◌, length, All, Option, Some, None, Result, Ok, Err, if◌then◌else◌}
-use Rattle.tab_text.specs.Lines.{Line, lines, kept}
-use Rattle.tab_text.specs.Words.{is_name}
+use Rattle.text_parts.specs.Lines.{Line, lines, kept}
+use Rattle.tab_text.specs.Names.{is_name}
 use Rattle.tab_text.specs.Cells.{Cells, NamedRow, columns_of, groups, row_of}
 use Rattle.tab_text.specs.Rows.{spelled, names_of, IsWellNamed}
 use Rattle.tab_text.specs.Faults.{fault_at, first_fault, has_room}
 use Rattle.tab_text.specs.Passing.{own_fault, row_fault, fault_behind}
-use Rattle.tab_text.specs.Reading.{lines_left, octets_in, named}
+use Rattle.tab_text.specs.Reading.{octets_in, named}
+use Rattle.text_parts.specs.Left.{lines_left}
 use Rattle.tab_text.specs.declared.limits.TheConstants.{MAX_ROWS, MAX_ROW_GUARDS, MAX_ROW_ACTIONS}
 use Rattle.tab_text.specs.declared.fault.TextCode.TheVariants.{TooManyNames}
 use Rattle.tab_text.specs.declared.fault.TextFault.{TextFault}

@@ -1,30 +1,21 @@
 use Rattle.std.specs.Prelude.{ℕ, ◌≡◌, ◌+◌, ◌≤◌, ◌++◌, Bool, true, false, List, [], ◌∷◌, length, map, Option, Some, None, Result, Ok, Err, if◌then◌else◌}
 use Rattle.std.specs.List.{flat_map}
-use Rattle.tab_text.specs.Lines.{Line, numbered_from, kept, is_plain, is_skipped, more_lines}
-use Rattle.tab_text.specs.Words.{tokens}
+use Rattle.text_parts.specs.Lines.{Line, numbered_from, kept, is_plain, is_skipped, more_lines}
+use Rattle.text_parts.specs.Words.{tokens}
 use Rattle.tab_text.specs.Cells.{Cells, NamedRow, parts, row_cells, row_of}
 use Rattle.tab_text.specs.Faults.{fault_at}
 use Rattle.tab_text.specs.Passing.{own_fault, line_case}
-use Rattle.tab_text.specs.Pieces.{pieces_left}
-use Rattle.tab_text.specs.Fronts.{values_in, IsFront}
+use Rattle.text_parts.specs.Fronts.{values_in, IsFront}
 use Rattle.tab_text.specs.declared.limits.TheConstants.{MAX_NAME, MAX_ROW_GUARDS, MAX_ROW_ACTIONS}
 use Rattle.tab_text.specs.declared.fault.TextCode.{TextCode}
 use Rattle.tab_text.specs.declared.fault.TextCode.TheVariants.{BadByte}
 use Rattle.tab_text.specs.declared.fault.TextFault.{TextFault}
-use Rattle.tab_text.specs.declared.front.Front.{Front}
-use Rattle.tab_text.specs.declared.lines.Lines.{Lines}
-use Rattle.tab_text.specs.declared.lines.TextLine.{TextLine}
+use Rattle.text_parts.specs.declared.front.Front.{Front}
+use Rattle.text_parts.specs.declared.lines.TextLine.{TextLine}
+use Rattle.text_parts.specs.Left.{line_of, lines_more}
 use Rattle.tab_text.specs.declared.cells.RowCell.{RowCell}
 use Rattle.tab_text.specs.declared.cells.RowLines.{RowLines}
 use Rattle.tab_text.specs.declared.cells.RowNames.{RowNames}
-
--- a line as it was taken off
-abbrev pub line_of : TextLine → Line
-line_of taken = record { number = taken.number; octets = taken.octets.now }
-
--- the lines that are left
-abbrev pub lines_left : Lines → List Line
-lines_left l = numbered_from (l.number + 1) (pieces_left l.pieces)
 
 -- the first line that is kept, with the lines behind it, or a byte that a text can't have before it
 abbrev pub first_kept : List Line → Result (Option (Line × List Line)) TextFault
@@ -49,10 +40,6 @@ abbrev pub IsFound : Result (Option (Line × List Line)) TextFault → Result (O
 IsFound found (Err fault) new = found ≡ Err fault
 IsFound found (Ok None) new = found ≡ Ok None
 IsFound found (Ok (Some line)) new = found ≡ Ok (Some (line_of line, new))
-
--- the lines in front that continue a row
-abbrev pub lines_more : Lines → List Line
-lines_more l = more_lines (kept (lines_left l))
 
 -- the words that are left of a cell, and its bytes where nothing stands between its parts
 abbrev pub cell_words : RowCell → List (List ℕ)

@@ -2,8 +2,8 @@ use Rattle.std.specs.Prelude.{ℕ, ◌≡◌, All, true, not, List, [], ◌∷�
 use Rattle.std.specs.List.{filter_map, flat_map, position_or_len, slice_index_or}
 use Rattle.std.specs.Str.{bytes_eq}
 use Rattle.tab_text.specs.Contents.{Contents, IsTable}
-use Rattle.tab_text.specs.Lines.{Line, lines, kept}
-use Rattle.tab_text.specs.Words.{is_name}
+use Rattle.text_parts.specs.Lines.{Line, lines, kept}
+use Rattle.tab_text.specs.Names.{is_name}
 use Rattle.tab_text.specs.Cells.{Cells, NamedRow, columns_of, groups, row_of}
 use Rattle.tab_text.specs.declared.row.Row.{Row}
 

@@ -1,18 +1,19 @@
 ghost use Rattle.std.specs.Prelude.{◌≡◌, ◌∷◌, [], ◌==◌, ◌≤◌, position, length, drop, take, List, ℕ, None, Some, MatchOption, MatchResult, IfSome};
 ghost use Rattle.std.specs.List.{flat_map};
-ghost use Rattle.tab_text.specs.Words.{tokens, is_token_end, is_name};
-ghost use Rattle.tab_text.specs.Fronts.{IsFront};
+ghost use Rattle.text_parts.specs.Words.{tokens, is_token_end};
+ghost use Rattle.tab_text.specs.Names.{is_name};
+ghost use Rattle.text_parts.specs.Fronts.{IsFront};
 ghost use Rattle.tab_text.specs.Cells.{cell, front_of, parts, state_span, event_span, action_span, next_span, names_apart, condition_of, is_dash, actions_of, is_state, row_of, NamedRow};
 ghost use Rattle.tab_text.specs.Faults.{is_empty, lacks_cell, has_many};
 ghost use Rattle.tab_text.specs.Passing.{own_fault};
-ghost use Rattle.tab_text.specs.Reading.{line_of, lines_more, cell_words, cell_octets, cells_at, IsFrontOf, IsRowFront, IsRowFrontOf, IsOwnRow};
+ghost use Rattle.tab_text.specs.Reading.{cell_words, cell_octets, cells_at, IsFrontOf, IsRowFront, IsRowFrontOf, IsOwnRow};
+ghost use Rattle.text_parts.specs.Left.{line_of, lines_more};
 
 use crate::fault::TextCode;
-use crate::front::Front;
 use crate::header::Columns;
 use crate::limits::{MAX_NAME, MAX_ROW_ACTIONS, MAX_ROW_GUARDS};
-use crate::lines::{Lines, TextLine};
-use crate::spelling::{is_name, trimmed, trimmed_front};
+use crate::spelling::is_name;
+use text_parts::{Front, Lines, TextLine, trimmed, trimmed_front};
 
 /// The bytes of a name or a cell, of which no more are kept than a name has.
 pub(crate) type Name = Front<u8, MAX_NAME>;

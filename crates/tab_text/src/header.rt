@@ -1,8 +1,8 @@
 ghost use Rattle.std.specs.Prelude.{◌≡◌, true, false, None, Some, MatchOption};
 ghost use Rattle.tab_text.specs.Cells.{is_header, columns_of};
-ghost use Rattle.tab_text.specs.Pieces.{words_left, after_word};
+ghost use Rattle.text_parts.specs.Pieces.{words_left, after_word};
 
-use crate::pieces::Words;
+use text_parts::Words;
 
 /// The bytes at which columns begin; the State column begins at byte 2.
 #[derive(Clone, Copy)]

@@ -3,13 +3,10 @@
 
 mod cells;
 mod fault;
-mod front;
 mod header;
 mod limits;
-mod lines;
 mod name;
 mod parsing;
-mod pieces;
 mod reader;
 mod room;
 mod row;
@@ -23,6 +20,5 @@ pub use limits::{
 };
 pub use name::NameList;
 pub use parsing::parse;
-pub use pieces::{Found, Pieces, Words};
 pub use row::{Places, Row};
 pub use table::Table;

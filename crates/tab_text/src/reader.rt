@@ -1,14 +1,14 @@
 ghost use Rattle.std.specs.Prelude.{◌≡◌, ◌<◌, Bool, true, false, Ok, Err, Some, List, ◌∷◌, MatchResult, OnOk};
 ghost use Rattle.tab_text.specs.Rows.{state_behind};
 ghost use Rattle.tab_text.specs.Passing.{line_case};
-ghost use Rattle.tab_text.specs.Reading.{octets_in};
+ghost use Rattle.tab_text.specs.Reading.{octets_in, first_kept, IsFound};
+ghost use Rattle.text_parts.specs.Left.{lines_left};
 
 use crate::cells::{Name, RowLines, RowNames, read_row};
 use crate::fault::{TextCode, TextFault};
 use crate::header::{Columns, header_of};
 use crate::limits::{MAX_ROWS, MAX_TEXT};
-use crate::lines::{Lines, TextLine};
-use crate::spelling::{is_more, is_plain, is_row_line, is_skipped};
+use text_parts::{Lines, TextLine, is_more, is_plain, is_row_line, is_skipped};
 
 /// The state of a row: an empty State cell means the state of the row before.
 fn state_behind(before: Name, state: Name) -> Name
@@ -43,6 +43,24 @@ fn begins_row(line: &[u8], some_row: bool) -> Result<bool, TextCode>
     Ok(false)
 }
 
+/// The next line that isn't skipped, behind skipped lines without a fault.
+fn next_kept<'a>(lines: &mut Lines<'a>) -> Result<Option<TextLine<'a>>, TextFault>
+    ensures { IsFound (first_kept (lines_left lines.old)) result (lines_left lines.new) }
+{
+    while let Some(line) = lines.next() {
+        if !is_plain(line.octets) {
+            return Err(TextFault {
+                line: line.number,
+                code: TextCode::BadByte,
+            });
+        }
+        if !is_skipped(line.octets) {
+            return Ok(Some(line));
+        }
+    }
+    Ok(None)
+}
+
 /// Takes off the rows of a text, one after another.
 #[derive(Drop)]
 pub(crate) struct Reader<'a> {
@@ -57,12 +75,13 @@ pub(crate) struct Reader<'a> {
 }
 
 impl<'a> Reader<'a> {
-    ghost use Rattle.tab_text.specs.Lines.{Line};
+    ghost use Rattle.text_parts.specs.Lines.{Line};
     ghost use Rattle.tab_text.specs.Faults.{first_fault};
     ghost use Rattle.std.specs.Prelude.{not, ◌==◌};
     ghost use Rattle.tab_text.specs.Cells.{Cells};
     ghost use Rattle.tab_text.specs.Passing.{row_fault};
-    ghost use Rattle.tab_text.specs.Reading.{lines_left, first_row, IsFound, cells_at};
+    ghost use Rattle.tab_text.specs.Reading.{first_row, IsFound, cells_at};
+    ghost use Rattle.text_parts.specs.Left.{lines_left};
     ghost use Rattle.tab_text.specs.Reader.{IsAt, IsRead, TakesCells, IsOpened, IsNextRow};
 
     /// Reads a text's header.
@@ -76,7 +95,7 @@ impl<'a> Reader<'a> {
             });
         }
         let mut lines = Lines::new(text);
-        let Some(line) = lines.next_kept()? else {
+        let Some(line) = next_kept(&mut lines)? else {
             return Err(TextFault {
                 line: 0,
                 code: TextCode::NoHeader,

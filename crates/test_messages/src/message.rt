@@ -671,3 +671,18 @@ fn a_faulty_request_is_answered_by_its_fault(rt: HostRuntime) -> Result<(), Fail
     }
     Ok(())
 }
+
+#[test]
+fn a_message_of_many_avps_is_read(rt: HostRuntime) -> Result<(), Fail> {
+    let alloc = rt.alloc();
+    let dictionary = Dictionary::base(alloc)?;
+    let mut parts = [UNKNOWN.as_slice(); 128];
+    parts[0] = &HOST;
+    parts[1] = &REALM;
+    for count in [23, 24, 25, 127, 128] {
+        let octets = message(alloc, 0x80, DWR, 0, &parts[..count])?;
+        let kind = CommandKind::DeviceWatchdogRequest;
+        assert!(rt; reads_as(alloc, &dictionary, &octets, kind, &octets), "{count}");
+    }
+    Ok(())
+}

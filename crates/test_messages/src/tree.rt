@@ -115,8 +115,8 @@ fn first_fault<'a>(
     credit: bool,
     octets: &'a [u8],
 ) -> Option<FaultView<'a>> {
-    let mut avps = FixedList::new();
-    survey(dictionary, credit, octets, &mut avps)
+    let mut avps = FixedList::<AvpView<'_>, MAX_AVPS>::new();
+    survey(dictionary, credit, octets, &mut avps).unwrap_or(None)
 }
 
 /// Two parts of octets, the least and the greatest number of groups that they stand in, what stands behind, the number of
@@ -311,8 +311,8 @@ fn requested_action_counts_where_the_first_cc_request_type_is_4(
 
 /// Whether octets are AVPs without fault, of these codes.
 fn lists(dictionary: &Dictionary, octets: &[u8], codes: &[u32]) -> bool {
-    let mut avps = FixedList::new();
-    survey(dictionary, true, octets, &mut avps).is_none()
+    let mut avps = FixedList::<AvpView<'_>, MAX_AVPS>::new();
+    matches!(survey(dictionary, true, octets, &mut avps), Ok(None))
         && avps.len() == codes.len()
         && avps
             .as_slice()
@@ -329,6 +329,30 @@ fn avps_without_fault_are_listed_where_they_lie(rt: HostRuntime) -> Result<(), F
     assert!(rt; lists(&dictionary, &octets, &[264, 446, 9999]));
     assert!(rt; lists(&dictionary, &[], &[]));
     assert!(rt; lists(&dictionary, &full_list(alloc)?, &[9999; MAX_AVPS]));
+    Ok(())
+}
+
+/// The answer of a survey with room for two AVPs: the number of its fault, 0 where there is none, nothing without room.
+fn in_two(dictionary: &Dictionary, octets: &[u8]) -> Option<u32> {
+    let mut avps = FixedList::<AvpView<'_>, 2>::new();
+    match survey(dictionary, true, octets, &mut avps) {
+        Ok(Some(fault)) => Some(fault.result.number()),
+        Ok(None) => Some(0),
+        Err(_) => None,
+    }
+}
+
+#[test]
+fn a_list_without_room_for_all_avps_is_told(rt: HostRuntime) -> Result<(), Fail> {
+    let alloc = rt.alloc();
+    let dictionary = Dictionary::base(alloc)?;
+    let two = joined(alloc, &HOST, &GROUP)?;
+    assert!(rt; in_two(&dictionary, &two) == Some(0));
+    assert!(rt; in_two(&dictionary, &joined(alloc, &two, &UNKNOWN)?) == None);
+    // A fault among the first two comes before, and so does what is left behind them and is broken.
+    let faulty = joined(alloc, &HOST, &BAD_REALM)?;
+    assert!(rt; in_two(&dictionary, &joined(alloc, &faulty, &UNKNOWN)?) == Some(5004));
+    assert!(rt; in_two(&dictionary, &joined(alloc, &two, &UNKNOWN[..7])?) == Some(5014));
     Ok(())
 }
 

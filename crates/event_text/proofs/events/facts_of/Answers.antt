@@ -1,5 +1,5 @@
 use Rattle.std.proofs.Common.{◌<◌, ◌∙◌, ℕ, Bool, length, length-set, sym, arith, rules}
-use Rattle.tab_text.specs.Pieces.{words_left}
+use Rattle.text_parts.specs.Pieces.{words_left}
 use Rattle.event_text.proofs.FactsLemmas.{AreZeroes-more, AreZeroes-start, facts_of-start, goes_on-end, goes_on-more}
 use Rattle.event_text.proofs.events.facts_of.Goals as goal
 

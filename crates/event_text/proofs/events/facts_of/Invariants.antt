@@ -1,6 +1,6 @@
 use Rattle.std.proofs.Common.{◌≡◌, length}
 use Rattle.tab_law.specs.declared.limits.TheConstants.{PLACES}
-use Rattle.tab_text.specs.Pieces.{words_left}
+use Rattle.text_parts.specs.Pieces.{words_left}
 use Rattle.event_text.specs.Events.{facts_of}
 use Rattle.event_text.proofs.FactsLemmas.{AreZeroes, goes_on}
 use Rattle.event_text.proofs.events.facts_of.Given as goal

@@ -1,6 +1,6 @@
 use Rattle.std.proofs.Common.{◌≡◌, ◌≤◌, ◌+◌, ◌++◌, length}
-use Rattle.tab_text.specs.Lines.{numbered_from}
-use Rattle.tab_text.specs.Pieces.{pieces_left}
+use Rattle.text_parts.specs.Lines.{numbered_from}
+use Rattle.text_parts.specs.Pieces.{pieces_left}
 use Rattle.event_text.specs.Events.{bad_in, events_in, events_of, first_bad}
 use Rattle.event_text.proofs.events.read_events.Given as goal
 

@@ -1,5 +1,5 @@
 use Rattle.std.proofs.Common.{sym, ◌∙◌, ap}
-use Rattle.tab_text.specs.Words.{is_name}
+use Rattle.tab_text.specs.Names.{is_name}
 use Rattle.tab_text.proofs.NameLemmas.{name-long, front-under}
 use Rattle.tab_text.proofs.cells.is_named.Goals as goal
 

@@ -1,6 +1,6 @@
 use Rattle.std.proofs.Common.{◌≡◌, List, ◌++◌, length, map, option_map}
 use Rattle.tab_text.specs.Cells.{names_apart}
-use Rattle.tab_text.specs.Fronts.{IsFront}
+use Rattle.text_parts.specs.Fronts.{IsFront}
 use Rattle.tab_text.specs.Reading.{cell_words, octets_in}
 use Rattle.tab_text.proofs.cells.names_apart.Given as goal
 

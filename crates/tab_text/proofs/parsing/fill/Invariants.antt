@@ -1,7 +1,7 @@
 use Rattle.std.proofs.Common.{List, length}
-use Rattle.tab_text.specs.Lines.{Line}
+use Rattle.text_parts.specs.Lines.{Line}
 use Rattle.tab_text.specs.Cells.{Cells}
-use Rattle.tab_text.specs.Reading.{lines_left}
+use Rattle.text_parts.specs.Left.{lines_left}
 use Rattle.tab_text.specs.Rooms.{rooms_names}
 use Rattle.tab_text.proofs.ParseLemmas.{IsFilled}
 use Rattle.tab_text.proofs.parsing.fill.Given as goal

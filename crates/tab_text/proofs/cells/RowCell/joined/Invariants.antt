@@ -1,8 +1,9 @@
 use Rattle.std.proofs.Common.{◌≡◌, ◌++◌, List, ℕ, length}
 use Rattle.std.specs.List.{flat_map}
 use Rattle.tab_text.specs.Cells.{parts}
-use Rattle.tab_text.specs.Fronts.{IsFront}
-use Rattle.tab_text.specs.Reading.{lines_more, cell_octets}
+use Rattle.text_parts.specs.Fronts.{IsFront}
+use Rattle.tab_text.specs.Reading.{cell_octets}
+use Rattle.text_parts.specs.Left.{lines_more}
 use Rattle.tab_text.proofs.cells.RowCell.joined.Given as goal
 
 -- what was read and what is left are the cell

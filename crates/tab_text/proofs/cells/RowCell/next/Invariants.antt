@@ -1,5 +1,6 @@
 use Rattle.std.proofs.Common.{◌≡◌, length}
-use Rattle.tab_text.specs.Reading.{lines_more, cell_words}
+use Rattle.tab_text.specs.Reading.{cell_words}
+use Rattle.text_parts.specs.Left.{lines_more}
 use Rattle.tab_text.proofs.cells.RowCell.next.Given as goal
 
 abbrev pub invariant-loop-word : goal.invariant-loop-word

@@ -1,5 +1,5 @@
 use Rattle.std.proofs.Common.{sym, ◌∙◌}
-use Rattle.tab_text.specs.Reading.{line_of, lines_more}
+use Rattle.text_parts.specs.Left.{line_of, lines_more}
 use Rattle.tab_text.proofs.TokenLemmas.{event-words}
 use Rattle.tab_text.proofs.cells.RowLines.event.Goals as goal
 

@@ -1,5 +1,6 @@
 use Rattle.std.proofs.Common.{◌≡◌, not, ◌==◌, length}
-use Rattle.tab_text.specs.Reading.{lines_left, first_row}
+use Rattle.tab_text.specs.Reading.{first_row}
+use Rattle.text_parts.specs.Left.{lines_left}
 use Rattle.tab_text.proofs.reader.Reader.next_line.Given as goal
 
 -- no row began yet, and nothing but the lines left has changed

@@ -5,7 +5,7 @@ use Rattle.tab_text.specs.Cells.{columns_of, row_cells}
 use Rattle.tab_text.specs.Faults.{has_room}
 use Rattle.tab_text.specs.Passing.{row_fault, fault_behind}
 use Rattle.tab_text.specs.Reader.{TakesCells}
-use Rattle.tab_text.specs.Reading.{line_of, lines_left, lines_more}
+use Rattle.text_parts.specs.Left.{line_of, lines_left, lines_more}
 use Rattle.tab_text.proofs.GroupLemmas.{cells-line}
 use Rattle.tab_text.proofs.ReaderLemmas.{row-next, end-empty, end-some, room-cases}
 use Rattle.tab_text.proofs.reader.Reader.next_row.Goals as goal

@@ -1,7 +1,7 @@
 use Rattle.std.proofs.Common.{arith, Ok, Some, None, ◌∙◌, refl}
 use Rattle.std.proofs.lemmas.Result.{err_from_is_err_and}
-use Rattle.tab_text.specs.Reading.{line_of, lines_left}
-use Rattle.tab_text.specs.Lines.{lines}
+use Rattle.text_parts.specs.Left.{line_of, lines_left}
+use Rattle.text_parts.specs.Lines.{lines}
 use Rattle.tab_text.proofs.ReaderLemmas.{head-found, first_fault-within, first_fault-over}
 use Rattle.tab_text.proofs.reader.Reader.open.Goals as goal
 
@@ -28,7 +28,7 @@ returns-in_default-header_of c =
     let line = line_of c.in-Some.line in
     let kept = rw c.in-Some.is at c.in_ok-line.ensures in
     let found = rw c.new-lines.ensures at kept in
-    let next = head-found (lines text) (Ok (Some (line, lines_left c.next_kept.new.self))) found in
+    let next = head-found (lines text) (Ok (Some (line, lines_left c.next_kept.new.lines))) found in
     first_fault-within text c.if-text-gt-MAX_TEXT.false ∙ next.0 ∙ rw c.in_default-header_of.ensures refl
 
 pub returns : goal.returns
@@ -37,7 +37,7 @@ returns c =
     let line = line_of c.in-Some.line in
     let kept = rw c.in-Some.is at c.in_ok-line.ensures in
     let found = rw c.new-lines.ensures at kept in
-    let next = head-found (lines text) (Ok (Some (line, lines_left c.next_kept.new.self))) found in (
+    let next = head-found (lines text) (Ok (Some (line, lines_left c.next_kept.new.lines))) found in (
       line,
       record {
         at = record { line = refl; columns = c.in-Some-header_of.ensures.1; count = refl; state = c.new.ensures.values; named = λ some. absurd (omega (arith, some)) };

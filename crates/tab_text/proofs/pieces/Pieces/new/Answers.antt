@@ -1,5 +1,0 @@
-use Rattle.tab_text.proofs.PiecesLemmas.{pieces_from-start}
-use Rattle.tab_text.proofs.pieces.Pieces.new.Goals as goal
-
-pub returns-clause-left : goal.returns-clause-left
-returns-clause-left c = pieces_from-start c.args.separator c.args.text.now

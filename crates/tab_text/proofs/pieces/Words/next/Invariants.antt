@@ -1,9 +1,0 @@
-use Rattle.std.proofs.Common.{◌≡◌, length}
-use Rattle.tab_text.specs.Pieces.{words_left, pieces_left}
-use Rattle.tab_text.proofs.pieces.Words.next.Given as goal
-
-abbrev pub invariant-loop-octets : goal.invariant-loop-octets
-invariant-loop-octets l = words_left l.self ≡ words_left l.initial.self
-
-abbrev pub decreases-loop-octets : goal.decreases-loop-octets
-decreases-loop-octets l = length (pieces_left l.self.pieces)
