@@ -682,7 +682,10 @@ fn a_message_of_many_avps_is_read(rt: HostRuntime) -> Result<(), Fail> {
     for count in [23, 24, 25, 127, 128] {
         let octets = message(alloc, 0x80, DWR, 0, &parts[..count])?;
         let kind = CommandKind::DeviceWatchdogRequest;
-        assert!(rt; reads_as(alloc, &dictionary, &octets, kind, &octets), "{count}");
+        assert!(rt;
+            reads_as(alloc, &dictionary, &octets, kind, &octets),
+            "{count}"
+        );
     }
     Ok(())
 }
