@@ -1,27 +1,23 @@
-use Rattle.std.proofs.Common.{◌≡◌, ℕ, ◌+◌, ◌<◌, ◌≤◌, suc, zero, Bool, true, false, ◌&&◌, ◌||◌, not, ◌==◌, leb, ltb, List, [], ◌∷◌, ◌++◌, length, map, max, fold, Some, None, codes, arith, refl, sym, ap, ◌∙◌, get_or, if◌then◌else◌}
-use Rattle.std.specs.List.{All, slice_split, flat_map, filter_map, list_all}
+use Rattle.std.proofs.Common.{◌≡◌, ℕ, ◌+◌, ◌<◌, ◌≤◌, Bool, true, false, ◌&&◌, ◌==◌, leb, ltb, List, [], ◌∷◌, ◌++◌, length, map, max, fold, Some, None, codes, arith, refl, sym, ap, ◌∙◌, get_or}
+use Rattle.std.specs.List.{All, slice_split, flat_map, filter_map}
 use Rattle.std.proofs.lemmas.Bool.Decides.{nat_tests}
-use Rattle.std.proofs.lemmas.List.{append-nil, append_assoc, map_push, length-map, length-append, get_or-map}
+use Rattle.std.proofs.lemmas.List.{append-nil, append_assoc, length-map, length-append, get_or-map}
 use Rattle.std.proofs.lemmas.List.Elements.{All-head, All-tail, All-cons}
 use Rattle.std.proofs.lemmas.List.Splits.{slice_split_at}
 use Rattle.text_parts.specs.Lines.{Line, lines, numbered_from, kept, is_plain, is_skipped, is_more, is_row_line, more_lines}
-use Rattle.text_parts.specs.Words.{tokens}
 use Rattle.tab_text.specs.Names.{is_name}
-use Rattle.tab_text.specs.Cells.{Cells, NamedRow, is_header, columns_of, parts, with_blank, row_cells, groups, condition_of, actions_of, is_state, row_of}
+use Rattle.tab_text.specs.Cells.{Cells, NamedRow, columns_at, columns_of, with_blank, row_cells, groups, is_state, row_of}
 use Rattle.tab_text.specs.Contents.{Contents, IsRowOf}
-use Rattle.tab_text.specs.Rows.{Names, state_behind, filled, spelled, cells_in, rows_of, row_lines, names_of, numbered, table_with, table_of, name_at, row_named, table_names, IsWellNamed, IsNumberedTable}
-use Rattle.tab_text.specs.Faults.{is_empty, lacks_cell, has_many, has_room, first_fault}
-use Rattle.tab_text.specs.Passing.{own_fault, room_fault, row_fault, fault_behind, head_fault, line_case}
+use Rattle.tab_text.specs.Rows.{Names, state_behind, filled, spelled, rows_of, names_of, table_with, table_of, name_at, row_named, table_names, IsWellNamed, IsNumberedTable}
+use Rattle.tab_text.specs.Faults.{is_empty, has_room}
+use Rattle.tab_text.specs.Passing.{own_fault, room_fault, fault_behind, head_fault}
 use Rattle.tab_text.specs.Reader.{last_state}
 use Rattle.tab_text.specs.Rooms.{with_row}
 use Rattle.tab_text.specs.declared.limits.TheConstants.{MAX_STATES, MAX_KINDS, MAX_GUARDS, MAX_ACTIONS}
-use Rattle.tab_text.proofs.NamesLemmas.{names_of-push, has, others, others-has}
+use Rattle.tab_text.proofs.NamesLemmas.{names_of-push}
 use Rattle.tab_text.proofs.RoomLemmas.{length-with_name, length-with_names}
 use Rattle.tab_text.proofs.RoomsLemmas.{FitsTable, fits-from}
 use Rattle.tab_text.proofs.ReaderLemmas.{spelled-push, first_fault-within}
-use Rattle.tab_text.proofs.FaultLemmas.{first_fault-is}
-use Rattle.tab_text.proofs.GroupLemmas.{cells-line}
-use Rattle.tab_text.specs.declared.header.Columns.{Columns}
 use Rattle.tab_text.specs.declared.row.Row.{Row}
 use Rattle.tab_print.specs.Cells.{heading, condition, actions_text, cell_text}
 use Rattle.tab_print.specs.Printed.{width, room, widths_of, padded, header_line, row_line, printed}
@@ -31,8 +27,8 @@ use Rattle.tab_print.specs.ReadBack.{IsReadAs}
 use Rattle.tab_print.specs.declared.printing.Widths.{Widths}
 use Rattle.tab_print.proofs.TextLemmas.{and-both}
 use Rattle.tab_print.proofs.NumberLemmas.{numbers-back}
-use Rattle.tab_print.proofs.CellLemmas.{AreNames, IsCell, name-cell, event-cell, actions-cell, event-tokens, actions-read, some-action}
-use Rattle.tab_print.proofs.LineLemmas.{line_with, behind_state, columns_with, Fits, cell-state, cell-event, cell-action, cell-next, line-plain, line-begins, behind-blanks, header-is, header-columns}
+use Rattle.tab_print.proofs.CellLemmas.{name-cell, event-cell, actions-cell, event-tokens, actions-read, some-action}
+use Rattle.tab_print.proofs.LineLemmas.{line_with, behind_state, Fits, cell-state, cell-event, cell-action, cell-next, line-plain, line-begins, behind-blanks, header-is, header-columns}
 
 -- what is printed of a row: its cells, and its line without the newline
 abbrev pub event_text : NamedRow → List ℕ
@@ -56,7 +52,7 @@ blank-nil : (text : List ℕ) → with_blank text [] ≡ text
 blank-nil [] = refl
 blank-nil (b ∷ bs) = refl
 
-cells-are : (s e a number : ℕ) (row : NamedRow) → IsPrintable s e a row → row_cells (columns_with s e a) (record { number = number; octets = row_text s e a row }) [] ≡ cells_with number row
+cells-are : (s e a number : ℕ) (row : NamedRow) → IsPrintable s e a row → row_cells (columns_at (2 + s) (2 + s + e) (2 + s + e + a)) (record { number = number; octets = row_text s e a row }) [] ≡ cells_with number row
 unfolding row_cells
 cells-are s e a number row is =
     let f = is.fits in
@@ -113,14 +109,13 @@ row-kept s e a row is =
 more-none : (s e a number : ℕ) (rows : List NamedRow) → ArePrintable s e a rows → more_lines (kept (body s e a number rows)) ≡ []
 more-none s e a number [] all = refl
 more-none s e a number (row ∷ rows) all =
-    let k = row-kept s e a row all.0 in
-    rw (k.0, k.1) refl
+    rw (row-kept s e a row all.0).0 refl
 
-groups-are : (s e a number : ℕ) (rows : List NamedRow) → ArePrintable s e a rows → groups (columns_with s e a) (kept (body s e a number rows)) ≡ cells_from number rows
+groups-are : (s e a number : ℕ) (rows : List NamedRow) → ArePrintable s e a rows → groups (columns_at (2 + s) (2 + s + e) (2 + s + e + a)) (kept (body s e a number rows)) ≡ cells_from number rows
 groups-are s e a number [] all = refl
 groups-are s e a number (row ∷ rows) all =
     let k = row-kept s e a row all.0 in
-    rw (k.0, k.1, more-none s e a (number + 1) rows all.1, cells-are s e a number row all.0, groups-are s e a (number + 1) rows all.1) refl
+    rw (k.0, more-none s e a (number + 1) rows all.1, cells-are s e a number row all.0, groups-are s e a (number + 1) rows all.1) refl
 
 found-rows : (s e a number : ℕ) (rows : List NamedRow) → ArePrintable s e a rows → filter_map row_of (cells_from number rows) ≡ rows
 found-rows s e a number [] all = refl
@@ -185,7 +180,7 @@ unfolding room_fault
 room-none rows cells under room = rw (over-none (length rows) under, room) refl
 
 -- no fault is found behind a header and these rows
-no-fault : (s e a : ℕ) (header : Line) (number : ℕ) (done : List Cells) (before rows : List NamedRow) → columns_of header.octets ≡ columns_with s e a → spelled done ≡ before → length done ≡ length before → 0 < length before + length rows → length before + length rows ≤ 4096 → has_room (names_of (before ++ rows)) ≡ true → ArePrintable s e a rows → fault_behind header done (body s e a number rows) ≡ None
+no-fault : (s e a : ℕ) (header : Line) (number : ℕ) (done : List Cells) (before rows : List NamedRow) → columns_of header.octets ≡ columns_at (2 + s) (2 + s + e) (2 + s + e + a) → spelled done ≡ before → length done ≡ length before → 0 < length before + length rows → length before + length rows ≤ 4096 → has_room (names_of (before ++ rows)) ≡ true → ArePrintable s e a rows → fault_behind header done (body s e a number rows) ≡ None
 no-fault s e a header number [] before [] columns is count some few room all = absurd (omega (arith, count, some))
 no-fault s e a header number (cells ∷ done) before [] columns is count some few room all = refl
 no-fault s e a header number done before (row ∷ rows) columns is count some few room all =
@@ -202,17 +197,17 @@ no-fault s e a header number done before (row ∷ rows) columns is count some fe
     let longer : length (before ++ row ∷ []) ≡ length before + 1 = length-append before (row ∷ []) in
     let more : length (done ++ cells ∷ []) ≡ length done + 1 = length-append done (cells ∷ []) in
     let rest = no-fault s e a header (number + 1) (done ++ cells ∷ []) (before ++ row ∷ []) rows columns pushed (omega (arith, count, longer, more)) (omega (arith, longer)) (omega (arith, longer, few)) (rw whole room) all.1 in
-    rw (cut, plain, k.0, k.1, k.2, own, fits) rest
+    rw (cut, plain, k.0, own, fits) rest
+
+nest : (a b c d e f : List ℕ) → ((((a ++ b) ++ c) ++ d) ++ e) ++ f ≡ (a ++ (b ++ (c ++ (d ++ e)))) ++ f
+nest a b c d e f =
+    ap (λ (text : List ℕ). text ++ f) (append_assoc ((a ++ b) ++ c) d e ∙ append_assoc (a ++ b) c (d ++ e) ∙ append_assoc a b (c ++ (d ++ e)))
 
 -- the lines of printed rows
 printed-row : (s e a : ℕ) (table : Contents) (w : Widths) (row : Row) → w.state ≡ s → w.event ≡ e → w.action ≡ a → row_line table w row ≡ row_text s e a (row_named table row) ++ 10 ∷ []
 unfolding row_line cell_text row_named
 printed-row s e a table w row s_is e_is a_is =
-    let state = padded s (name_at table.states row.state) in
-    let event = padded e (name_at table.kinds row.kind ++ condition (map (name_at table.guards) row.guards)) in
-    let action = padded a (actions_text (map (name_at table.actions) row.actions)) in
-    let next = name_at table.states row.next in
-    rw (s_is, e_is, a_is, append_assoc (codes "  " ++ state) event action, append_assoc (codes "  " ++ state) (event ++ action) next, append_assoc event action next, append_assoc (codes "  ") state (event ++ (action ++ next))) refl
+    rw (s_is, e_is, a_is) (nest (codes "  ") (padded s (cell_text table State row)) (padded e (cell_text table Event row)) (padded a (cell_text table Action row)) (cell_text table Next row) (10 ∷ []))
 
 printed-header : (s e a : ℕ) (w : Widths) → w.state ≡ s → w.event ≡ e → w.action ≡ a → header_line w ≡ line_with s e a (codes "State") (codes "Event") (codes "Action") (codes "Next") ++ 10 ∷ []
 unfolding header_line
@@ -220,9 +215,7 @@ printed-header s e a w s_is e_is a_is =
     let state = padded s (codes "State") in
     let event = padded e (codes "Event") in
     let action = padded a (codes "Action") in
-    let next = codes "Next" in
-    let last : codes "Next\n" ≡ next ++ 10 ∷ [] = refl in
-    rw (s_is, e_is, a_is, last, ← append_assoc (codes "  " ++ state ++ event ++ action) next (10 ∷ []), append_assoc (codes "  " ++ state) event action, append_assoc (codes "  " ++ state) (event ++ action) next, append_assoc event action next, append_assoc (codes "  ") state (event ++ (action ++ next))) refl
+    rw (s_is, e_is, a_is) (sym (append_assoc (((codes "  " ++ state) ++ event) ++ action) (codes "Next") (10 ∷ [])) ∙ nest (codes "  ") state event action (codes "Next") (10 ∷ []))
 
 -- a line has no newline in it
 plain-line : (text : List ℕ) → is_plain text ≡ true → All (λ b. (b == 10) ≡ false) text
@@ -315,12 +308,11 @@ table-fits table is =
     row-fits table (get_or table.rows k d) here (is.within.each_row k d inside) (width-each table State k d inside) (width-each table Event k d inside) (width-each table Action k d inside))
 
 table-room : (table : Contents) → IsNumberedTable table → has_room (names_of (map (row_named table) table.rows)) ≡ true
-unfolding table_names
 table-room table is =
     rw (← is.by_appearance) (fits-to (table_names table) (record { states = is.within.few_states; kinds = is.within.few_kinds; guards = is.within.few_guards; actions = is.within.few_actions }))
 
 same-table : (table : Contents) (text : List ℕ) → IsNumberedTable table → rows_of text ≡ map (row_named table) table.rows → ◌≡◌ {A = Contents} (record (table_of text) { lines = table.lines }) table
-unfolding table_of table_with table_names
+unfolding table_of table_with
 same-table table text is rows_are =
     let back = numbers-back table is in
     rw (rows_are, ← is.by_appearance, back) refl
@@ -345,16 +337,19 @@ read-back table is within =
     let all = table-fits table is in
     let fits = heading-fits s e a s_min e_min a_min in
     let plain = line-plain s e a (codes "State") (codes "Event") (codes "Action") (codes "Next") fits in
-    let keeps = behind-blanks (padded s (codes "State") ++ behind_state e a (codes "Event") (codes "Action") (codes "Next")) (line-begins s e a (codes "State") (codes "Event") (codes "Action") (codes "Next") fits) in
     let columns = header-columns s e a s_min e_min a_min in
     let left = flat_map (row_line table w) table.rows in
     let whole : header_line w ++ left ≡ head ++ 10 ∷ left = rw (printed-header s e a w refl refl refl) (append_assoc head (10 ∷ []) left) in
     let cut : lines (header_line w ++ left) ≡ header ∷ body s e a 2 rows = ap lines whole ∙ rw (cut-line head left plain, lines-are s e a table w 2 table.rows refl refl refl all) refl in
-    let some : 0 < length rows = rw (length-map table.rows (row_named table)) is.within.some_row in
-    let few : length rows ≤ 4096 = rw (length-map table.rows (row_named table)) is.within.few_rows in
+    let count = length-map table.rows (row_named table) in
+    let some_row = is.within.some_row in
+    let few_rows = is.within.few_rows in
+    let nothing : List NamedRow = [] in
+    let some : 0 < length nothing + length rows = omega (arith, count, some_row) in
+    let few : length nothing + length rows ≤ 4096 = omega (arith, count, few_rows) in
     let none = no-fault s e a header 2 [] [] rows columns refl refl some few (table-room table is) all in
-    let sound : head_fault (header ∷ body s e a 2 rows) ≡ None = rw (plain, keeps.0, header-is s e a s_min e_min a_min) none in
-    let found : rows_of (header_line w ++ left) ≡ rows = rw (cut, keeps.0, columns, groups-are s e a 2 rows all) (spelled-are s e a 2 rows all) in
+    let sound : head_fault (header ∷ body s e a 2 rows) ≡ None = rw (plain, header-is s e a s_min e_min a_min) none in
+    let found : rows_of (header_line w ++ left) ≡ rows = rw (cut, columns, groups-are s e a 2 rows all) (spelled-are s e a 2 rows all) in
     record {
       sound = first_fault-within (header_line w ++ left) within ∙ rw cut sound;
       same = same-table table (header_line w ++ left) is found;

@@ -1,4 +1,4 @@
-use Rattle.std.proofs.Common.{◌≡◌, ℕ, ◌+◌, ◌<◌, Bool, true, false, ◌&&◌, ◌==◌, List, [], ◌∷◌, ◌++◌, map, Option, Some, None, option_map, codes, arith, refl, sym, ap, ◌∙◌, get_or, length}
+use Rattle.std.proofs.Common.{◌≡◌, ℕ, Bool, true, false, List, [], ◌∷◌, ◌++◌, Option, Some, codes, refl, ◌∙◌}
 use Rattle.std.specs.List.{All, flat_map}
 use Rattle.std.specs.Str.{bytes_eq}
 use Rattle.std.proofs.lemmas.List.{append-nil, append_assoc}
@@ -10,7 +10,7 @@ use Rattle.tab_text.specs.Names.{is_name}
 use Rattle.tab_text.specs.Cells.{names_apart, condition_of, is_dash, actions_of}
 use Rattle.tab_text.proofs.TokenLemmas.{tokens-blank, tokens-none, tokens-between}
 use Rattle.tab_print.specs.Cells.{behind_each, condition, actions_text}
-use Rattle.tab_print.proofs.TextLemmas.{Begins, Ends, begins-append, ends-append, IsWordy, name-wordy, wordy-begins, wordy-ends, wordy-plain, plain-append, tokens-wordy}
+use Rattle.tab_print.proofs.TextLemmas.{Begins, Ends, begins-append, ends-append, name-wordy, wordy-begins, wordy-ends, wordy-plain, plain-append, tokens-wordy}
 
 abbrev pub AreNames : List (List ℕ) → Type 0
 AreNames names = All (λ name. is_name name ≡ true) names
@@ -27,6 +27,14 @@ apart-names word name [] is all = rw is refl
 apart-names word name (next ∷ names) is all =
     rw (is, bytes-same word, apart-names word next names (All-head (λ n. is_name n ≡ true) next names all) (All-tail (λ n. is_name n ≡ true) next names all)) refl
 
+and-token : tokens (codes "and") ≡ codes "and" ∷ []
+unfolding tokens
+and-token = refl
+
+when-token : tokens (codes "when") ≡ codes "when" ∷ []
+unfolding tokens
+when-token = refl
+
 -- the words of guards with `and` between
 guards-tokens : (guard : List ℕ) (guards : List (List ℕ)) → is_name guard ≡ true → AreNames guards → tokens (guard ++ behind_each (codes " and ") guards) ≡ guard ∷ with_word (codes "and") guards
 guards-tokens guard [] is all = rw (append-nil guard) (tokens-wordy guard (name-wordy guard is))
@@ -35,7 +43,7 @@ guards-tokens guard (next ∷ guards) is all =
     let rest = All-tail (λ g. is_name g ≡ true) next guards all in
     let behind = next ++ behind_each (codes " and ") guards in
     tokens-blank guard (codes "and" ++ 32 ∷ behind)
-    ∙ rw (tokens-blank (codes "and") behind, tokens-wordy guard (name-wordy guard is), guards-tokens next guards n rest) refl
+    ∙ rw (tokens-blank (codes "and") behind, and-token, tokens-wordy guard (name-wordy guard is), guards-tokens next guards n rest) refl
 
 pub event-tokens : (kind : List ℕ) (guards : List (List ℕ)) → is_name kind ≡ true → AreNames guards → (rest : List (List ℕ)) × (tokens (kind ++ condition guards) ≡ kind ∷ rest) × (condition_of rest ≡ Some guards)
 unfolding condition_of
@@ -47,7 +55,7 @@ event-tokens kind (guard ∷ guards) is all =
     let behind = guard ++ behind_each (codes " and ") guards in (
       codes "when" ∷ guard ∷ with_word (codes "and") guards,
       tokens-blank kind (codes "when" ++ 32 ∷ behind)
-          ∙ rw (tokens-blank (codes "when") behind, tokens-wordy kind (name-wordy kind is), guards-tokens guard guards g rest) refl,
+          ∙ rw (tokens-blank (codes "when") behind, when-token, tokens-wordy kind (name-wordy kind is), guards-tokens guard guards g rest) refl,
       apart-names (codes "and") guard guards g rest,
     )
 

@@ -1,13 +1,12 @@
-use Rattle.std.proofs.Common.{◌≡◌, ℕ, ◌+◌, ◌-◌, ◌<◌, ◌≤◌, suc, zero, Bool, true, false, ◌&&◌, ◌||◌, ◌==◌, not, List, [], ◌∷◌, ◌++◌, length, take, drop, replicate, filter, map, Some, None, codes, arith, refl, sym, ap, ◌∙◌, inl, inr}
-use Rattle.std.specs.List.{All, list_all, slice_split, flat_map}
-use Rattle.std.proofs.lemmas.List.{append-nil, append_assoc, length-append, length-replicate, take-append-le, drop-append-le, length-take-le}
+use Rattle.std.proofs.Common.{◌≡◌, ℕ, ◌+◌, ◌-◌, ◌<◌, ◌≤◌, suc, zero, true, false, ◌==◌, List, [], ◌∷◌, ◌++◌, length, take, drop, replicate, filter, codes, arith, refl, sym, ap, ◌∙◌}
+use Rattle.std.specs.List.{slice_split}
+use Rattle.std.proofs.lemmas.List.{append_assoc, length-append, length-replicate}
 use Rattle.std.proofs.lemmas.List.Splits.{slice_split_none, slice_split_at}
-use Rattle.text_parts.specs.Lines.{Line, is_plain, is_blank, is_skipped, is_more, is_row_line}
+use Rattle.text_parts.specs.Lines.{is_plain, is_skipped, is_more, is_row_line}
 use Rattle.text_parts.specs.Words.{Word, placed_from, is_word, words, trimmed}
-use Rattle.tab_text.specs.Cells.{is_header, columns_of, starts, heading, cell, state_span, event_span, action_span, next_span}
-use Rattle.tab_text.specs.declared.header.Columns.{Columns}
+use Rattle.tab_text.specs.Cells.{is_header, columns_at, columns_of, cell, state_span, event_span, action_span, next_span}
 use Rattle.tab_print.specs.Printed.{padded}
-use Rattle.tab_print.proofs.TextLemmas.{Begins, Ends, begins-append, trimmed-padded, trimmed-whole, Wordy, wordy-without, plain-append, plain-blanks}
+use Rattle.tab_print.proofs.TextLemmas.{Begins, begins-append, trimmed-padded, trimmed-whole, Wordy, wordy-without, plain-append, plain-blanks}
 use Rattle.tab_print.proofs.CellLemmas.{IsCell}
 
 -- a line of four cells without its newline, the first three in columns of these widths
@@ -18,7 +17,9 @@ abbrev pub line_with : ℕ → ℕ → ℕ → List ℕ → List ℕ → List �
 line_with s e a state event action next = codes "  " ++ (padded s state ++ behind_state e a event action next)
 
 length-padded : (wide : ℕ) (text : List ℕ) → length text ≤ wide → length (padded wide text) ≡ wide
-length-padded wide text fits = omega (arith, length-append text (replicate (wide - length text) 32), length-replicate (wide - length text) 32, fits)
+length-padded wide text fits =
+    let blank : ℕ = 32 in
+    omega (arith, length-append text (replicate (wide - length text) blank), length-replicate (wide - length text) blank, fits)
 
 -- what stands between two places
 drop-front : (front behind : List ℕ) (at : ℕ) → at ≡ length front → drop at (front ++ behind) ≡ behind
@@ -33,10 +34,6 @@ cut-between : (front mid behind : List ℕ) (from to : ℕ) → from ≡ length 
 cut-between front mid behind from to f t =
     let all : to ≡ length (front ++ mid) = omega (arith, t, length-append front mid) in
     rw (take-front (front ++ mid) behind to all) (drop-front front mid from f)
-
--- columns of these widths
-abbrev pub columns_with : ℕ → ℕ → ℕ → Columns
-columns_with s e a = record { event = 2 + s; action = 2 + s + e; next = 2 + s + e + a }
 
 -- cells that fit into their columns
 pub record Fits (s e a : ℕ) (state event action next : List ℕ) : Type 0 where
@@ -73,22 +70,22 @@ module _ (s e a : ℕ) (state event action next : List ℕ) (fits : Fits s e a s
   from-all : (more ++ padded a action) ++ next ≡ line
   from-all = append_assoc more (padded a action) next ∙ from-more
 
-  pub cell-state : cell (state_span (columns_with s e a)) line ≡ state
+  pub cell-state : cell (state_span (columns_at (2 + s) (2 + s + e) (2 + s + e + a))) line ≡ state
   cell-state =
       let cut = cut-between (codes "  ") (padded s state) (behind_state e a event action next) 2 (2 + s) refl (omega (arith, length-padded s state fits.state_fits)) in
       rw (← from-front) (ap trimmed cut ∙ trimmed-padded state (s - length state) fits.state_cell.begins fits.state_cell.ends)
 
-  pub cell-event : cell (event_span (columns_with s e a)) line ≡ event
+  pub cell-event : cell (event_span (columns_at (2 + s) (2 + s + e) (2 + s + e + a))) line ≡ event
   cell-event =
       let cut = cut-between front (padded e event) (padded a action ++ next) (2 + s) (2 + s + e) (sym front-len) (omega (arith, front-len, length-padded e event fits.event_fits)) in
       rw (← from-more) (ap trimmed cut ∙ trimmed-padded event (e - length event) fits.event_cell.begins fits.event_cell.ends)
 
-  pub cell-action : cell (action_span (columns_with s e a)) line ≡ action
+  pub cell-action : cell (action_span (columns_at (2 + s) (2 + s + e) (2 + s + e + a))) line ≡ action
   cell-action =
       let cut = cut-between more (padded a action) next (2 + s + e) (2 + s + e + a) (sym more-len) (omega (arith, more-len, length-padded a action fits.action_fits)) in
       rw (← from-all) (ap trimmed cut ∙ trimmed-padded action (a - length action) fits.action_cell.begins fits.action_cell.ends)
 
-  pub cell-next : cell (next_span (columns_with s e a)) line ≡ next
+  pub cell-next : cell (next_span (columns_at (2 + s) (2 + s + e) (2 + s + e + a))) line ≡ next
   cell-next =
       let before : length (more ++ padded a action) ≡ 2 + s + e + a = omega (arith, more-len, length-append more (padded a action), length-padded a action fits.action_fits) in
       rw (← from-all) (ap trimmed (drop-front (more ++ padded a action) next (2 + s + e + a) (sym before)) ∙ trimmed-whole next fits.next_cell.begins fits.next_cell.ends)
@@ -130,27 +127,24 @@ words-padded at wide b bs text wordy fits =
     let word = b ∷ bs in
     let count = wide - length word - 1 in
     let some : wide - length word ≡ suc count = omega (arith, fits) in
-    let whole : padded wide word ++ text ≡ word ++ 32 ∷ (replicate count 32 ++ text) = rw some (append_assoc word (replicate (suc count) 32) text) in
+    let whole : padded wide word ++ text ≡ word ++ 32 ∷ (replicate count 32 ++ text) = ap (λ (k : ℕ). (word ++ replicate k 32) ++ text) some ∙ append_assoc word (replicate (suc count) 32) text in
     let next : at + length word + 1 + count ≡ at + wide = omega (arith, fits) in
     ap (words_from at) whole ∙ words-word at b bs (replicate count 32 ++ text) wordy ∙ ap (λ (rest : List Word). record { at = at; octets = b ∷ bs } ∷ rest) (words-blanks (at + length word + 1) count text ∙ rw next refl)
 
 words-last : (at : ℕ) (b : ℕ) (bs : List ℕ) → Wordy (b ∷ bs) → words_from at (b ∷ bs) ≡ record { at = at; octets = b ∷ bs } ∷ []
 words-last at b bs wordy = rw (slice_split_none (λ c. c == 32) (b ∷ bs) (wordy-without (b ∷ bs) 32 (omega arith) wordy)) refl
 
-range : (b : ℕ) → 45 ≤ b → b ≤ 122 → (45 ≤ b) × (b ≤ 122)
-range b low high = (low, high)
-
 state-wordy : Wordy (codes "State")
-state-wordy = (omega arith, omega arith, omega arith, omega arith, omega arith, omega arith, omega arith, omega arith, omega arith, omega arith, tt)
+state-wordy = (omega arith, omega arith, (omega arith, omega arith, (omega arith, omega arith, (omega arith, omega arith, (omega arith, omega arith, tt)))))
 
 event-wordy : Wordy (codes "Event")
-event-wordy = (omega arith, omega arith, omega arith, omega arith, omega arith, omega arith, omega arith, omega arith, omega arith, omega arith, tt)
+event-wordy = (omega arith, omega arith, (omega arith, omega arith, (omega arith, omega arith, (omega arith, omega arith, (omega arith, omega arith, tt)))))
 
 action-wordy : Wordy (codes "Action")
-action-wordy = (omega arith, omega arith, omega arith, omega arith, omega arith, omega arith, omega arith, omega arith, omega arith, omega arith, omega arith, omega arith, tt)
+action-wordy = (omega arith, omega arith, (omega arith, omega arith, (omega arith, omega arith, (omega arith, omega arith, (omega arith, omega arith, (omega arith, omega arith, tt))))))
 
 next-wordy : Wordy (codes "Next")
-next-wordy = (omega arith, omega arith, omega arith, omega arith, omega arith, omega arith, omega arith, omega arith, tt)
+next-wordy = (omega arith, omega arith, (omega arith, omega arith, (omega arith, omega arith, (omega arith, omega arith, tt))))
 
 -- the header's words
 header-words : (s e a : ℕ) → 5 < s → 5 < e → 6 < a → words (line_with s e a (codes "State") (codes "Event") (codes "Action") (codes "Next"))
@@ -168,6 +162,6 @@ pub header-is : (s e a : ℕ) → 5 < s → 5 < e → 6 < a → is_header (line_
 unfolding is_header
 header-is s e a state event action = rw (header-words s e a state event action) refl
 
-pub header-columns : (s e a : ℕ) → 5 < s → 5 < e → 6 < a → columns_of (line_with s e a (codes "State") (codes "Event") (codes "Action") (codes "Next")) ≡ columns_with s e a
+pub header-columns : (s e a : ℕ) → 5 < s → 5 < e → 6 < a → columns_of (line_with s e a (codes "State") (codes "Event") (codes "Action") (codes "Next")) ≡ columns_at (2 + s) (2 + s + e) (2 + s + e + a)
 unfolding columns_of
 header-columns s e a state event action = rw (header-words s e a state event action) refl

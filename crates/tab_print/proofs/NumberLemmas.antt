@@ -1,10 +1,10 @@
-use Rattle.std.proofs.Common.{◌≡◌, ℕ, ◌+◌, ◌<◌, suc, zero, Bool, true, false, ◌||◌, not, List, [], ◌∷◌, length, map, filter, arith, refl, sym, ap, ◌∙◌, get_or}
+use Rattle.std.proofs.Common.{◌≡◌, ℕ, ◌+◌, ◌<◌, suc, zero, Bool, true, false, ◌||◌, List, [], ◌∷◌, length, map, arith, refl, ◌∙◌, get_or}
 use Rattle.std.specs.List.{All, flat_map}
 use Rattle.std.specs.Str.{bytes_eq}
 use Rattle.std.proofs.lemmas.List.Elements.{All-head, All-tail}
 use Rattle.std.proofs.lemmas.Slice.Eq.{bytes_eq-Decides}
 use Rattle.tab_text.specs.Cells.{NamedRow}
-use Rattle.tab_text.specs.Contents.{Contents, IsRowOf, IsTable}
+use Rattle.tab_text.specs.Contents.{Contents, IsRowOf}
 use Rattle.tab_text.specs.Rows.{Names, distinct, place_of, names_of, numbered, name_at, row_named, table_names, IsNumberedTable}
 use Rattle.tab_text.specs.declared.row.Row.{Row}
 use Rattle.tab_text.proofs.NamesLemmas.{has, others, others-has}
@@ -92,7 +92,7 @@ all-once rows = record {
 }
 
 number-back : (table : Contents) (row : Row) → AllOnce (table_names table) → IsRowOf table row → numbered (table_names table) (row_named table row) ≡ row
-unfolding numbered row_named table_names
+unfolding numbered row_named
 number-back table row once is =
     rw (place-at table.states row.state is.state once.states, place-at table.kinds row.kind is.kind once.kinds, places-at table.guards row.guards is.guards once.guards, places-at table.actions row.actions is.actions once.actions, place-at table.states row.next is.next once.states) refl
 

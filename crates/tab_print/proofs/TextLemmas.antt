@@ -1,15 +1,13 @@
-use Rattle.std.proofs.Common.{◌≡◌, ℕ, ◌+◌, ◌-◌, ◌<◌, ◌≤◌, suc, zero, Bool, true, false, ◌&&◌, ◌||◌, ◌==◌, leb, not, List, [], ◌∷◌, ◌++◌, length, take, drop, reverse, replicate, filter, map, codes, arith, refl, sym, ap, ◌∙◌, inl, inr}
-use Rattle.std.specs.List.{All, list_all, slice_split, flat_map}
+use Rattle.std.proofs.Common.{◌≡◌, ℕ, ◌+◌, ◌<◌, ◌≤◌, suc, zero, Bool, true, false, ◌&&◌, ◌||◌, ◌==◌, leb, List, [], ◌∷◌, ◌++◌, reverse, replicate, arith, refl, sym, ap, ◌∙◌}
+use Rattle.std.specs.List.{All, list_all}
 use Rattle.std.proofs.lemmas.Bool.Decides.{nat_tests}
-use Rattle.std.proofs.lemmas.List.{append-nil, append_assoc, reverse-append, replicate_more, reverse-reverse}
+use Rattle.std.proofs.lemmas.List.{append-nil, reverse-append, replicate_more, reverse-reverse}
 use Rattle.std.proofs.lemmas.List.Elements.{All-cons}
 use Rattle.std.proofs.lemmas.List.Folds.{list_all-append}
-use Rattle.std.proofs.lemmas.List.Concat.{flat_map-append}
 use Rattle.std.proofs.lemmas.List.Splits.{slice_split_none}
 use Rattle.text_parts.specs.Lines.{is_plain}
-use Rattle.text_parts.specs.Words.{is_word, apart, tokens, trimmed_front, trimmed_back, trimmed}
+use Rattle.text_parts.specs.Words.{apart, tokens, trimmed_front, trimmed}
 use Rattle.tab_text.specs.Names.{is_letter, is_digit, is_name_byte, is_spelled, is_name}
-use Rattle.tab_text.proofs.TokenLemmas.{tokens-blank, tokens-none}
 
 -- a text that begins with no blank
 pub record Begins (text : List ℕ) : Type 0 where
@@ -35,12 +33,13 @@ blanks-front : (count : ℕ) (text : List ℕ) → trimmed_front (replicate coun
 blanks-front zero text = refl
 blanks-front (suc count) text = blanks-front count text
 
-reverse-blanks : (count : ℕ) → reverse (replicate count 32) ≡ replicate count 32
+reverse-blanks : (count : ℕ) → reverse {A = ℕ} (replicate count 32) ≡ replicate count 32
 reverse-blanks zero = refl
 reverse-blanks (suc count) =
-    let more : replicate count 32 ++ 32 ∷ [] ≡ replicate (count + 1) 32 = replicate_more count 32 in
+    let more : replicate {A = ℕ} count 32 ++ 32 ∷ [] ≡ replicate {A = ℕ} (count + 1) 32 = replicate_more count 32 in
     let next : count + 1 ≡ suc count = omega arith in
-    reverse-append (32 ∷ []) (replicate count 32) ∙ rw (reverse-blanks count, more, next) refl
+    let blank : List ℕ = 32 ∷ [] in
+    reverse-append blank (replicate count 32) ∙ rw (reverse-blanks count, more, next) refl
 
 -- a text that begins and ends with no blank is what is left of it behind which blanks stand
 pub trimmed-padded : (text : List ℕ) (count : ℕ) → Begins text → Ends text → trimmed (text ++ replicate count 32) ≡ text

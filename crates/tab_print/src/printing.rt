@@ -1,6 +1,7 @@
 ghost use Rattle.std.specs.Prelude.{◌≡◌, ◌++◌, ◌∷◌, [], ◌-◌, ◌≤◌, length, replicate, IfOk, OnOk};
 ghost use Rattle.std.specs.List.{flat_map};
 ghost use Rattle.tab_text.specs.Contents.{IsRowOf};
+ghost use Rattle.tab_text.specs.Rows.{IsNumberedTable};
 ghost use Rattle.tab_print.specs.Cells.{heading, cell_text};
 ghost use Rattle.tab_print.specs.ReadBack.{IsReadAs};
 ghost use Rattle.tab_text.specs.declared.limits.TheConstants.{MAX_TEXT};
@@ -97,7 +98,8 @@ fn put_row(out: &mut Vec<u8>, table: &Table, row: &Row, widths: Widths) -> Resul
 
 /// Puts each row's line.
 fn put_rows(out: &mut Vec<u8>, table: &Table, widths: Widths) -> Result<(), AllocError>
-    ensures { OnOk result (out.new.items ≡ out.old.items ++ flat_map (row_line table.now widths) table.now.rows) }
+    ensures lines { OnOk result (out.new.items ≡ out.old.items ++ flat_map (row_line table.now widths) table.now.rows) }
+    ensures numbered { IsNumberedTable table.now }
 {
     for row in table.rows() {
         put_row(out, table, row, widths)?;

@@ -21,10 +21,13 @@ unfoldable pub is_header : List ℕ → Bool
 is_header octets =
     pointwise bytes_eq (map (λ word. word.octets) (words octets)) heading && (slice_index (starts octets) 0 == 2)
 
--- the columns begin where the words of the header do; the State column begins at byte 2
+-- the columns that begin at these bytes; the State column begins at byte 2
+abbrev pub columns_at : ℕ → ℕ → ℕ → Columns
+columns_at event action next = record { event = event; action = action; next = next }
+
+-- the columns begin where the words of the header do
 unfoldable pub columns_of : List ℕ → Columns
-columns_of octets =
-    record { event = slice_index (starts octets) 1; action = slice_index (starts octets) 2; next = slice_index (starts octets) 3 }
+columns_of octets = columns_at (slice_index (starts octets) 1) (slice_index (starts octets) 2) (slice_index (starts octets) 3)
 
 -- the cells of a row as they are written, and the line on which it begins
 pub record Cells : Type 0 where

@@ -1,6 +1,6 @@
-use Rattle.std.specs.Prelude.{ℕ, ◌≡◌, ◌+◌, ◌≤◌, ◌++◌, Bool, true, false, List, [], ◌∷◌, length, map, Option, Some, None, Result, Ok, Err, if◌then◌else◌}
+use Rattle.std.specs.Prelude.{ℕ, ◌≡◌, ◌≤◌, ◌++◌, Bool, true, false, List, [], ◌∷◌, length, map, Option, Some, None, Result, Ok, Err, if◌then◌else◌}
 use Rattle.std.specs.List.{flat_map}
-use Rattle.text_parts.specs.Lines.{Line, numbered_from, kept, is_plain, is_skipped, more_lines}
+use Rattle.text_parts.specs.Lines.{Line, is_plain, is_skipped}
 use Rattle.text_parts.specs.Words.{tokens}
 use Rattle.tab_text.specs.Cells.{Cells, NamedRow, parts, row_cells, row_of}
 use Rattle.tab_text.specs.Faults.{fault_at}

@@ -1,4 +1,4 @@
-use Rattle.std.specs.Prelude.{ℕ, ◌+◌, List}
+use Rattle.std.specs.Prelude.{◌+◌, List}
 use Rattle.text_parts.specs.Lines.{Line, numbered_from, kept, more_lines}
 use Rattle.text_parts.specs.Pieces.{pieces_left}
 use Rattle.text_parts.specs.declared.lines.Lines.{Lines}
