@@ -7,6 +7,8 @@ mod joined;
 mod laws;
 #[cfg(test)]
 mod prints;
+#[cfg(test)]
+mod registry;
 mod steps;
 #[cfg(test)]
 mod texts;
