@@ -8,7 +8,7 @@ use Rattle.base_codes.specs.declared.command_code.CommandCode.{CommandCode}
 use Rattle.base_codes.specs.declared.command_code.CommandCode.TheVariants.{CapabilitiesExchange, DeviceWatchdog, DisconnectPeer}
 use Rattle.base_codes.specs.CommandCodes.{number_of}
 use Rattle.dia_command.specs.declared.typed.TypedAvp.{TypedAvp}
-use Rattle.dia_command.specs.declared.typed.Identity.{Identity}
+use Rattle.dia_write.specs.declared.answer.Identity.{Identity}
 use Rattle.dia_command.specs.declared.header.Header.{Header}
 use Rattle.dia_command.specs.declared.command.Command.{Command}
 use Rattle.dia_command.specs.declared.command.Command.TheVariants.{Cer, Cea, Dwa, Dpr, Dpa}

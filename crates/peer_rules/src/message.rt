@@ -8,9 +8,9 @@ use base_codes::{CommandCode, DeedCode};
 use dia_avp::{AvpList, Octets};
 use dia_command::{
     CapabilitiesExchangeAnswer, CapabilitiesExchangeRequest, Command, DeviceWatchdogAnswer,
-    DisconnectPeerAnswer, DisconnectPeerRequest, Flags, Header, Identity, Text, TypedAvp,
-    TypedAvps,
+    DisconnectPeerAnswer, DisconnectPeerRequest, Flags, Header, Text, TypedAvp, TypedAvps,
 };
+use dia_write::Identity;
 use std::alloc::{AllocError, Global};
 use tab_law::Deed;
 
