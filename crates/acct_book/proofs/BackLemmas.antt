@@ -1,9 +1,9 @@
 -- What holds of a journal and of each before it.
 use Rattle.std.proofs.Common.{◌≡◌, List, [], ◌∷◌, ◌++◌, reverse, Option, sym, ◌∙◌, ap, subst}
 use Rattle.std.proofs.lemmas.List.{reverse-append, reverse-reverse}
-use Rattle.acct_book.specs.declared.op.Op.{Op}
-use Rattle.acct_book.specs.declared.op.Outcome.{Outcome}
-use Rattle.acct_book.specs.declared.op.Booked.{Booked}
+use Rattle.acct_totals.specs.declared.op.Op.{Op}
+use Rattle.acct_totals.specs.declared.op.Outcome.{Outcome}
+use Rattle.acct_totals.specs.declared.op.Booked.{Booked}
 use Rattle.acct_book.specs.declared.holds.Before.{Before}
 use Rattle.acct_book.specs.Stored.{Stored, step_of, undone}
 use Rattle.acct_book.specs.Ledger.{IsStored, IsMarked, IsStoredBack, EachBack}

@@ -4,16 +4,18 @@ use Rattle.std.specs.Prelude.{◌==◌, if◌then◌else◌, is_some, unwrap_or,
 use Rattle.std.specs.Option.{option_map, option_map_or}
 use Rattle.indexmap.specs.IndexMap.{get}
 use Rattle.std.proofs.lemmas.Bool.Decides.{nat_tests}
-use Rattle.acct_book.specs.declared.op.Op.{Op}
-use Rattle.acct_book.specs.declared.op.Op.TheVariants.{Reserve, Debit, Release, Charge, Refund}
-use Rattle.acct_book.specs.declared.op.Outcome.{Outcome}
-use Rattle.acct_book.specs.declared.op.Outcome.TheVariants.{Refused}
-use Rattle.acct_book.specs.declared.op.Booked.{Booked}
-use Rattle.acct_book.specs.declared.answer.Totals.{Totals}
+use Rattle.acct_totals.specs.declared.op.Op.{Op}
+use Rattle.acct_totals.specs.declared.op.Op.TheVariants.{Reserve, Debit, Release, Charge, Refund}
+use Rattle.acct_totals.specs.declared.op.Outcome.{Outcome}
+use Rattle.acct_totals.specs.declared.op.Outcome.TheVariants.{Refused}
+use Rattle.acct_totals.specs.declared.op.Booked.{Booked}
+use Rattle.acct_totals.specs.declared.answer.Totals.{Totals}
 use Rattle.acct_book.specs.declared.ledger.Ledger.{Ledger}
-use Rattle.acct_book.specs.Sums.{own, reserved, left_where, debited, unpaid, account_of, amount_of, unpaid_of}
-use Rattle.acct_book.specs.Book.{own_of, outcome_at, outcome_of, free_of, totals_of, given_of, sums_of, refusal_at, refusal_of, quote_of, quote_at, unknown, NeverOver}
-use Rattle.acct_book.specs.Kept.{IsSound, totals_after}
+use Rattle.acct_totals.specs.Amounts.{account_of, amount_of, unpaid_of}
+use Rattle.acct_book.specs.Sums.{own, reserved, left_where, debited, unpaid}
+use Rattle.acct_totals.specs.Answers.{outcome_at, free_of, quote_at, unknown}
+use Rattle.acct_book.specs.Book.{own_of, outcome_of, totals_of, given_of, sums_of, refusal_at, refusal_of, quote_of, NeverOver}
+use Rattle.acct_totals.specs.Kept.{IsSound, totals_after}
 use Rattle.acct_book.specs.Stored.{stored_of, standing, step_of, nothing, CanCarryOut, IsPlaced}
 use Rattle.acct_book.specs.declared.holder.Session.{Session}
 use Rattle.acct_book.specs.declared.holds.Before.{Before}

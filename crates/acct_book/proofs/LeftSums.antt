@@ -4,13 +4,14 @@ use Rattle.std.specs.Prelude.{◌==◌, if◌then◌else◌, ◌&&◌}
 use Rattle.std.specs.List.{list_any}
 use Rattle.std.proofs.lemmas.List.{append-nil}
 use Rattle.std.proofs.lemmas.Bool.Decides.{nat_tests, Decides-eqb}
-use Rattle.acct_book.specs.declared.op.Op.{Op}
-use Rattle.acct_book.specs.declared.op.Op.TheVariants.{Reserve, Debit, Release, Charge, Refund}
-use Rattle.acct_book.specs.declared.op.Outcome.{Outcome}
-use Rattle.acct_book.specs.declared.op.Booked.{Booked}
-use Rattle.acct_book.specs.Sums.{own, left_where, reserved_where, ends, is_same, is_ended, amount_of}
+use Rattle.acct_totals.specs.declared.op.Op.{Op}
+use Rattle.acct_totals.specs.declared.op.Op.TheVariants.{Reserve, Debit, Release, Charge, Refund}
+use Rattle.acct_totals.specs.declared.op.Outcome.{Outcome}
+use Rattle.acct_totals.specs.declared.op.Booked.{Booked}
+use Rattle.acct_totals.specs.Amounts.{amount_of}
+use Rattle.acct_book.specs.Sums.{own, left_where, reserved_where, ends, is_same, is_ended}
 use Rattle.acct_book.specs.Book.{own_of}
-use Rattle.acct_book.specs.Kept.{reserved_after}
+use Rattle.acct_totals.specs.Kept.{reserved_after}
 use Rattle.acct_book.proofs.OwnSums.{own-push_end, own-push_more, own-none, any-push_no, any-push_yes, end_reserves_none}
 
 pub eq_from : (m n : ℕ) → (m == n) ≡ true → m ≡ n

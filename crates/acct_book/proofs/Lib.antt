@@ -9,3 +9,4 @@ pub mod LedgerLemmas
 pub mod TakenBack
 pub mod ReservedLaw
 pub mod NeverOver
+pub mod SlotLemmas

@@ -3,13 +3,15 @@ use Rattle.std.proofs.Common.{◌≡◌, ◌≤◌, ℕ, ◌+◌, List, [], ◌�
 use Rattle.std.specs.Prelude.{◌==◌, IfSome}
 use Rattle.std.specs.Option.{option_map, option_map_or}
 use Rattle.std.proofs.lemmas.List.{append-nil}
-use Rattle.acct_book.specs.declared.op.Op.{Op}
-use Rattle.acct_book.specs.declared.op.Outcome.{Outcome}
-use Rattle.acct_book.specs.declared.op.Outcome.TheVariants.{Refused}
-use Rattle.acct_book.specs.declared.op.Booked.{Booked}
-use Rattle.acct_book.specs.declared.answer.Totals.{Totals}
-use Rattle.acct_book.specs.Sums.{reserved, left_where, debited, unpaid, account_of, amount_of}
-use Rattle.acct_book.specs.Book.{Opened, Book, given_of, sums_of, totals_of, outcome_of, outcome_at, own_of, free_of}
+use Rattle.acct_totals.specs.declared.op.Op.{Op}
+use Rattle.acct_totals.specs.declared.op.Outcome.{Outcome}
+use Rattle.acct_totals.specs.declared.op.Outcome.TheVariants.{Refused}
+use Rattle.acct_totals.specs.declared.op.Booked.{Booked}
+use Rattle.acct_totals.specs.declared.answer.Totals.{Totals}
+use Rattle.acct_totals.specs.Amounts.{account_of, amount_of}
+use Rattle.acct_book.specs.Sums.{reserved, left_where, debited, unpaid}
+use Rattle.acct_totals.specs.Answers.{outcome_at, free_of}
+use Rattle.acct_book.specs.Book.{Opened, Book, given_of, sums_of, totals_of, outcome_of, own_of}
 use Rattle.acct_book.specs.Laws.{EachAfter, AnsweredNeverOver}
 use Rattle.acct_book.specs.Ledger.{IsSummedFor}
 use Rattle.acct_book.proofs.LeftSums.{eq_from}
@@ -26,12 +28,12 @@ module _ (accounts : List Opened) (k given : ℕ) (open_at : given_of accounts k
   at_start = record { sums = refl; within = omega arith; refunds = omega arith }
 
   -- the outcome that is allowed on the account
-  outcome-open : (past : List Booked) (op : Op) → account_of op ≡ k → outcome_of (book past) op ≡ outcome_at (sums_of given k past) (own_of op past) op
+  pub outcome-open : (past : List Booked) (op : Op) → account_of op ≡ k → outcome_of (book past) op ≡ outcome_at (sums_of given k past) (own_of op past) op
   outcome-open past op on =
       ap (λ a. option_map_or (λ t. outcome_at t (own_of op past) op) (totals_of (book past) a) Refused) on
       ∙ ap (λ (g : Option ℕ). option_map_or (λ t. outcome_at t (own_of op past) op) (option_map (λ n. sums_of n k past) g) Refused) open_at
 
-  step : (past : List Booked) (op : Op) (o : Outcome) → IsSummedFor k (sums_of given k past) past → o ≡ outcome_of (book past) op
+  pub step : (past : List Booked) (op : Op) (o : Outcome) → IsSummedFor k (sums_of given k past) past → o ≡ outcome_of (book past) op
       → IsSummedFor k (sums_of given k (past ++ entry op o ∷ [])) (past ++ entry op o ∷ [])
   step past op o h is = by (account_of op == k) refl
     where

@@ -4,8 +4,8 @@ use Rattle.std.specs.Prelude.{◌==◌, find, is_some, unwrap_or}
 use Rattle.std.specs.Option.{option_map}
 use Rattle.std.specs.Map.{lookup}
 use Rattle.indexmap.specs.IndexMap.{insert_entry, get}
-use Rattle.acct_book.specs.declared.answer.Totals.{Totals}
-use Rattle.acct_book.specs.declared.op.Booked.{Booked}
+use Rattle.acct_totals.specs.declared.answer.Totals.{Totals}
+use Rattle.acct_totals.specs.declared.op.Booked.{Booked}
 use Rattle.acct_book.specs.Book.{Opened, given_of, sums_of, totals_of}
 use Rattle.acct_book.specs.Ledger.{Accounts, opened_of, kept, none, IsKeptFor}
 

@@ -2,13 +2,14 @@
 use Rattle.std.proofs.Common.{◌≡◌, ◌≤◌, ℕ, ◌+◌, ◌-◌, List, [], ◌∷◌, ◌++◌, Bool, true, false, refl, ◌∙◌, ap, arith}
 use Rattle.std.specs.Prelude.{◌==◌, ◌&&◌, if◌then◌else◌, sum_by}
 use Rattle.std.proofs.lemmas.List.Sums.{sum_by-append}
-use Rattle.acct_book.specs.declared.op.Op.{Op}
-use Rattle.acct_book.specs.declared.op.Op.TheVariants.{Reserve, Debit, Release, Charge, Refund}
-use Rattle.acct_book.specs.declared.op.Outcome.{Outcome}
-use Rattle.acct_book.specs.declared.op.Booked.{Booked}
-use Rattle.acct_book.specs.Sums.{own, own_all, reserved, debited, unpaid, account_of, amount_of, unpaid_of, paid_by, refunded_by, unpaid_by, is_same}
+use Rattle.acct_totals.specs.declared.op.Op.{Op}
+use Rattle.acct_totals.specs.declared.op.Op.TheVariants.{Reserve, Debit, Release, Charge, Refund}
+use Rattle.acct_totals.specs.declared.op.Outcome.{Outcome}
+use Rattle.acct_totals.specs.declared.op.Booked.{Booked}
+use Rattle.acct_totals.specs.Amounts.{account_of, amount_of, unpaid_of}
+use Rattle.acct_book.specs.Sums.{own, own_all, reserved, debited, unpaid, paid_by, refunded_by, unpaid_by, is_same}
 use Rattle.acct_book.specs.Book.{own_of}
-use Rattle.acct_book.specs.Kept.{reserved_after, debited_after, unpaid_after}
+use Rattle.acct_totals.specs.Kept.{reserved_after, debited_after, unpaid_after}
 use Rattle.acct_book.proofs.LeftSums.{IsAt, and_parts, own-left, left_where-in, left_where-out, left_where-le}
 
 abbrev pub entry : Op → Outcome → Booked

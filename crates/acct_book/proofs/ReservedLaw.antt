@@ -3,12 +3,13 @@ use Rattle.std.proofs.Common.{◌≡◌, ℕ, ◌+◌, ◌*◌, List, [], ◌∷
 use Rattle.std.specs.Prelude.{◌==◌, ◌&&◌, ◌||◌, if◌then◌else◌, sum_by, count_by}
 use Rattle.std.specs.List.{list_any, filter_map, cons_option}
 use Rattle.std.proofs.lemmas.List.Sums.{sum_by-cons}
-use Rattle.acct_book.specs.declared.op.Op.{Op}
-use Rattle.acct_book.specs.declared.op.Op.TheVariants.{Reserve, Debit, Release, Charge, Refund}
-use Rattle.acct_book.specs.declared.op.Outcome.{Outcome}
-use Rattle.acct_book.specs.declared.op.Booked.{Booked}
+use Rattle.acct_totals.specs.declared.op.Op.{Op}
+use Rattle.acct_totals.specs.declared.op.Op.TheVariants.{Reserve, Debit, Release, Charge, Refund}
+use Rattle.acct_totals.specs.declared.op.Outcome.{Outcome}
+use Rattle.acct_totals.specs.declared.op.Booked.{Booked}
 use Rattle.acct_book.specs.declared.holder.Holder.{Holder}
-use Rattle.acct_book.specs.Sums.{own, left_where, is_same, is_ended, reserved_where, amount_of}
+use Rattle.acct_totals.specs.Amounts.{amount_of}
+use Rattle.acct_book.specs.Sums.{own, left_where, is_same, is_ended, reserved_where}
 use Rattle.acct_book.specs.Stored.{holder_eq}
 use Rattle.acct_book.specs.Laws.{holder_where, distinct, sum_of_own, ReservedIsSumOfOwn, SessionIsSumOfOwn}
 use Rattle.acct_book.proofs.LeftSums.{own-left}

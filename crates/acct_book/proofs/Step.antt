@@ -2,15 +2,17 @@
 use Rattle.std.proofs.Common.{◌≡◌, ◌≤◌, ℕ, ◌+◌, ◌^◌, List, [], ◌∷◌, ◌++◌, Bool, true, false, true≢false, length, refl, sym, ◌∙◌, ap, subst, arith, length-append}
 use Rattle.std.specs.Prelude.{◌==◌, if◌then◌else◌, nat_le}
 use Rattle.std.proofs.lemmas.Bool.Decides.{nat_tests}
-use Rattle.acct_book.specs.declared.op.Op.{Op}
-use Rattle.acct_book.specs.declared.op.Op.TheVariants.{Reserve, Debit, Release, Charge, Refund}
-use Rattle.acct_book.specs.declared.op.Outcome.{Outcome}
-use Rattle.acct_book.specs.declared.op.Outcome.TheVariants.{Done, Refused}
-use Rattle.acct_book.specs.declared.op.Booked.{Booked}
-use Rattle.acct_book.specs.declared.answer.Totals.{Totals}
-use Rattle.acct_book.specs.Sums.{reserved, debited, unpaid, account_of, amount_of, unpaid_of}
-use Rattle.acct_book.specs.Book.{own_of, free_of, outcome_at}
-use Rattle.acct_book.specs.Kept.{reserved_after, debited_after, unpaid_after, totals_after}
+use Rattle.acct_totals.specs.declared.op.Op.{Op}
+use Rattle.acct_totals.specs.declared.op.Op.TheVariants.{Reserve, Debit, Release, Charge, Refund}
+use Rattle.acct_totals.specs.declared.op.Outcome.{Outcome}
+use Rattle.acct_totals.specs.declared.op.Outcome.TheVariants.{Done, Refused}
+use Rattle.acct_totals.specs.declared.op.Booked.{Booked}
+use Rattle.acct_totals.specs.declared.answer.Totals.{Totals}
+use Rattle.acct_totals.specs.Amounts.{account_of, amount_of, unpaid_of}
+use Rattle.acct_book.specs.Sums.{reserved, debited, unpaid}
+use Rattle.acct_totals.specs.Answers.{free_of, outcome_at}
+use Rattle.acct_book.specs.Book.{own_of}
+use Rattle.acct_totals.specs.Kept.{reserved_after, debited_after, unpaid_after, totals_after}
 use Rattle.acct_book.specs.Ledger.{IsSummedFor, IsKeptFor}
 use Rattle.acct_book.proofs.Pushed.{entry, limit_of, reserved-push, debited-push, refunds-push, unpaid-push}
 

@@ -2,16 +2,17 @@
 use Rattle.std.proofs.Common.{◌≡◌, ◌≤◌, ◌<◌, ℕ, ◌+◌, ◌-◌, List, [], ◌∷◌, ◌++◌, Bool, true, false, true≢false, cond, length, Option, None, Some, refl, sym, ◌∙◌, ap, subst, arith, length-append}
 use Rattle.std.specs.Prelude.{◌==◌, ◌&&◌, nat_lt, if◌then◌else◌, IsSome}
 use Rattle.std.proofs.lemmas.Bool.Decides.{nat_tests}
-use Rattle.acct_book.specs.declared.op.Op.{Op}
-use Rattle.acct_book.specs.declared.op.Op.TheVariants.{Reserve, Debit, Release, Charge, Refund}
-use Rattle.acct_book.specs.declared.op.Outcome.{Outcome}
-use Rattle.acct_book.specs.declared.op.Booked.{Booked}
+use Rattle.acct_totals.specs.declared.op.Op.{Op}
+use Rattle.acct_totals.specs.declared.op.Op.TheVariants.{Reserve, Debit, Release, Charge, Refund}
+use Rattle.acct_totals.specs.declared.op.Outcome.{Outcome}
+use Rattle.acct_totals.specs.declared.op.Booked.{Booked}
 use Rattle.acct_book.specs.declared.holder.Holder.{Holder}
 use Rattle.acct_book.specs.declared.holder.Session.{Session}
 use Rattle.acct_book.specs.declared.holds.Held.{Held}
 use Rattle.acct_book.specs.declared.holds.Rounds.{Rounds}
 use Rattle.acct_book.specs.declared.holds.Before.{Before}
-use Rattle.acct_book.specs.Sums.{own, own_all, amount_of}
+use Rattle.acct_totals.specs.Amounts.{amount_of}
+use Rattle.acct_book.specs.Sums.{own, own_all}
 use Rattle.acct_book.specs.Stored.{Stored, holder_eq, session_eq, session_of, standing, standing_in, with_held, with_rounds, step_of, undone}
 use Rattle.acct_book.specs.Ledger.{IsStored, IsMarked}
 use Rattle.acct_book.proofs.OwnSums.{own-push_end, own-push_more}

@@ -2,16 +2,17 @@
 use Rattle.std.proofs.Common.{◌≡◌, ◌≤◌, ℕ, ◌+◌, ◌-◌, List, [], ◌∷◌, ◌++◌, Bool, true, false, length, reverse, Option, None, Some, refl, sym, ◌∙◌, ap, subst, arith, length-append}
 use Rattle.std.specs.Prelude.{◌==◌, if◌then◌else◌, sum_by, unwrap_or, option_to_list}
 use Rattle.std.proofs.lemmas.List.{length-reverse}
-use Rattle.acct_book.specs.declared.op.Op.{Op}
-use Rattle.acct_book.specs.declared.op.Op.TheVariants.{Reserve, Debit, Release, Charge, Refund}
-use Rattle.acct_book.specs.declared.op.Outcome.{Outcome}
-use Rattle.acct_book.specs.declared.op.Booked.{Booked}
-use Rattle.acct_book.specs.declared.answer.Totals.{Totals}
+use Rattle.acct_totals.specs.declared.op.Op.{Op}
+use Rattle.acct_totals.specs.declared.op.Op.TheVariants.{Reserve, Debit, Release, Charge, Refund}
+use Rattle.acct_totals.specs.declared.op.Outcome.{Outcome}
+use Rattle.acct_totals.specs.declared.op.Booked.{Booked}
+use Rattle.acct_totals.specs.declared.answer.Totals.{Totals}
 use Rattle.acct_book.specs.declared.holds.Before.{Before}
 use Rattle.acct_book.specs.declared.ledger.Ledger.{Ledger}
-use Rattle.acct_book.specs.Sums.{reserved, debited, unpaid, account_of, amount_of, unpaid_of, paid_by, refunded_by}
+use Rattle.acct_totals.specs.Amounts.{account_of, amount_of, unpaid_of}
+use Rattle.acct_book.specs.Sums.{reserved, debited, unpaid, paid_by, refunded_by}
 use Rattle.acct_book.specs.Book.{own_of, sums_of, given_of}
-use Rattle.acct_book.specs.Kept.{reserved_after, debited_after, unpaid_after, totals_after, totals_before, IsSound, IsLeft}
+use Rattle.acct_totals.specs.Kept.{reserved_after, debited_after, unpaid_after, totals_after, totals_before, IsSound, IsLeft}
 use Rattle.acct_book.specs.Stored.{Stored, stored_of, undone, IsPlaced}
 use Rattle.acct_book.specs.Ledger.{kept, opened_of, held_on, IsStored, IsStoredBack, IsMarked, EachBack, IsKeptFor, IsKept, HasRoom, IsUndone}
 use Rattle.std.proofs.lemmas.Bool.Decides.{nat_tests}

@@ -1,20 +1,20 @@
 -- The book: its accounts and its journal, and what these two allow.
-use Rattle.std.specs.Prelude.{◌≤◌, ℕ, ◌+◌, ◌-◌, min, List, [], ◌∷◌, ◌++◌, take, ◌==◌, Bool, false, nat_le, nat_lt, ◌&&◌, ◌||◌, if◌then◌else◌, find, Option, None, Some, IfSome, is_some, length}
+use Rattle.std.specs.Prelude.{◌≤◌, ℕ, ◌+◌, ◌-◌, List, [], ◌∷◌, ◌++◌, take, ◌==◌, Bool, nat_le, nat_lt, if◌then◌else◌, find, Option, None, Some, IfSome, is_some, length}
 use Rattle.std.specs.Option.{option_map, option_map_or}
-use Rattle.base_codes.specs.declared.result_code.ResultCode.{ResultCode}
-use Rattle.base_codes.specs.declared.result_code.ResultCode.TheVariants.{Success, CreditLimitReached, UserUnknown}
 use Rattle.base_list.specs.declared.error.AddFault.TheVariants.{Taken, Full}
-use Rattle.acct_book.specs.declared.op.Op.{Op}
-use Rattle.acct_book.specs.declared.op.Op.TheVariants.{Reserve, Debit, Release, Charge, Refund}
-use Rattle.acct_book.specs.declared.op.Outcome.{Outcome}
-use Rattle.acct_book.specs.declared.op.Outcome.TheVariants.{Done, Refused}
-use Rattle.acct_book.specs.declared.op.Booked.{Booked}
-use Rattle.acct_book.specs.declared.answer.Quote.{Quote}
-use Rattle.acct_book.specs.declared.answer.Totals.{Totals}
+use Rattle.acct_totals.specs.declared.op.Op.{Op}
+use Rattle.acct_totals.specs.declared.op.Op.TheVariants.{Reserve, Debit, Release}
+use Rattle.acct_totals.specs.declared.op.Outcome.{Outcome}
+use Rattle.acct_totals.specs.declared.op.Outcome.TheVariants.{Refused}
+use Rattle.acct_totals.specs.declared.op.Booked.{Booked}
+use Rattle.acct_totals.specs.declared.answer.Quote.{Quote}
+use Rattle.acct_totals.specs.declared.answer.Totals.{Totals}
 use Rattle.acct_book.specs.declared.error.OpenError.{OpenError}
 use Rattle.acct_book.specs.declared.error.OpenError.TheVariants.{NoMemory, TooLarge, Add}
 use Rattle.acct_book.specs.declared.limit.TheConstants.{MAX_ACCOUNTS, MAX_GIVEN}
-use Rattle.acct_book.specs.Sums.{own, own_all, reserved, debited, unpaid, account_of}
+use Rattle.acct_totals.specs.Amounts.{account_of}
+use Rattle.acct_totals.specs.Answers.{quote_at, unknown, outcome_at}
+use Rattle.acct_book.specs.Sums.{own, own_all, reserved, debited, unpaid}
 
 -- an account and the units that it was opened with
 pub record Opened : Type 0 where
@@ -39,43 +39,6 @@ sums_of given account journal =
 abbrev pub totals_of : Book → ℕ → Option Totals
 totals_of book account = option_map (λ given. sums_of given account book.journal) (given_of book.accounts account)
 
--- free = given - debited - reserved
-abbrev pub free_of : Totals → ℕ
-free_of t = t.given - t.debited - t.reserved
-
--- pay = min(used, own + free)
-abbrev pub pay_of : Totals → ℕ → ℕ → ℕ
-pay_of t own used = min used (own + free_of t)
-
--- left = own + free - pay
-abbrev pub left_of : Totals → ℕ → ℕ → ℕ
-left_of t own used = own + free_of t - pay_of t own used
-
--- offer = min(want, left)
-abbrev pub offer_of : Totals → ℕ → ℕ → ℕ → ℕ
-offer_of t own used want = min want (left_of t own used)
-
--- success where something is offered or nothing is wanted, else the credit limit is reached
-abbrev pub verdict_of : ℕ → ℕ → ResultCode
-verdict_of want offer = if nat_le 1 offer || (want == 0) then Success else CreditLimitReached
-
--- the last units: something is offered, and it is less than is wanted or all that is left
-abbrev pub is_last : ℕ → ℕ → ℕ → Bool
-is_last want left offer = nat_le 1 offer && (nat_lt offer want || (left == offer))
-
--- the quote of an account with these totals and this reservation
-abbrev pub quote_at : Totals → ℕ → ℕ → ℕ → Quote
-quote_at t own used want = record {
-  verdict = verdict_of want (offer_of t own used want);
-  offer = offer_of t own used want;
-  is_final = is_last want (left_of t own used) (offer_of t own used want);
-  pay = pay_of t own used;
-}
-
--- the quote of an unknown account
-abbrev pub unknown : Quote
-unknown = record { verdict = UserUnknown; offer = 0; is_final = false; pay = 0 }
-
 -- the quote of an account to a session and group that used and wants so much
 abbrev pub quote_of : Book → ℕ → ℕ → ℕ → ℕ → ℕ → Quote
 quote_of book account session group used want =
@@ -87,14 +50,6 @@ own_of (Reserve a s g n) journal = own a s g journal
 own_of (Debit a s g n) journal = own a s g journal
 own_of (Release a s) journal = own_all a s journal
 own_of op journal = 0
-
--- the outcome of an operation on an account with these totals and this reservation
-abbrev pub outcome_at : Totals → ℕ → Op → Outcome
-outcome_at t own (Reserve a s g n) = if nat_le n (free_of t) then Done n 0 else Refused
-outcome_at t own (Debit a s g used) = Done (pay_of t own used) (used - pay_of t own used)
-outcome_at t own (Release a s) = Done own 0
-outcome_at t own (Charge a n) = if nat_le n (free_of t) then Done n 0 else Refused
-outcome_at t own (Refund a n) = Done (min n t.debited) 0
 
 -- the one outcome that the book allows: an operation on an unknown account is refused
 abbrev pub outcome_of : Book → Op → Outcome

@@ -1,9 +1,9 @@
 -- Laws of the book, over whole journals.
 use Rattle.std.specs.Prelude.{◌≡◌, ℕ, List, [], ◌∷◌, ◌++◌, ◌==◌, Bool, not, ◌&&◌, if◌then◌else◌, sum_by, filter, Option, None, Some}
 use Rattle.std.specs.List.{filter_map}
-use Rattle.acct_book.specs.declared.op.Op.{Op}
-use Rattle.acct_book.specs.declared.op.Op.TheVariants.{Reserve}
-use Rattle.acct_book.specs.declared.op.Booked.{Booked}
+use Rattle.acct_totals.specs.declared.op.Op.{Op}
+use Rattle.acct_totals.specs.declared.op.Op.TheVariants.{Reserve}
+use Rattle.acct_totals.specs.declared.op.Booked.{Booked}
 use Rattle.acct_book.specs.declared.holder.Holder.{Holder}
 use Rattle.acct_book.specs.Sums.{own, own_all, reserved}
 use Rattle.acct_book.specs.Stored.{holder_eq}

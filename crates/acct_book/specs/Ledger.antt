@@ -3,18 +3,19 @@ use Rattle.std.specs.Prelude.{◌≡◌, ◌<◌, ◌≤◌, ◌^◌, ◌*◌, �
 use Rattle.std.specs.declared.hash.FoldHasher.{FoldHasher}
 use Rattle.std.specs.declared.hash.BuildHasherDefault.{BuildHasherDefault}
 use Rattle.indexmap.specs.IndexMap.{IndexMap, get, spare}
-use Rattle.acct_book.specs.declared.op.Op.{Op}
-use Rattle.acct_book.specs.declared.op.Op.TheVariants.{Reserve, Debit, Release}
-use Rattle.acct_book.specs.declared.op.Outcome.{Outcome}
-use Rattle.acct_book.specs.declared.op.Booked.{Booked}
-use Rattle.acct_book.specs.declared.answer.Totals.{Totals}
+use Rattle.acct_totals.specs.declared.op.Op.{Op}
+use Rattle.acct_totals.specs.declared.op.Op.TheVariants.{Reserve, Debit, Release}
+use Rattle.acct_totals.specs.declared.op.Outcome.{Outcome}
+use Rattle.acct_totals.specs.declared.op.Booked.{Booked}
+use Rattle.acct_totals.specs.declared.answer.Totals.{Totals}
 use Rattle.acct_book.specs.declared.holder.Holder.{Holder}
 use Rattle.acct_book.specs.declared.holder.Session.{Session}
 use Rattle.acct_book.specs.declared.holds.Before.{Before}
 use Rattle.acct_book.specs.declared.ledger.Ledger.{Ledger}
-use Rattle.acct_book.specs.Sums.{own, own_all, paid_by, refunded_by, account_of}
+use Rattle.acct_totals.specs.Amounts.{account_of}
+use Rattle.acct_book.specs.Sums.{own, own_all, paid_by, refunded_by}
 use Rattle.acct_book.specs.Book.{Opened, Book, sums_of, given_of}
-use Rattle.acct_book.specs.Kept.{totals_after, totals_before}
+use Rattle.acct_totals.specs.Kept.{totals_after, totals_before}
 use Rattle.acct_book.specs.Stored.{Stored, stored_of, standing, session_of, step_of, undone, IsPlaced}
 
 abbrev pub Accounts : Type 0

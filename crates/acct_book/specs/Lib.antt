@@ -1,6 +1,7 @@
 pub mod Sums
 pub mod Book
-pub mod Kept
+pub mod Slots
+pub mod Served
 pub mod Stored
 pub mod Laws
 pub mod Ledger

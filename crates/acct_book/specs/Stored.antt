@@ -1,16 +1,16 @@
 -- The reservations as they are kept, with no list: what stands at each holder and session, and what an operation writes over.
 use Rattle.std.specs.Prelude.{◌<◌, ◌≤◌, ◌+◌, ◌-◌, ◌^◌, ℕ, ◌==◌, Bool, ◌&&◌, nat_lt, if◌then◌else◌, Option, None, Some, IsSome, unwrap_or}
 use Rattle.indexmap.specs.IndexMap.{get}
-use Rattle.acct_book.specs.declared.op.Op.{Op}
-use Rattle.acct_book.specs.declared.op.Op.TheVariants.{Reserve, Debit, Release}
-use Rattle.acct_book.specs.declared.op.Outcome.{Outcome}
+use Rattle.acct_totals.specs.declared.op.Op.{Op}
+use Rattle.acct_totals.specs.declared.op.Op.TheVariants.{Reserve, Debit, Release}
+use Rattle.acct_totals.specs.declared.op.Outcome.{Outcome}
 use Rattle.acct_book.specs.declared.holder.Holder.{Holder}
 use Rattle.acct_book.specs.declared.holder.Session.{Session}
 use Rattle.acct_book.specs.declared.holds.Held.{Held}
 use Rattle.acct_book.specs.declared.holds.Rounds.{Rounds}
 use Rattle.acct_book.specs.declared.holds.Before.{Before}
 use Rattle.acct_book.specs.declared.holds.Holds.{Holds}
-use Rattle.acct_book.specs.Sums.{amount_of}
+use Rattle.acct_totals.specs.Amounts.{amount_of}
 
 -- the two are one holder, as `==` compares them
 abbrev pub holder_eq : Holder → Holder → Bool

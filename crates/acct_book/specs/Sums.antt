@@ -1,29 +1,10 @@
 -- What a journal says of an account and of a reservation: sums over the flat list.
 use Rattle.std.specs.Prelude.{ℕ, ◌+◌, ◌-◌, List, [], ◌∷◌, ◌==◌, Bool, false, ◌&&◌, if◌then◌else◌, sum_by}
 use Rattle.std.specs.List.{list_any, after_last}
-use Rattle.acct_book.specs.declared.op.Op.{Op}
-use Rattle.acct_book.specs.declared.op.Op.TheVariants.{Reserve, Debit, Release, Charge, Refund}
-use Rattle.acct_book.specs.declared.op.Outcome.{Outcome}
-use Rattle.acct_book.specs.declared.op.Outcome.TheVariants.{Done, Refused}
-use Rattle.acct_book.specs.declared.op.Booked.{Booked}
-
--- the account that the operation is on
-abbrev pub account_of : Op → ℕ
-account_of (Reserve a s g n) = a
-account_of (Debit a s g n) = a
-account_of (Release a s) = a
-account_of (Charge a n) = a
-account_of (Refund a n) = a
-
--- the units that were moved: none where the operation was refused
-abbrev pub amount_of : Outcome → ℕ
-amount_of (Done amount unpaid) = amount
-amount_of Refused = 0
-
--- the used units that could not be paid
-abbrev pub unpaid_of : Outcome → ℕ
-unpaid_of (Done amount unpaid) = unpaid
-unpaid_of Refused = 0
+use Rattle.acct_totals.specs.declared.op.Op.{Op}
+use Rattle.acct_totals.specs.declared.op.Op.TheVariants.{Reserve, Debit, Release, Charge, Refund}
+use Rattle.acct_totals.specs.declared.op.Booked.{Booked}
+use Rattle.acct_totals.specs.Amounts.{amount_of, unpaid_of}
 
 -- the two are one account, session and group
 abbrev pub is_same : ℕ → ℕ → ℕ → ℕ → ℕ → ℕ → Bool

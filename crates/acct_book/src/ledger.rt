@@ -1,16 +1,15 @@
 //! What a page keeps beside its journal, so that no answer has to read the journal.
 ghost use Rattle.std.specs.Prelude.{◌≡◌, ◌≤◌, ◌<◌, ◌+◌, ◌-◌, ◌^◌, ℕ};
 ghost use Rattle.std.specs.Prelude.{[], length, fold, nat_eq};
-ghost use Rattle.std.specs.Prelude.{OnOk, OnErr, IfErr};
+ghost use Rattle.std.specs.Prelude.{OnOk, OnErr, IfErr, IfSome};
 ghost use Rattle.indexmap.specs.IndexMap.{get};
 ghost use Rattle.acct_book.specs.Book.{refusal_at};
 
-use crate::answer::Totals;
 use crate::error::{NoMemory, OpenError};
 use crate::holder::{Holder, Session};
 use crate::holds::{Before, Holds};
 use crate::limit::{MAX_ACCOUNTS, MAX_GIVEN};
-use crate::op::{Booked, Op, Outcome};
+use acct_totals::{Booked, Op, Outcome, Quote, Quoted, Slot, Totals, held_after};
 use base_list::AddFault;
 use indexmap::IndexMap;
 use std::alloc::Global;
@@ -53,10 +52,12 @@ impl Drop for Ledger {
 }
 
 impl Ledger {
-    ghost use Rattle.acct_book.specs.Book.{after, outcome_of, outcome_at, opened, refusal_of, taken_back};
-    ghost use Rattle.acct_book.specs.Sums.{account_of, unpaid_of};
-    ghost use Rattle.acct_book.specs.Kept.{IsSound, IsLeft};
-    ghost use Rattle.acct_book.specs.Stored.{stored_of, undone, CanCarryOut, IsPlaced};
+    ghost use Rattle.acct_totals.specs.Answers.{outcome_at};
+    ghost use Rattle.acct_book.specs.Book.{after, outcome_of, opened, refusal_of, taken_back};
+    ghost use Rattle.acct_totals.specs.Amounts.{account_of, unpaid_of};
+    ghost use Rattle.acct_totals.specs.Kept.{IsSound, IsLeft};
+    ghost use Rattle.acct_book.specs.Stored.{stored_of, standing, undone, CanCarryOut, IsPlaced};
+    ghost use Rattle.acct_book.specs.Served.{left_of, funds_of, quote_in, served};
     ghost use Rattle.acct_book.specs.Ledger.{held_on, book_of, kept, IsKept, IsMarked, HasRoom, Settles, Unsettles};
 
     /// A ledger without accounts, which has taken no memory yet.
@@ -121,6 +122,38 @@ impl Ledger {
         self.befores.reserve(n)?;
         self.holds.make_room(n)?;
         Ok(())
+    }
+
+    /// What a session has on an account in a group.
+    pub(crate) fn held(&self, account: u64, session: u64, group: u64) -> u64
+        ensures { result ≡ standing (stored_of self.now.holds) (record { account = account; session = session; group = group }) }
+    {
+        self.holds.standing(Holder {
+            account,
+            session,
+            group,
+        })
+    }
+
+    /// The quote of a slot where so much is free and the earlier slots have these quotes, and what is free once it has been served.
+    pub(crate) fn quote_slot(
+        &self,
+        account: u64,
+        session: u64,
+        free: u64,
+        earlier: &[Quoted],
+        slot: Option<Slot>,
+    ) -> (Option<Quote>, u64)
+        requires { IfSome slot (λ s. funds_of (left_of (stored_of self.now.holds) account session free earlier.now) s < 2 ^ 64) }
+        ensures quote { result.0 ≡ quote_in (left_of (stored_of self.now.holds) account session free earlier.now) slot }
+        ensures free { result.1 ≡ (served (left_of (stored_of self.now.holds) account session free earlier.now) slot).free }
+    {
+        let Some(slot) = slot else {
+            return (None, free);
+        };
+        let held = held_after(slot.group, self.held(account, session, slot.group), earlier);
+        let (quote, free) = slot.quote(held + free);
+        (Some(quote), free)
     }
 
     // Carries an operation out in the totals and reservations, and answers its outcome with what it wrote over.

@@ -1,15 +1,23 @@
 //! The page.
 ghost use Rattle.std.specs.Prelude.{◌≡◌, ◌≤◌, ◌<◌, ◌+◌, ◌-◌, ◌%◌, [], fold, length, max, unwrap_or};
-ghost use Rattle.std.specs.Prelude.{IfSome, IfOk, IfErr, OnOk, OnErr};
+ghost use Rattle.std.specs.Prelude.{map, IfSome, IfOk, IfErr, OnOk, OnErr};
+ghost use Rattle.acct_book.specs.Served.{unknown_in};
 
-use crate::answer::{Quote, Totals};
 use crate::error::{NoMemory, OpenError};
-use crate::holder::Holder;
 use crate::ledger::Ledger;
-use crate::op::{Booked, Op, Outcome};
-use base_codes::ResultCode;
+use acct_totals::{Booked, Op, Outcome, Quote, Slot, Totals};
 use std::alloc::Global;
 use std::marker::Model;
+
+// The quote of a slot on an account that is not open.
+fn unknown_in(slot: Option<Slot>) -> Option<Quote>
+    ensures { result ≡ unknown_in slot }
+{
+    match slot {
+        Some(_) => Some(Quote::of_unknown()),
+        None => None,
+    }
+}
 
 /// A page of the account book, one of so many that share the accounts. A contract sees its number, its accounts in the order of their
 /// opening, its journal, and how many operations have room.
@@ -45,7 +53,9 @@ impl Model for Page {
 
 impl Page {
     ghost use Rattle.acct_book.specs.Book.{after, outcome_of, quote_of, totals_of, opened, refusal_of, taken_back};
-    ghost use Rattle.acct_book.specs.Book.{unknown, with_book, NeverOver};
+    ghost use Rattle.acct_book.specs.Slots.{quotes_of};
+    ghost use Rattle.acct_totals.specs.Answers.{unknown};
+    ghost use Rattle.acct_book.specs.Book.{with_book, NeverOver};
 
     /// The only page of a book, without accounts. Takes no memory until the first is opened.
     pub fn new(alloc: Global) -> Page
@@ -98,19 +108,43 @@ impl Page {
         ensures zero { account ≡ 0 → result ≡ unknown }
     {
         let Some(totals) = self.ledger.totals(account) else {
-            return Quote {
-                verdict: ResultCode::UserUnknown,
-                offer: 0,
-                is_final: false,
-                pay: 0,
-            };
+            return Quote::of_unknown();
         };
-        let held = self.ledger.holds.standing(Holder {
+        let held = self.ledger.held(account, session, group);
+        totals.quote(held, used, want)
+    }
+
+    /// What the account would answer to the services of one request, slot by slot, each as if what the earlier slots used were paid
+    /// and what they are offered were reserved (RFC 8506 section 5.1.2). A slot without a service gets no quote. Takes no memory.
+    pub fn quote_groups(
+        &self,
+        account: u64,
+        session: u64,
+        slots: &[Option<Slot>; 4],
+    ) -> [Option<Quote>; 4]
+        ensures value { result ≡ quotes_of account session self.now.book slots.now }
+        ensures zero { account ≡ 0 → result ≡ map unknown_in slots.now }
+    {
+        let [a, b, c, d] = *slots;
+        let Some(totals) = self.ledger.totals(account) else {
+            return [unknown_in(a), unknown_in(b), unknown_in(c), unknown_in(d)];
+        };
+        let free = totals.free();
+        let (first, free) = self.ledger.quote_slot(account, session, free, &[], a);
+        let (second, free) = self
+            .ledger
+            .quote_slot(account, session, free, &[(a, first)], b);
+        let (third, free) = self
+            .ledger
+            .quote_slot(account, session, free, &[(a, first), (b, second)], c);
+        let (fourth, _) = self.ledger.quote_slot(
             account,
             session,
-            group,
-        });
-        totals.quote(held, used, want)
+            free,
+            &[(a, first), (b, second), (c, third)],
+            d,
+        );
+        [first, second, third, fourth]
     }
 
     /// Makes room for so many operations: these need no memory then. An account that is opened takes none of it.

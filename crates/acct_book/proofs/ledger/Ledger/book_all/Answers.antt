@@ -1,7 +1,7 @@
 use Rattle.std.proofs.Common.{◌≡◌, ◌+◌, ◌-◌, length, ap, sym, subst, ◌∙◌, arith, get_or, take, fold}
 use Rattle.std.proofs.lemmas.List.Sums.{fold_more}
-use Rattle.acct_book.specs.declared.op.Op.{Op}
-use Rattle.acct_book.specs.declared.op.Op.TheVariants.{Reserve}
+use Rattle.acct_totals.specs.declared.op.Op.{Op}
+use Rattle.acct_totals.specs.declared.op.Op.TheVariants.{Reserve}
 use Rattle.acct_book.specs.Book.{Book, after}
 use Rattle.acct_book.specs.Ledger.{HasRoom, book_of}
 use Rattle.acct_book.proofs.ledger.Ledger.book_all.Goals as goal

@@ -1,8 +1,8 @@
 use Rattle.std.proofs.Common.{ℕ, List, [], reverse, sym, subst, ap, nat_eq, arith, map}
 use Rattle.std.specs.Prelude.{unwrap_or}
 use Rattle.std.specs.Map.{lookup}
-use Rattle.acct_book.specs.declared.op.Booked.{Booked}
-use Rattle.acct_book.specs.declared.answer.Totals.{Totals}
+use Rattle.acct_totals.specs.declared.op.Booked.{Booked}
+use Rattle.acct_totals.specs.declared.answer.Totals.{Totals}
 use Rattle.acct_book.specs.Book.{given_of, sums_of}
 use Rattle.acct_book.specs.Stored.{Stored, stored_of}
 use Rattle.acct_book.specs.Ledger.{none, IsKeptFor, EachBack, IsStoredBack}

@@ -2,11 +2,11 @@ use Rattle.std.proofs.Common.{◌≡◌, ap, ◌∙◌, sym, subst, Option, None
 use Rattle.std.specs.Prelude.{unwrap_or}
 use Rattle.std.specs.Option.{option_map_or}
 use Rattle.indexmap.specs.IndexMap.{get}
-use Rattle.acct_book.specs.declared.answer.Totals.{Totals}
-use Rattle.acct_book.specs.declared.op.Outcome.TheVariants.{Refused}
-use Rattle.acct_book.specs.Sums.{account_of}
-use Rattle.acct_book.specs.Book.{outcome_at}
-use Rattle.acct_book.specs.Kept.{IsSound}
+use Rattle.acct_totals.specs.declared.answer.Totals.{Totals}
+use Rattle.acct_totals.specs.declared.op.Outcome.TheVariants.{Refused}
+use Rattle.acct_totals.specs.Amounts.{account_of}
+use Rattle.acct_totals.specs.Answers.{outcome_at}
+use Rattle.acct_totals.specs.Kept.{IsSound}
 use Rattle.acct_book.specs.Stored.{stored_of}
 use Rattle.acct_book.specs.Ledger.{none, held_on}
 use Rattle.acct_book.proofs.LedgerLemmas.{IsSound-kept, CanCarryOut-kept, outcome_of-kept, Settles-unknown}

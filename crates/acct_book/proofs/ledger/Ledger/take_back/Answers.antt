@@ -1,7 +1,7 @@
 use Rattle.std.proofs.Common.{◌≡◌, ◌++◌, ◌∷◌, [], length, refl, ap, sym, ◌∙◌, Option, arith}
 use Rattle.std.proofs.lemmas.Grind.{common_steps}
 use Rattle.std.specs.Prelude.{option_to_list, vec_len, vec_capacity}
-use Rattle.acct_book.specs.declared.op.Booked.{Booked}
+use Rattle.acct_totals.specs.declared.op.Booked.{Booked}
 use Rattle.acct_book.proofs.Pushed.{entry}
 use Rattle.acct_book.proofs.TakenBack.{IsLeft-last, IsKept-back, before-last}
 use Rattle.acct_book.proofs.ledger.Ledger.take_back.Goals as goal

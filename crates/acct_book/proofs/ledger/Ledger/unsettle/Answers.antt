@@ -1,8 +1,8 @@
 use Rattle.std.proofs.Common.{◌≡◌, ap, ◌∙◌, sym, refl, map, nat_eq, Some, cond}
 use Rattle.indexmap.specs.IndexMap.{get}
-use Rattle.acct_book.specs.declared.answer.Totals.{Totals}
-use Rattle.acct_book.specs.Sums.{account_of}
-use Rattle.acct_book.specs.Kept.{totals_before}
+use Rattle.acct_totals.specs.declared.answer.Totals.{Totals}
+use Rattle.acct_totals.specs.Amounts.{account_of}
+use Rattle.acct_totals.specs.Kept.{totals_before}
 use Rattle.acct_book.specs.Stored.{stored_of, undone}
 use Rattle.acct_book.specs.Ledger.{held_on}
 use Rattle.acct_book.proofs.Opened.{shown, shown-insert_entry}

@@ -1,17 +1,16 @@
 //! What an account with these totals answers, and what an operation leaves: numbers alone.
 ghost use Rattle.std.specs.Prelude.{◌≡◌, ◌≤◌, ◌<◌, ◌+◌, ◌^◌, nat_le, if◌then◌else◌};
-ghost use Rattle.acct_book.specs.declared.op.Outcome.TheVariants.{Done, Refused};
-ghost use Rattle.acct_book.specs.Sums.{unpaid_of};
-ghost use Rattle.acct_book.specs.Book.{free_of, quote_at, outcome_at};
-ghost use Rattle.acct_book.specs.Kept.{IsSound, totals_after, totals_before, IsLeft};
+ghost use Rattle.acct_totals.specs.declared.op.Outcome.TheVariants.{Done, Refused};
+ghost use Rattle.acct_totals.specs.Amounts.{unpaid_of};
+ghost use Rattle.acct_totals.specs.Answers.{free_of, quote_at, outcome_at};
+ghost use Rattle.acct_totals.specs.Kept.{IsSound, totals_after, totals_before, IsLeft};
 
 use crate::answer::{Quote, Totals};
 use crate::op::{Op, Outcome};
-use base_codes::ResultCode;
 
 impl Totals {
-    // What is neither reserved nor debited.
-    fn free(&self) -> u64
+    /// What is neither reserved nor debited.
+    pub fn free(&self) -> u64
         requires { self.now.reserved + self.now.debited ≤ self.now.given }
         ensures { result ≡ free_of self.now }
     {
@@ -19,30 +18,15 @@ impl Totals {
     }
 
     /// What the account answers to a holder of a reservation who used and wants so much.
-    pub(crate) fn quote(&self, held: u64, used: u64, want: u64) -> Quote
+    pub fn quote(&self, held: u64, used: u64, want: u64) -> Quote
         requires { IsSound self.now held }
         ensures { result ≡ quote_at self.now held used want }
     {
-        let funds = held + self.free();
-        let pay = used.min(funds);
-        let left = funds - pay;
-        let offer = want.min(left);
-        let verdict = if offer >= 1 || want == 0 {
-            ResultCode::Success
-        } else {
-            ResultCode::CreditLimitReached
-        };
-        let is_final = offer >= 1 && (offer < want || left == offer);
-        Quote {
-            verdict,
-            offer,
-            is_final,
-            pay,
-        }
+        Quote::from_funds(held + self.free(), used, want)
     }
 
     /// The outcome of an operation on a reservation of `held`.
-    pub(crate) fn outcome(&self, held: u64, op: Op) -> Outcome
+    pub fn outcome(&self, held: u64, op: Op) -> Outcome
         requires { IsSound self.now held }
         ensures allowed { result ≡ outcome_at self.now held op }
         ensures fits { unpaid_of result ≤ 2 ^ 64 }
@@ -81,7 +65,7 @@ impl Totals {
     }
 
     /// The totals that the operation leaves.
-    pub(crate) fn after(&self, held: u64, op: Op, outcome: Outcome) -> Totals
+    pub fn after(&self, held: u64, op: Op, outcome: Outcome) -> Totals
         requires sound { IsSound self.now held }
         requires allowed { outcome ≡ outcome_at self.now held op }
         requires few { self.now.unpaid + 2 ^ 64 ≤ 2 ^ 128 }
@@ -117,7 +101,7 @@ impl Totals {
     }
 
     /// The totals before the operation that left these.
-    pub(crate) fn before(&self, held: u64, op: Op, outcome: Outcome) -> Totals
+    pub fn before(&self, held: u64, op: Op, outcome: Outcome) -> Totals
         requires { IsLeft self.now held op outcome }
         ensures { result ≡ totals_before self.now held op outcome }
     {

@@ -1,6 +1,6 @@
 //! What may be asked of the book, and what it answers.
 ghost use Rattle.std.specs.Prelude.{◌≡◌};
-ghost use Rattle.acct_book.specs.Sums.{account_of, amount_of, unpaid_of};
+ghost use Rattle.acct_totals.specs.Amounts.{account_of, amount_of, unpaid_of};
 
 /// An operation on an account. A `session` is the number of a Session-Id (RFC 6733 section 8.8), a `group` that of a Rating-Group
 /// (RFC 8506 section 8.29) or 0, and the amounts are service units (RFC 8506 sections 8.17 to 8.19).

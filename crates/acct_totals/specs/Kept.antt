@@ -1,10 +1,10 @@
 -- What an operation leaves of an account's totals, once its outcome is known.
 use Rattle.std.specs.Prelude.{◌≡◌, ◌≤◌, ◌^◌, ℕ, ◌+◌, ◌-◌}
-use Rattle.acct_book.specs.declared.op.Op.{Op}
-use Rattle.acct_book.specs.declared.op.Op.TheVariants.{Reserve, Debit, Release, Charge, Refund}
-use Rattle.acct_book.specs.declared.op.Outcome.{Outcome}
-use Rattle.acct_book.specs.declared.answer.Totals.{Totals}
-use Rattle.acct_book.specs.Sums.{amount_of, unpaid_of}
+use Rattle.acct_totals.specs.declared.op.Op.{Op}
+use Rattle.acct_totals.specs.declared.op.Op.TheVariants.{Reserve, Debit, Release, Charge, Refund}
+use Rattle.acct_totals.specs.declared.op.Outcome.{Outcome}
+use Rattle.acct_totals.specs.declared.answer.Totals.{Totals}
+use Rattle.acct_totals.specs.Amounts.{amount_of, unpaid_of}
 
 -- the reservation is part of what is reserved, no more is reserved and debited than given, and all sums fit 64 bits
 pub record IsSound (t : Totals) (held : ℕ) : Type 0 where

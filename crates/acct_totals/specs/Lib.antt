@@ -1,0 +1,4 @@
+pub mod Amounts
+pub mod Answers
+pub mod Kept
+pub mod Slots
