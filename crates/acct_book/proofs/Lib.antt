@@ -10,3 +10,4 @@ pub mod TakenBack
 pub mod ReservedLaw
 pub mod NeverOver
 pub mod SlotLemmas
+pub mod AloneLemmas

@@ -1,6 +1,6 @@
 -- What is left of an account while slots are quoted is what the book says once the earlier slots have been served.
 use Rattle.std.proofs.Common.{◌≡◌, ◌≤◌, ◌<◌, ◌^◌, ℕ, ◌+◌, ◌-◌, List, [], ◌∷◌, ◌++◌, Bool, true, false, true≢false, map, length, fold, Option, None, Some, refl, sym, ◌∙◌, ap, subst, nat_eq, arith}
-use Rattle.std.specs.Prelude.{◌==◌, ◌&&◌, if◌then◌else◌, nat_le, unwrap_or, IfSome, slice_index_or}
+use Rattle.std.specs.Prelude.{◌==◌, if◌then◌else◌, nat_le, unwrap_or, IfSome, slice_index_or}
 use Rattle.std.specs.Option.{option_map, option_map_or}
 use Rattle.std.proofs.lemmas.Bool.Decides.{nat_tests}
 use Rattle.indexmap.specs.IndexMap.{get}
@@ -23,7 +23,7 @@ use Rattle.acct_book.specs.Book.{Opened, Book, given_of, sums_of, own_of, outcom
 use Rattle.acct_book.specs.Stored.{Stored, stored_of, standing}
 use Rattle.acct_book.specs.Slots.{slot_quote, after_slot, quotes_of}
 use Rattle.acct_book.specs.Served.{Left, funds_of, quote_in, served, own_after, left_of, unknown_in}
-use Rattle.acct_book.specs.Ledger.{opened_of, book_of, kept, none, IsSummedFor, IsKept}
+use Rattle.acct_book.specs.Ledger.{book_of, kept, none, IsSummedFor, IsKept}
 use Rattle.acct_book.proofs.OwnSums.{own-push_end, own-push_more}
 use Rattle.acct_book.proofs.LeftSums.{eq_same}
 use Rattle.acct_book.proofs.Pushed.{entry, limit_of, own-le-reserved}

@@ -4,4 +4,5 @@ pub mod Slots
 pub mod Served
 pub mod Stored
 pub mod Laws
+pub mod Alone
 pub mod Ledger

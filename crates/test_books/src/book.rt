@@ -1,5 +1,7 @@
 //! The account book: two sessions on an account, the largest numbers, events, and what is refused.
-use acct_book::{Booked, MAX_GIVEN, Op, OpenError, Outcome, Page, Quote, Totals};
+use acct_book::{
+    Booked, MAX_GIVEN, Op, OpenError, Outcome, Page, Quote, Slot, Totals, request_verdict,
+};
 use base_codes::ResultCode;
 use base_list::AddFault;
 use std::alloc::Global;
@@ -336,6 +338,191 @@ fn two_groups_of_a_session(rt: HostRuntime) {
     assert!(rt; sums_to(&page, (100, 10, 80, 10)));
     assert!(rt; applies(&mut page, &[(release(FIRST), done(10))]));
     assert!(rt; sums_to(&page, (100, 0, 80, 10)));
+}
+
+/// A slot of a request: its group, the used units and the wanted ones; none where it has no service.
+type Service = Option<(u64, u64, u64)>;
+
+/// The slots of a request.
+fn slots_of(services: [Service; 4]) -> [Option<Slot>; 4] {
+    let [a, b, c, d] = services;
+    [slot_of(a), slot_of(b), slot_of(c), slot_of(d)]
+}
+
+fn slot_of(service: Service) -> Option<Slot> {
+    match service {
+        Some((group, used, want)) => Some(Slot { group, used, want }),
+        None => None,
+    }
+}
+
+/// Whether a quote is this.
+fn is_answer(quote: Option<Quote>, answer: Option<Answer>) -> bool {
+    match (quote, answer) {
+        (Some(quote), Some(answer)) => {
+            (
+                quote.verdict.number(),
+                quote.offer,
+                quote.is_final,
+                quote.pay,
+            ) == answer
+        }
+        (None, None) => true,
+        _ => false,
+    }
+}
+
+/// Whether a page answers these to the slots of a session's request, and this verdict to the whole.
+fn quotes_slots(
+    page: &Page,
+    account: u64,
+    services: [Service; 4],
+    answers: [Option<Answer>; 4],
+    verdict: u32,
+) -> bool {
+    let quotes = page.quote_groups(account, FIRST, &slots_of(services));
+    let [a, b, c, d] = quotes;
+    let [first, second, third, fourth] = answers;
+    let same = is_answer(a, first)
+        && is_answer(b, second)
+        && is_answer(c, third)
+        && is_answer(d, fourth);
+    same && request_verdict(&quotes).number() == verdict
+}
+
+#[test]
+fn slots_are_quoted_after_the_earlier_ones(rt: HostRuntime) {
+    let mut page = page_with(rt.alloc(), 100).expect(&rt, "memory");
+    let initial = [Some((1, 0, 70)), Some((2, 0, 50)), None, None];
+    let offers = [
+        Some((2001, 70, false, 0)),
+        Some((2001, 30, true, 0)),
+        None,
+        None,
+    ];
+    assert!(rt; quotes_slots(&page, ACCOUNT, initial, offers, 2001));
+    assert!(rt; page.journal().is_empty());
+    let first = [
+        (debit_in(1, 0), done(0)),
+        (reserve_in(1, 70), done(70)),
+        (debit_in(2, 0), done(0)),
+        (reserve_in(2, 30), done(30)),
+    ];
+    assert!(rt; applies(&mut page, &first));
+    assert!(rt; sums_to(&page, (100, 100, 0, 0)));
+    let update = [Some((1, 80, 10)), Some((2, 10, 10)), None, None];
+    let rest = [
+        Some((4012, 0, false, 70)),
+        Some((2001, 10, false, 10)),
+        None,
+        None,
+    ];
+    assert!(rt; quotes_slots(&page, ACCOUNT, update, rest, 2001));
+    let second = [
+        (debit_in(1, 80), in_part(70, 10)),
+        (reserve_in(1, 0), done(0)),
+        (debit_in(2, 10), done(10)),
+        (reserve_in(2, 10), done(10)),
+    ];
+    assert!(rt; applies(&mut page, &second));
+    assert!(rt; sums_to(&page, (100, 10, 80, 10)));
+}
+
+#[test]
+fn a_slot_without_a_service_gets_no_quote(rt: HostRuntime) {
+    let page = page_with(rt.alloc(), 10).expect(&rt, "memory");
+    let between = [Some((1, 0, 4)), None, Some((4_294_967_297, 0, 7)), None];
+    let offers = [
+        Some((2001, 4, false, 0)),
+        None,
+        Some((2001, 6, true, 0)),
+        None,
+    ];
+    assert!(rt; quotes_slots(&page, ACCOUNT, between, offers, 2001));
+    let none = [None, None, None, None];
+    assert!(rt; quotes_slots(&page, ACCOUNT, none, [None, None, None, None], 4012));
+}
+
+#[test]
+fn four_slots_share_the_largest_account(rt: HostRuntime) {
+    let page = page_with(rt.alloc(), MAX_GIVEN).expect(&rt, "memory");
+    let half = 2_305_843_009_213_693_952;
+    let first = [
+        Some((1, half, 1)),
+        Some((2, half - 1, 1)),
+        Some((LARGEST, LARGEST, LARGEST)),
+        Some((4_294_967_297, 0, 0)),
+    ];
+    let offers = [
+        Some((2001, 1, false, half)),
+        Some((4012, 0, false, half - 1)),
+        Some((4012, 0, false, 0)),
+        Some((2001, 0, false, 0)),
+    ];
+    assert!(rt; quotes_slots(&page, ACCOUNT, first, offers, 2001));
+    let spent = [
+        Some((1, LARGEST, LARGEST)),
+        Some((2, LARGEST, LARGEST)),
+        Some((3, 0, 1)),
+        Some((4, LARGEST, LARGEST)),
+    ];
+    let over = [
+        Some((4012, 0, false, MAX_GIVEN)),
+        Some((4012, 0, false, 0)),
+        Some((4012, 0, false, 0)),
+        Some((4012, 0, false, 0)),
+    ];
+    assert!(rt; quotes_slots(&page, ACCOUNT, spent, over, 4012));
+    let all = [
+        Some((LARGEST, 0, LARGEST)),
+        Some((1, 0, LARGEST)),
+        None,
+        Some((2, 0, 0)),
+    ];
+    let taken = [
+        Some((2001, MAX_GIVEN, true, 0)),
+        Some((4012, 0, false, 0)),
+        None,
+        Some((2001, 0, false, 0)),
+    ];
+    assert!(rt; quotes_slots(&page, ACCOUNT, all, taken, 2001));
+}
+
+#[test]
+fn a_group_in_two_slots_keeps_its_last_offer(rt: HostRuntime) {
+    let mut page = page_with(rt.alloc(), 100).expect(&rt, "memory");
+    assert!(rt;
+        applies(
+            &mut page,
+            &[(reserve_in(7, 60), done(60)), (reserve(SECOND, 5), done(5))]
+        )
+    );
+    let twice = [
+        Some((7, 0, 30)),
+        Some((8, 0, 40)),
+        Some((7, 10, 100)),
+        Some((7, 0, 1)),
+    ];
+    let offers = [
+        Some((2001, 30, false, 0)),
+        Some((2001, 40, false, 0)),
+        Some((2001, 45, true, 10)),
+        Some((2001, 1, false, 0)),
+    ];
+    assert!(rt; quotes_slots(&page, ACCOUNT, twice, offers, 2001));
+}
+
+#[test]
+fn slots_on_an_unknown_account(rt: HostRuntime) {
+    let page = page_with(rt.alloc(), 100).expect(&rt, "memory");
+    let slots = [Some((1, 5, 5)), None, Some((2, 0, 0)), None];
+    let unknown = Some((5030, 0, false, 0));
+    for account in [0, 101, LARGEST] {
+        assert!(rt;
+            quotes_slots(&page, account, slots, [unknown, None, unknown, None], 5030),
+            "{account}"
+        );
+    }
 }
 
 /// Whether taking the last operation back leaves these sums.

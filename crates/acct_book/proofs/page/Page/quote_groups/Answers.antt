@@ -1,7 +1,6 @@
 use Rattle.std.proofs.Common.{◌≡◌, ◌∙◌, sym, ap, List, [], ◌∷◌, map, Option, None, Some, nat_eq, true≢false}
 use Rattle.std.specs.Prelude.{slice_index_or, is_some}
 use Rattle.indexmap.specs.IndexMap.{get}
-use Rattle.acct_totals.specs.declared.answer.Quote.{Quote}
 use Rattle.acct_totals.specs.declared.slot.Slot.{Slot}
 use Rattle.acct_book.specs.Book.{Paged}
 use Rattle.acct_book.specs.Stored.{stored_of}
