@@ -1,3 +1,4 @@
 pub mod ResultCodes
 pub mod CommandCodes
 pub mod DeedCodes
+pub mod ResultNames

@@ -30,6 +30,12 @@ pub const CC_REQUEST_NUMBER: u32 = 415;
 
 pub const CC_REQUEST_TYPE: u32 = 416;
 
+pub const CC_SERVICE_SPECIFIC_UNITS: u32 = 417;
+
+pub const CC_TIME: u32 = 420;
+
+pub const CC_TOTAL_OCTETS: u32 = 421;
+
 pub const CHECK_BALANCE_RESULT: u32 = 422;
 
 pub const FINAL_UNIT_INDICATION: u32 = 430;
@@ -44,7 +50,13 @@ pub const REQUESTED_SERVICE_UNIT: u32 = 437;
 
 pub const SUBSCRIPTION_ID: u32 = 443;
 
+pub const SUBSCRIPTION_ID_DATA: u32 = 444;
+
 pub const USED_SERVICE_UNIT: u32 = 446;
+
+pub const FINAL_UNIT_ACTION: u32 = 449;
+
+pub const SUBSCRIPTION_ID_TYPE: u32 = 450;
 
 pub const MULTIPLE_SERVICES_INDICATOR: u32 = 455;
 

@@ -45,10 +45,10 @@ abbrev pub HasWriteCause : {O : Type 0} → (failures idle : O → ℕ) → (old
 HasWriteCause failures idle old new =
     (failures new ≡ failures old + 1) ⊎ ((failures new ≡ failures old) × (idle new ≡ 1048576))
 
--- A read fault has a cause: one call failed, or none did and 1,048,576 reads were made.
+-- A read fault has a cause: one call failed, or none did and at least 1,048,576 reads were made.
 abbrev pub HasReadCause : {I : Type 0} → (reads failures : I → ℕ) → (old new : I) → Type 0
 HasReadCause reads failures old new =
-    (failures new ≡ failures old + 1) ⊎ ((failures new ≡ failures old) × (reads new ≡ reads old + 1048576))
+    (failures new ≡ failures old + 1) ⊎ ((failures new ≡ failures old) × (reads old + 1048576 ≤ reads new))
 
 -- A text was taken whole and the status is this one, or a write fault came and is the status.
 abbrev pub Tells : {O : Type 0} → (contents : O → Option (List ℕ)) → (failures idle : O → ℕ) → (old new : O) → List ℕ → (status answer : Status) → Type 0

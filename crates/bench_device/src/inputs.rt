@@ -8,13 +8,18 @@ use std::io::Read;
 use std::rt::Files;
 use std::{fs, io};
 
-/// A source that can turn to a file.
+/// A source that can turn to a file, and back to standard input.
 pub trait FileSource: ByteSource {
     /// From here on reads give this file's octets.
     fn open(&mut self, name: &str) -> Result<(), DeviceFailed>
         requires { Self.failures self.old < 2 ^ 64 - 1 }
         ensures reads { Self.reads self.new ≡ Self.reads self.old }
         ensures failures { Self.failures self.new ≡ failures_after result (Self.failures self.old) };
+
+    /// From here on reads give the octets of standard input that were not read yet.
+    fn standard(&mut self)
+        ensures reads { Self.reads self.new ≡ Self.reads self.old }
+        ensures failures { Self.failures self.new ≡ Self.failures self.old };
 }
 
 /// Standard input, or the file that was opened last.
@@ -57,5 +62,9 @@ impl<'r, R: Files, T: Read> FileSource for Counting<Inputs<'r, R, T>> {
                 Err(DeviceFailed)
             }
         }
+    }
+
+    fn standard(&mut self) {
+        self.device.file = None;
     }
 }

@@ -3,22 +3,32 @@ use Rattle.std.specs.Prelude.{◌≡◌, ◌≢◌, ◌⊎◌, List, [], option_
 use Rattle.clap.specs.Words.{Text}
 use Rattle.clap.specs.declared.error.kind.ErrorKind.{ErrorKind}
 use Rattle.clap.specs.declared.error.kind.ErrorKind.TheVariants.{DisplayHelp, DisplayVersion, OutOfMemory}
-use Rattle.dbench.specs.Words.{AreRefused, AskForText, file_of, word_faults}
+use Rattle.dbench.specs.Words.{AreRefused, AskForText, Wanted, Read, Walk, Names, Table, Nothing, wanted, word_faults}
+use Rattle.dbench.specs.declared.words.Task.{Task}
+use Rattle.dbench.specs.declared.words.Task.TheVariants as tasks
 use Rattle.dbench.specs.declared.words.Asked.{Asked}
 use Rattle.dbench.specs.declared.words.Asked.TheVariants as asked
 use Rattle.dbench.specs.declared.words.WordsError.{WordsError}
 use Rattle.dbench.specs.declared.words.WordsError.TheVariants as errors
 
--- `read` of a file where nothing is wrong, a text that is asked for, or a refusal where something is wrong
+-- what a command asks for
+abbrev pub meaning : Task → Wanted
+meaning (tasks.Read file) = Read (option_map (λ name. name.now) file)
+meaning (tasks.Walk table events) = Walk table.now (option_map (λ name. name.now) events)
+meaning tasks.Names = Names
+meaning (tasks.Table role) = Table role.now
+meaning tasks.Nothing = Nothing
+
+-- a command where nothing is wrong, a text that is asked for, or a refusal where something is wrong
 abbrev pub IsAsked : List Text → Result Asked WordsError → Type 0
-IsAsked words (Ok (asked.Read file)) = (word_faults words ≡ []) × (option_map (λ name. name.now) file ≡ file_of words)
+IsAsked words (Ok (asked.Task task)) = (word_faults words ≡ []) × (wanted words ≡ meaning task)
 IsAsked words (Ok (asked.Text text)) = AskForText words
 IsAsked words (Err errors.NoMemory) = Unit {0}
 IsAsked words (Err (errors.Refused text)) = AreRefused words
 
 -- what an error of a kind is answered with: the text that is asked for, or a refusal
 abbrev pub IsRefusal : ErrorKind → Result Asked WordsError → Type 0
-IsRefusal kind (Ok (asked.Read file)) = ⊥
+IsRefusal kind (Ok (asked.Task task)) = ⊥
 IsRefusal kind (Ok (asked.Text text)) = (kind ≡ DisplayHelp) ⊎ (kind ≡ DisplayVersion)
 IsRefusal kind (Err errors.NoMemory) = Unit {0}
 IsRefusal kind (Err (errors.Refused text)) = (kind ≢ DisplayHelp) × (kind ≢ DisplayVersion) × (kind ≢ OutOfMemory)

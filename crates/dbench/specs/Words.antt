@@ -1,11 +1,15 @@
--- Which words on the command line are understood, in the words of `clap`.
-use Rattle.std.specs.Prelude.{◌≢◌, ◌⊎◌, ℕ, List, Option, codes, true, option_and_then}
-use Rattle.clap.specs.Words.{App, IsAmong, Kinds, Text, fault_of, first_of, new_app, new_rule, subcommand_of, with_rule, with_subcommand}
+-- Which words on the command line are understood, in the words of `clap`, and what they ask for.
+use Rattle.std.specs.Prelude.{◌≢◌, ◌≡◌, ◌⊎◌, ℕ, Bool, true, false, List, Option, Some, None, codes, if◌then◌else◌}
+use Rattle.std.specs.Option.{option_map_or}
+use Rattle.std.specs.Str.{bytes_eq}
+use Rattle.clap.specs.Words.{App, IsAmong, Kinds, Row, Rule, Text, fault_of, first_of, new_app, new_rule, subcommand_of, with_rule, with_subcommand}
 use Rattle.clap.specs.Simple.{on_top}
+use Rattle.clap.specs.declared.builder.action.ArgAction.TheVariants.{SetTrue}
 use Rattle.clap.specs.declared.error.kind.ErrorKind.{ErrorKind}
 use Rattle.clap.specs.declared.error.kind.ErrorKind.TheVariants.{DisplayHelp, DisplayVersion}
 use Rattle.bench_device.specs.declared.status.Status.{Status}
 use Rattle.bench_device.specs.declared.status.Status.TheVariants as statuses
+use Rattle.role_tables.specs.Roles.{table_named}
 use Rattle.dbench.specs.declared.words.NoWords.{NoWords}
 use Rattle.dbench.specs.declared.words.NoWords.TheVariants as no_words
 
@@ -13,17 +17,61 @@ use Rattle.dbench.specs.declared.words.NoWords.TheVariants as no_words
 abbrev pub read_app : App
 read_app = with_rule (new_app (codes "read")) (new_rule (codes "FILE"))
 
+-- a flag and an option of `walk`
+abbrev pub names_rule : Rule
+names_rule = record (new_rule (codes "names")) { long = Some (codes "names"); action = Some SetTrue }
+
+abbrev pub table_rule : Rule
+table_rule = record (new_rule (codes "NAME")) { long = Some (codes "table") }
+
+-- TABLE and EVENTS of `walk`
+abbrev pub walk_inputs : App
+walk_inputs = with_rule (with_rule (new_app (codes "walk")) (new_rule (codes "TABLE"))) (new_rule (codes "EVENTS"))
+
+-- `walk`, with these, or `--names`, or `--table NAME`
+abbrev pub walk_app : App
+walk_app = with_rule (with_rule walk_inputs names_rule) table_rule
+
 -- `dbench`, with a version, of which a command is required
 abbrev pub dbench_app : App
-dbench_app = with_subcommand (on_top (λ s. record s { has_version = true; subcommand_required = true }) (new_app (codes "dbench"))) read_app.top
+dbench_app =
+    with_subcommand (with_subcommand (on_top (λ s. record s { has_version = true; subcommand_required = true }) (new_app (codes "dbench"))) read_app.top) walk_app.top
 
 -- what is wrong with the words, or which text they ask for; nothing where they are a command
 unfoldable pub word_faults : List Text → Kinds
 word_faults words = fault_of dbench_app words
 
--- the FILE that the words name
-unfoldable pub file_of : List Text → Option Text
-file_of words = option_and_then (λ used. first_of (codes "FILE") used.1) (subcommand_of dbench_app words)
+-- what a command asks for: messages of this file or of standard input; a walk of a table over events of a file or of
+-- standard input; the names that tables may use; the table of a role; or not one thing
+pub data Wanted : Type 0 where
+  Read : Option Text → Wanted
+  Walk : Text → Option Text → Wanted
+  Names : Wanted
+  Table : Text → Wanted
+  Nothing : Wanted
+
+-- what `walk` asks for: by its flag, NAME, TABLE and EVENTS
+abbrev pub walk_wanted : Bool → (role table events : Option Text) → Wanted
+walk_wanted true None None None = Names
+walk_wanted false (Some role) None None = Table role
+walk_wanted false None (Some table) events = Walk table events
+walk_wanted flag role table events = Nothing
+
+-- a flag that was given has this value
+abbrev pub is_given : Option Text → Bool
+is_given value = option_map_or (λ text. bytes_eq text (codes "true")) value false
+
+-- what a command asks for, by its name and what stands behind it
+abbrev pub wanted_of : Option (Text × List Row) → Wanted
+wanted_of None = Read None
+wanted_of (Some used) =
+    if bytes_eq used.0 (codes "walk")
+    then walk_wanted (is_given (first_of (codes "names") used.1)) (first_of (codes "NAME") used.1) (first_of (codes "TABLE") used.1) (first_of (codes "EVENTS") used.1)
+    else Read (first_of (codes "FILE") used.1)
+
+-- what the words ask for, where they are a command
+unfoldable pub wanted : List Text → Wanted
+wanted words = wanted_of (subcommand_of dbench_app words)
 
 -- the words ask for help or for the version
 abbrev pub AskForText : List Text → Type 0
@@ -35,6 +83,12 @@ pub record AreRefused (words : List Text) : Type 0 where
   pub among : IsAmong kind (word_faults words)
   pub no_help : kind ≢ DisplayHelp
   pub no_version : kind ≢ DisplayVersion
+
+-- a command that asks for not one thing, or for the table of a role that isn't there
+abbrev pub AsksInVain : Wanted → Type 0
+AsksInVain Nothing = Unit {0}
+AsksInVain (Table role) = table_named role ≡ None
+AsksInVain other = ⊥
 
 -- what is told where there are no words
 abbrev pub no_words_text : NoWords → List ℕ

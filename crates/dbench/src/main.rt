@@ -3,10 +3,12 @@
 //! | File | What it does |
 //! |---|---|
 //! | `words` | what the words on the command line ask for |
+//! | `walk` | the runs of `walk`, over callbacks that are made here |
 //! | `run` | one run, from words, an input and an output to a status |
 #![tactic(auto)]
 
 mod run;
+mod walk;
 mod words;
 
 use bench_device::{Counting, Inputs};

@@ -1,19 +1,20 @@
 //! One run of the program: from words, an input and an output to a status.
-ghost use Rattle.std.specs.Prelude.{◌≡◌, ◌≢◌, ◌⊎◌, ◌<◌, ◌≤◌, ◌+◌, ◌-◌, ◌^◌, [], None, map, max};
+ghost use Rattle.std.specs.Prelude.{◌≡◌, ◌≢◌, ◌⊎◌, ◌<◌, ◌≤◌, ◌+◌, ◌*◌, ◌-◌, ◌^◌, [], None, map, max, option_map};
 ghost use Rattle.std.specs.Io.KnownBytes.{IsAtEnd};
 ghost use Rattle.bench_device.specs.Devices.{IsRun, Tells};
 ghost use Rattle.msg_text.specs.Inputs.{IsReport};
-ghost use Rattle.dbench.specs.Words.{AreRefused, AskForText, file_of, no_words_status, no_words_text, word_faults};
+ghost use Rattle.dbench.specs.Asked.{meaning};
+ghost use Rattle.dbench.specs.Runs.{IsMet, ReadsMessages, TellsNoMemory};
+ghost use Rattle.dbench.specs.Words.{AreRefused, AskForText, AsksInVain, no_words_status, no_words_text, wanted, word_faults};
 
-use crate::words::{Asked, NoWords, WordsError, parse_words};
-use bench_device::{ByteSink, FileSource, MAX_IDLE_WRITES, Status, tell};
-use msg_text::{MAX_READS, read_on};
-use std::alloc::{AllocError, Global};
+use crate::walk::{tell_names, tell_table, walk};
+use crate::words::{Asked, NoWords, Task, WALK_USAGE, WordsError, parse_words};
+use bench_device::{
+    ByteSink, FileSource, MAX_IDLE_WRITES, MAX_READS, Status, tell, tell_not_opened,
+};
+use msg_text::read_on;
+use std::alloc::Global;
 use std::convert::AsStr;
-
-fn missing_text(alloc: Global, name: &str) -> Result<String, AllocError> {
-    format!(in alloc; "read fault: {name} can't be opened\n")
-}
 
 fn read_file<I: FileSource, O: ByteSink>(
     alloc: Global,
@@ -45,10 +46,7 @@ fn read_file<I: FileSource, O: ByteSink>(
     if source.open(name).is_ok() {
         return read_on(alloc, source, sink);
     }
-    match missing_text(alloc, name) {
-        Ok(text) => tell(sink, text.as_bytes(), Status::Fault),
-        Err(_) => tell(sink, b"read fault\n", Status::Fault),
-    }
+    tell_not_opened(alloc, name, sink)
 }
 
 /// Tells why there are no words: memory ran out, or they aren't understood since one of them isn't UTF-8.
@@ -64,6 +62,57 @@ pub(crate) fn tell_no_words<O: ByteSink>(why: NoWords, sink: &mut O) -> Status
     }
 }
 
+/// Reads messages of a file or of standard input.
+fn read<I: FileSource, O: ByteSink>(
+    alloc: Global,
+    file: Option<&str>,
+    source: &mut I,
+    sink: &mut O,
+) -> Status
+    requires reads { I.reads source.old + MAX_READS < 2 ^ 64 }
+    requires read_failures { I.failures source.old < 2 ^ 64 - 1 }
+    requires idle { O.idle sink.old ≡ 0 }
+    requires write_failures { O.failures sink.old < 2 ^ 64 - 1 }
+    ensures reads { I.reads source.new ≤ I.reads source.old + MAX_READS }
+    ensures row { O.most_idle sink.new ≤ max (O.most_idle sink.old) MAX_IDLE_WRITES }
+    ensures run { IsRun I.reads I.failures O.failures O.idle source.old source.new sink.old sink.new result }
+    ensures met { result ≢ Status.Fault
+        → ReadsMessages I.remaining I.reads O.contents (option_map (λ name. name.now) file.entry) source.old source.new sink.old sink.new result }
+    ensures words { result ≢ Status.Usage }
+{
+    match file {
+        None => read_on(alloc, source, sink),
+        Some(name) => read_file(alloc, name, source, sink),
+    }
+}
+
+/// Does what a command asks for.
+fn run<I: FileSource, O: ByteSink>(
+    alloc: Global,
+    task: Task<'_>,
+    source: &mut I,
+    sink: &mut O,
+) -> Status
+    requires reads { I.reads source.old + 2 * MAX_READS < 2 ^ 64 }
+    requires read_failures { I.failures source.old < 2 ^ 64 - 1 }
+    requires idle { O.idle sink.old ≡ 0 }
+    requires write_failures { O.failures sink.old < 2 ^ 64 - 1 }
+    ensures reads { I.reads source.new ≤ I.reads source.old + 2 * MAX_READS }
+    ensures row { O.most_idle sink.new ≤ max (O.most_idle sink.old) MAX_IDLE_WRITES }
+    ensures run { IsRun I.reads I.failures O.failures O.idle source.old source.new sink.old sink.new result }
+    ensures met { result ≢ Status.Fault
+        → IsMet I.remaining I.reads I.failures O.contents O.failures O.idle (meaning task.entry) source.old source.new sink.old sink.new result }
+    ensures usage { result ≡ Status.Usage → AsksInVain (meaning task.entry) × (source.new ≡ source.old) }
+{
+    match task {
+        Task::Read(file) => read(alloc, file, source, sink),
+        Task::Walk(table, events) => walk(alloc, table, events, source, sink),
+        Task::Names => tell_names(alloc, sink),
+        Task::Table(name) => tell_table(name, sink),
+        Task::Nothing => tell(sink, WALK_USAGE.as_bytes(), Status::Usage),
+    }
+}
+
 /// Runs the program: `words` are the command line's, the program's name first; `source` is standard input, and opens
 /// files; every text goes to `sink`.
 pub fn main_on<S: AsStr, I: FileSource, O: ByteSink>(
@@ -72,37 +121,35 @@ pub fn main_on<S: AsStr, I: FileSource, O: ByteSink>(
     source: &mut I,
     sink: &mut O,
 ) -> Status
-    requires reads { I.reads source.old + MAX_READS < 2 ^ 64 }
+    requires reads { I.reads source.old + 2 * MAX_READS < 2 ^ 64 }
     requires read_failures { I.failures source.old < 2 ^ 64 - 1 }
     requires idle { O.idle sink.old ≡ 0 }
     requires write_failures { O.failures sink.old < 2 ^ 64 - 1 }
 
-    // The bounds on reads, and on writes in a row that take nothing.
-    ensures reads { I.reads source.new ≤ I.reads source.old + MAX_READS }
+    // The bounds on reads, of which a walk has those of two inputs, and on writes in a row that take nothing.
+    ensures reads { I.reads source.new ≤ I.reads source.old + 2 * MAX_READS }
     ensures row { O.most_idle sink.new ≤ max (O.most_idle sink.old) MAX_IDLE_WRITES }
 
     // A fault comes only where a device failed or a bound was met, and a device's failure is told.
     ensures run { IsRun I.reads I.failures O.failures O.idle source.old source.new sink.old sink.new result }
 
-    // Words are refused only where something is wrong with them, and then nothing is read.
-    ensures usage { result ≡ Status.Usage → AreRefused (map S.text words.now) × (source.new ≡ source.old) }
+    // Words are refused only where something is wrong with them, or they ask for nothing that is there, and then nothing
+    // is read.
+    ensures usage { result ≡ Status.Usage
+        → (AreRefused (map S.text words.now) ⊎ ((word_faults (map S.text words.now) ≡ []) × AsksInVain (wanted (map S.text words.now))))
+        × (source.new ≡ source.old) }
 
-    // What was written out of an input is what the text that was read prints, its messages in order and then its end;
-    // without a FILE it is that of `source`.
-    ensures report { result ≢ Status.Fault → word_faults (map S.text words.now) ≡ [] → (start : I) × (I.reads start ≡ I.reads source.old)
-        × (file_of (map S.text words.now) ≡ None → start ≡ source.old)
-        × IsReport I.remaining O.contents start source.new sink.old sink.new result }
+    // Where the words are a command, what it asks for is done, or there is no memory to understand them.
+    ensures met { result ≢ Status.Fault → word_faults (map S.text words.now) ≡ []
+        → IsMet I.remaining I.reads I.failures O.contents O.failures O.idle (wanted (map S.text words.now)) source.old source.new sink.old sink.new result
+        ⊎ ((source.new ≡ source.old) × TellsNoMemory O.contents O.failures O.idle sink.old sink.new result) }
 
-    // It is done only where they ask for a text, or are a command and nothing is left to read; input is
-    // refused only where they are a command and something was read.
-    ensures done { result ≡ Status.Done → AskForText (map S.text words.now)
-        ⊎ ((word_faults (map S.text words.now) ≡ []) × IsAtEnd (I.remaining source.new)) }
-    ensures refused { result ≡ Status.Refused → (word_faults (map S.text words.now) ≡ [])
-        × (I.reads source.old < I.reads source.new) }
+    // It is done only where they ask for a text or are a command; input is refused only where they are a command.
+    ensures done { result ≡ Status.Done → AskForText (map S.text words.now) ⊎ (word_faults (map S.text words.now) ≡ []) }
+    ensures refused { result ≡ Status.Refused → word_faults (map S.text words.now) ≡ [] }
 {
     match parse_words(alloc, words) {
-        Ok(Asked::Read(None)) => read_on(alloc, source, sink),
-        Ok(Asked::Read(Some(name))) => read_file(alloc, name, source, sink),
+        Ok(Asked::Task(task)) => run(alloc, task, source, sink),
         Ok(Asked::Text(text)) => tell(sink, text.as_bytes(), Status::Done),
         Err(WordsError::Refused(text)) => tell(sink, text.as_bytes(), Status::Usage),
         Err(WordsError::NoMemory) => tell(sink, b"no memory\n", Status::NoMemory),

@@ -1,6 +1,7 @@
 //! What words ask for, over a reader and a writer in memory.
 use crate::run::main_on;
 use bench_device::{Counting, Inputs};
+use role_tables::PEER_TABLE;
 use std::test::Fail;
 
 /// The status and the text of a run over a standard input that holds no digits.
@@ -29,6 +30,43 @@ fn words_ask_for_a_text_or_an_input_or_are_refused(rt: HostRuntime) -> Result<()
         (["dbench", "run"].as_slice(), 2, "Usage: dbench"),
         (["dbench", "read", "a", "b"].as_slice(), 2, "Usage: dbench"),
         (["dbench", "read", "--fast"].as_slice(), 2, "Usage: dbench"),
+        (["dbench", "walk", "--help"].as_slice(), 0, "KIND N=V .."),
+        (
+            ["dbench", "walk", "--names"].as_slice(),
+            0,
+            "R-Reject: Close(0, f1)",
+        ),
+        (
+            ["dbench", "walk", "--table", "peer"].as_slice(),
+            0,
+            PEER_TABLE,
+        ),
+        (
+            ["dbench", "walk", "--table", "x"].as_slice(),
+            2,
+            "wanted the name of a shipped table: peer, client or server\n",
+        ),
+        (["dbench", "walk"].as_slice(), 2, "wanted one of"),
+        (
+            ["dbench", "walk", "--names", "x"].as_slice(),
+            2,
+            "wanted one of",
+        ),
+        (
+            ["dbench", "walk", "--names", "--table", "peer"].as_slice(),
+            2,
+            "wanted one of",
+        ),
+        (
+            ["dbench", "walk", "a", "b", "c"].as_slice(),
+            2,
+            "Usage: dbench",
+        ),
+        (
+            ["dbench", "walk", "no/such.tbl"].as_slice(),
+            3,
+            "read fault: no/such.tbl can't be opened\n",
+        ),
     ] {
         let (code, text) = run(&rt, words)?;
         assert!(rt; code == status, "{text}");

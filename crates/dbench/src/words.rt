@@ -1,13 +1,13 @@
 //! The words on the command line.
-ghost use Rattle.std.specs.Prelude.{◌≡◌, IfOk, false, map};
-ghost use Rattle.clap.specs.Words.{app_of, kind_of};
+ghost use Rattle.std.specs.Prelude.{◌≡◌, IfOk, Some, false, map, option_map};
+ghost use Rattle.clap.specs.Words.{app_of, first_of, found_of, kind_of, rows_of, rule_of, with_rule};
 ghost use Rattle.clap.specs.declared.builder.command.Command.TheViews.{out-Command};
 ghost use Rattle.dbench.specs.declared.words.WordsError.TheVariants.{NoMemory};
-ghost use Rattle.dbench.specs.Words.{dbench_app, read_app};
-ghost use Rattle.dbench.specs.Asked.{IsAsked, IsRefusal};
+ghost use Rattle.dbench.specs.Words.{dbench_app, is_given, names_rule, read_app, table_rule, walk_app, walk_inputs, walk_wanted, wanted_of};
+ghost use Rattle.dbench.specs.Asked.{IsAsked, IsRefusal, meaning};
 
 use clap::error::ErrorKind;
-use clap::{Arg, Command, Error};
+use clap::{Arg, ArgAction, ArgMatches, Command, Error};
 use std::alloc::{AllocError, AllocFailed, AllocGlobal, Global};
 use std::convert::AsStr;
 use std::env::Env;
@@ -39,11 +39,25 @@ pub(crate) fn given_words<R: Env + AllocGlobal>(rt: &R) -> Result<Vec<String>, N
     }
 }
 
+/// What a command asks for.
+#[derive(Clone, Copy, Debug)]
+pub(crate) enum Task<'a> {
+    /// `read`, of this file or of standard input.
+    Read(Option<&'a str>),
+    /// `walk`, of this table, over the events of this file or of standard input.
+    Walk(&'a str, Option<&'a str>),
+    /// The names that tables may use.
+    Names,
+    /// The table of the role of that name.
+    Table(&'a str),
+    /// Not one thing.
+    Nothing,
+}
+
 /// What the words ask for.
 #[derive(Debug, Drop)]
 pub(crate) enum Asked<'a> {
-    /// `read`, of this file or of standard input.
-    Read(Option<&'a str>),
+    Task(Task<'a>),
     /// A text: help or the version.
     Text(String),
 }
@@ -87,6 +101,38 @@ isn't 1, 2: the length is below 20, no multiple of 4 or over 4096) and at `bad h
   echo 0100001480000118000000000000000100000001 | dbench read
   dbench read examples/dwr.hex";
 
+const WALK_ABOUT: &str = "Step a state table over events and print each step";
+
+const WALK_LONG_ABOUT: &str = "\
+Step a state table over events and print each step.
+
+Reads TABLE, whose columns are State, Event, Action and Next, and then the events to their end. The machine starts in
+the first state of the table with all registers 0. Each event prints a line `KIND FROM TO row N` (rows count from 0;
+`row -` where no row takes the event, whose one deed is then Unlisted), and under it a line for each deed.
+
+A line of events is KIND N=V ..: a kind that `--names` lists, and then facts, number and value in decimal, each number
+(0 to 63) at most once; facts that aren't given are 0. Lines that are empty or begin with a blank are skipped, so a
+printed walk may be handed in again once ` FROM TO row N` is cut off.
+
+  dbench walk --table peer > peer.tbl
+  echo 'Start' | dbench walk peer.tbl
+  dbench walk peer.tbl election.events
+
+Nothing is stepped where something is wrong. `line N fault C` is the first fault of the table, `unbound NAME` a name
+of the table that `--names` doesn't list, `bad line N` the first line of events that is none, from 1; the line below
+says what was wanted.";
+
+/// What is told where `walk` asks for not one thing.
+pub(crate) const WALK_USAGE: &str = "\
+wanted one of: a TABLE, --names, --table NAME
+
+Usage: dbench walk TABLE [EVENTS]
+       dbench walk --names
+       dbench walk --table NAME
+
+For more information, try '--help'.
+";
+
 const STATUSES: &str = "\
 Exit status:
   0  done
@@ -107,6 +153,55 @@ fn read_command<'a>(alloc: Global) -> Result<Command<'a>, AllocError>
         .arg(file)
 }
 
+fn walk_inputs<'a>(alloc: Global) -> Result<Command<'a>, AllocError>
+    ensures app { IfOk result (λ c. app_of c ≡ walk_inputs) }
+    ensures local { IfOk result (λ c. (out-Command c).has_globals ≡ false) }
+{
+    let table = Arg::new(alloc, "TABLE").help("The file of the table");
+    let events = Arg::new(alloc, "EVENTS").help(
+        "The file of the events; without it, standard input",
+    );
+    Command::new(alloc, "walk").arg(table)?.arg(events)
+}
+
+fn names_flag<'a>(alloc: Global) -> Arg<'a>
+    ensures rule { rule_of result ≡ names_rule }
+    ensures local { result.global ≡ false }
+{
+    Arg::new(alloc, "names")
+        .long("names")
+        .action(ArgAction::SetTrue)
+        .help("Print the kinds, guards and actions that a table may name, with their laws")
+}
+
+fn table_option<'a>(alloc: Global) -> Arg<'a>
+    ensures rule { rule_of result ≡ table_rule }
+    ensures local { result.global ≡ false }
+{
+    Arg::new(alloc, "NAME").long("table").help(
+        "Print the shipped table of that name: peer, client or server",
+    )
+}
+
+fn walk_options<'a>(alloc: Global, command: Command<'a>) -> Result<Command<'a>, AllocError>
+    requires { (out-Command command).has_globals ≡ false }
+    ensures app { IfOk result (λ c. app_of c ≡ with_rule (with_rule (app_of command.entry) names_rule) table_rule) }
+    ensures local { IfOk result (λ c. (out-Command c).has_globals ≡ false) }
+{
+    command.arg(names_flag(alloc))?.arg(table_option(alloc))
+}
+
+fn walk_command<'a>(alloc: Global) -> Result<Command<'a>, AllocError>
+    ensures app { IfOk result (λ c. app_of c ≡ walk_app) }
+    ensures local { IfOk result (λ c. (out-Command c).has_globals ≡ false) }
+{
+    let command = walk_inputs(alloc)?
+        .about(WALK_ABOUT)
+        .long_about(WALK_LONG_ABOUT)
+        .after_help(STATUSES);
+    walk_options(alloc, command)
+}
+
 fn command<'a>(alloc: Global) -> Result<Command<'a>, AllocError>
     ensures { IfOk result (λ c. app_of c ≡ dbench_app) }
 {
@@ -115,7 +210,8 @@ fn command<'a>(alloc: Global) -> Result<Command<'a>, AllocError>
         .about(ABOUT)
         .after_help(STATUSES)
         .subcommand_required(true)
-        .subcommand(read_command(alloc)?)
+        .subcommand(read_command(alloc)?)?
+        .subcommand(walk_command(alloc)?)
 }
 
 // The text of an error is asked for, or tells what is wrong with the words.
@@ -131,6 +227,58 @@ fn refusal<'a>(alloc: Global, error: &Error) -> Result<Asked<'a>, WordsError>
     }
 }
 
+/// Whether a flag has the value of one that was given.
+fn is_given(value: Option<&str>) -> bool
+    ensures { result ≡ is_given (option_map (λ text. text.now) value.entry) }
+{
+    match value {
+        Some(text) => text == "true",
+        None => false,
+    }
+}
+
+/// What `walk` asks for, by its flag, NAME, TABLE and EVENTS.
+fn walk_task<'a>(
+    names: bool,
+    role: Option<&'a str>,
+    table: Option<&'a str>,
+    events: Option<&'a str>,
+) -> Task<'a>
+    ensures { meaning result ≡ walk_wanted names (option_map (λ text. text.now) role.entry) (option_map (λ text. text.now) table.entry) (option_map (λ text. text.now) events.entry) }
+{
+    match (names, role, table, events) {
+        (true, None, None, None) => Task::Names,
+        (false, Some(role), None, None) => Task::Table(role),
+        (false, None, Some(table), _) => Task::Walk(table, events),
+        _ => Task::Nothing,
+    }
+}
+
+/// The value of an argument, if it has one.
+fn value_of<'a>(found: &ArgMatches<'a>, id: &str) -> Option<&'a str>
+    ensures { option_map (λ text. text.now) result ≡ first_of id.now (rows_of (found_of found.now)) }
+{
+    found.get_str(id)
+}
+
+/// What a command asks for, by its name and what stands behind it.
+fn task_of<'a>(name: &str, found: &ArgMatches<'a>) -> Task<'a>
+    ensures { meaning result ≡ wanted_of (Some (name.now, rows_of (found_of found.now))) }
+{
+    if name == "walk" {
+        let names = is_given(value_of(found, "names"));
+        let role = value_of(found, "NAME");
+        walk_task(
+            names,
+            role,
+            value_of(found, "TABLE"),
+            value_of(found, "EVENTS"),
+        )
+    } else {
+        Task::Read(value_of(found, "FILE"))
+    }
+}
+
 /// What the words ask for; the first of them is the program's name.
 pub(crate) fn parse_words<'a, S: AsStr>(
     alloc: Global,
@@ -143,7 +291,7 @@ pub(crate) fn parse_words<'a, S: AsStr>(
         Err(error) => return refusal(alloc, &error),
     };
     match matches.subcommand() {
-        Some((_, read)) => Ok(Asked::Read(read.get_str("FILE"))),
-        None => Ok(Asked::Read(None)),
+        Some((name, found)) => Ok(Asked::Task(task_of(name, found))),
+        None => Ok(Asked::Task(Task::Read(None))),
     }
 }

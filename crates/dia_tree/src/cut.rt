@@ -8,14 +8,15 @@ ghost use Rattle.dia_tree.specs.Faults.{cut_avp as cut_header};
 use byteorder::{BigEndian, ByteOrder};
 use dia_avp::AvpView;
 
-fn octet_at(octets: &[u8], place: usize) -> u8
+/// The octet at a place, 0 where it is missing.
+pub fn octet_at(octets: &[u8], place: usize) -> u8
     ensures { result ≡ slice_index octets.now place }
 {
     octets.get(place).copied().unwrap_or(0)
 }
 
-/// The number that the four octets from a place on are.
-pub(crate) fn number_at(octets: &[u8], place: usize) -> u32
+/// The number that the four octets from a place on are; octets that are missing count as zero.
+pub fn number_at(octets: &[u8], place: usize) -> u32
     requires { place ≤ 8 }
     ensures { result ≡ big_number 4 (drop place octets.now) }
 {
@@ -28,7 +29,7 @@ pub(crate) fn number_at(octets: &[u8], place: usize) -> u32
 }
 
 /// The header of an AVP that may be cut off, without data.
-pub(crate) fn cut_avp<'a>(octets: &[u8]) -> AvpView<'a>
+pub fn cut_avp<'a>(octets: &[u8]) -> AvpView<'a>
     ensures { seen result ≡ cut_header octets.now }
 {
     let flags = octet_at(octets, 4);

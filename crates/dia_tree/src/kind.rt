@@ -14,7 +14,7 @@ pub(crate) fn is_group(kind: AvpKind) -> bool
 }
 
 /// Whether an AVP is a group by the dictionary.
-pub(crate) fn is_grouped(dictionary: &Dictionary, avp: &AvpView<'_>) -> bool
+pub fn is_grouped(dictionary: &Dictionary, avp: &AvpView<'_>) -> bool
     ensures { let a = seen avp.now in result ≡ is_grouped (definition_of (known dictionary.now) a.code a.vendor) }
 {
     match dictionary.find(avp.code, avp.vendor) {

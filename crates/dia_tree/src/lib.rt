@@ -21,5 +21,7 @@ mod zeros;
 
 pub use canonical::{canonical_avp, group_list};
 pub use check::{NoRoom, survey};
+pub use cut::{cut_avp, number_at, octet_at};
 pub use fault::{FaultView, MsgFault};
+pub use kind::is_grouped;
 pub use zeros::missing_fault;

@@ -11,8 +11,8 @@ use Rattle.dia_write.specs.declared.answer.Identity.{Identity}
 use Rattle.dia_command.specs.declared.typed.TypedAvp.{TypedAvp}
 
 -- a value that this node writes: with flag M, without P
-abbrev pub made_here : {T : Type 0} → T → TypedAvp T
-made_here value = record { mandatory = true; protected = false; value = value }
+abbrev pub made : {T : Type 0} → T → TypedAvp T
+made value = record { mandatory = true; protected = false; value = value }
 
 -- the header of an answer: the request's, with R and T clear, and E where the Result-Code is a protocol error, 3xxx
 abbrev pub answer_header : Header → ℕ → Header
@@ -29,10 +29,10 @@ answer_header request code = record {
 abbrev pub answer_to : Identity → Header → Option (List ℕ) → MsgFault → Command
 answer_to identity request session fault = ErrorAnswer (record {
   header = answer_header request (number_of fault.result);
-  session_id = option_map made_here session;
-  origin_host = made_here identity.host;
-  origin_realm = made_here identity.realm;
-  result_code = made_here (number_of fault.result);
-  failed_avp = option_map (λ a. made_here (encoded a)) fault.failed;
+  session_id = option_map made session;
+  origin_host = made identity.host;
+  origin_realm = made identity.realm;
+  result_code = made (number_of fault.result);
+  failed_avp = option_map (λ a. made (encoded a)) fault.failed;
   rest = [];
 })

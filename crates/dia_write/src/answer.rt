@@ -3,7 +3,7 @@
 ghost use Rattle.std.specs.Prelude.{◌≡◌, ◌≤◌, ◌^◌, ◌↔◌, IfOk, IsErrOf, IsSomeAnd};
 ghost use Rattle.std.specs.Option.{option_map, option_copied};
 ghost use Rattle.dia_avp.specs.Encoding.{length_of, encoded};
-ghost use Rattle.dia_write.specs.Answer.{made_here, answer_header, answer_to};
+ghost use Rattle.dia_write.specs.Answer.{made, answer_header, answer_to};
 
 use dia_avp::{Avp, AvpList, Octets, WriteError, write_avp};
 use dia_command::{Command, ErrorAnswer, Flags, Header, Text, TypedAvp};
@@ -18,8 +18,9 @@ pub struct Identity {
     pub address: [u8; 4],
 }
 
-fn made_here<T>(value: T) -> TypedAvp<T>
-    ensures { result ≡ made_here value }
+/// The value of an AVP that this node makes: with flag M, without P (RFC 6733 section 4.1).
+pub fn made<T>(value: T) -> TypedAvp<T>
+    ensures { result ≡ made value }
 {
     TypedAvp {
         mandatory: true,
@@ -55,21 +56,21 @@ fn failed_value(alloc: Global, avp: &Avp) -> Result<Octets, WriteError>
 }
 
 fn failed_field(alloc: Global, failed: &Option<Avp>) -> Result<Option<TypedAvp<Octets>>, WriteError>
-    ensures value { IfOk result (λ f. f ≡ option_map (λ a. made_here (encoded a)) failed.now) }
+    ensures value { IfOk result (λ f. f ≡ option_map (λ a. made (encoded a)) failed.now) }
     ensures too_long { IsErrOf result WriteError.LengthOver24Bits ↔ IsSomeAnd failed.now (λ a. 2 ^ 24 ≤ length_of a) }
 {
     match failed {
         None => Ok(None),
-        Some(avp) => Ok(Some(made_here(failed_value(alloc, avp)?))),
+        Some(avp) => Ok(Some(made(failed_value(alloc, avp)?))),
     }
 }
 
 fn session_field(alloc: Global, session: Option<&str>) -> Result<Option<TypedAvp<Text>>, AllocError>
-    ensures { IfOk result (λ s. s ≡ option_map made_here (option_copied session.entry)) }
+    ensures { IfOk result (λ s. s ≡ option_map made (option_copied session.entry)) }
 {
     match session {
         None => Ok(None),
-        Some(text) => Ok(Some(made_here(Text::from_str(alloc, text)?))),
+        Some(text) => Ok(Some(made(Text::from_str(alloc, text)?))),
     }
 }
 
@@ -95,9 +96,9 @@ pub fn error_answer(
     Ok(Command::ErrorAnswer(ErrorAnswer {
         header: answer_header(header, code),
         session_id,
-        origin_host: made_here(identity.host.copy(alloc)?),
-        origin_realm: made_here(identity.realm.copy(alloc)?),
-        result_code: made_here(code),
+        origin_host: made(identity.host.copy(alloc)?),
+        origin_realm: made(identity.realm.copy(alloc)?),
+        result_code: made(code),
         failed_avp,
         rest: AvpList::new(alloc),
     }))

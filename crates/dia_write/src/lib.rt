@@ -11,5 +11,5 @@ mod answer;
 mod values;
 mod write;
 
-pub use answer::{Identity, error_answer};
+pub use answer::{Identity, error_answer, made};
 pub use write::write_message;

@@ -60,7 +60,8 @@ taken_after remaining reads read_failures write_failures idle source source' sin
 taken_after remaining reads read_failures write_failures idle source source' sink sink' ReadFailed refused status ends written is =
     IsRun-read _ _ _ _ _ _ _ _ _ (inl ends) written is
 taken_after remaining reads read_failures write_failures idle source source' sink sink' TooManyReads refused status ends written is =
-    IsRun-read _ _ _ _ _ _ _ _ _ (inr ends) written is
+    let made = ends.1 in
+    IsRun-read _ _ _ _ _ _ _ _ _ (inr (ends.0, omega arith)) written is
 
 -- a source's end has one failure at most
 read_once : {I : Type 0} (remaining : I → Option (List ℕ)) (reads failures : I → ℕ) (source source' : I) (end : End)

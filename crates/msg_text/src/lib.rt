@@ -7,6 +7,6 @@ mod reading;
 mod report;
 mod show;
 
-pub use read::{MAX_READS, read_on};
+pub use read::read_on;
 pub use report::Report;
 pub use show::{put_fault, put_message};

@@ -8,11 +8,10 @@ ghost use Rattle.msg_text.specs.Readings.{IsPoured, SoFar};
 
 use crate::ends::End;
 use crate::reading::Reading;
-use bench_device::{ByteSink, ByteSource, MAX_IDLE_WRITES, Status, WriteFault, tell, write_whole};
+use bench_device::{
+    ByteSink, ByteSource, MAX_IDLE_WRITES, MAX_READS, Status, WriteFault, tell, write_whole,
+};
 use std::alloc::Global;
-
-/// How many reads an input may take to its end.
-pub const MAX_READS: u64 = 1_048_576;
 
 /// How many characters are read at once.
 const TEXT: usize = 65_536;

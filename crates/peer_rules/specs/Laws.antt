@@ -4,7 +4,6 @@ use Rattle.std.specs.List.{range_with_len}
 use Rattle.base_codes.specs.declared.deed_code.DeedCode.{DeedCode}
 use Rattle.base_codes.specs.declared.deed_code.DeedCode.TheVariants.{ToSession, SndCer, SndCea, SndDwa, SndDpr, SndDpa, SndMsg}
 use Rattle.base_codes.specs.declared.deed_code.DeedCode.TheVariants as deeds
-use Rattle.base_codes.specs.DeedCodes.{number_of}
 use Rattle.base_codes.specs.declared.peer_register.TheConstants as r
 use Rattle.base_codes.specs.declared.peer_fact.TheConstants as f
 use Rattle.base_codes.specs.declared.slot.TheConstants.{FIRST, MAX_SLOTS, SIZE}
@@ -12,22 +11,9 @@ use Rattle.base_list.specs.declared.named.Named.{Named}
 use Rattle.tab_law.specs.Books.{Laws}
 use Rattle.tab_law.specs.declared.law.Atom.{Atom}
 use Rattle.tab_law.specs.declared.law.Atom.TheVariants.{Constant, Register, Fact, NewRegister}
-use Rattle.tab_law.specs.declared.law.Term.TheVariants.{Just, Sum}
 use Rattle.tab_law.specs.declared.law.Change.{Change}
-use Rattle.tab_law.specs.declared.law.Change.TheVariants.{Set, Emit}
+use Rattle.role_lines.specs.Lines.{set, next, deed, act}
 use Rattle.peer_rules.specs.Kinds.{kinds}
-
--- a register becomes this
-abbrev pub set : ℕ → Atom → Change
-set register atom = Set register (Just atom)
-
--- a register becomes one more
-abbrev pub next : ℕ → Change
-next register = Set register (Sum (Register register) (Constant 1))
-
--- a deed with these arguments
-abbrev pub deed : DeedCode → List Atom → Change
-deed code arguments = Emit (number_of code) (map Just arguments)
 
 -- the timer fires after 30 ticks, or is stopped: either way with a new generation
 abbrev pub arm : Change
@@ -66,10 +52,6 @@ forwarded line n = if n == f.LINE then line else Fact n
 -- an event's message goes on: all its facts, those of groups too, with this in place of the line
 abbrev pub forward : DeedCode → Atom → Change
 forward code line = deed code (map (forwarded line) (range_with_len 0 (FIRST + MAX_SLOTS * SIZE)))
-
--- an action under its name
-abbrev pub act : List ℕ → List Change → Named (List Change)
-act name changes = record { name = name; value = changes }
 
 -- the actions, in the order of their first appearance in the table
 abbrev pub acts : List (Named (List Change))

@@ -46,30 +46,30 @@ pub enum PeerKind {
     RRcvDpa,
 }
 
-/// All of them.
-pub(crate) const KINDS: [PeerKind; 22] = [
-    PeerKind::Start,
-    PeerKind::RConnCer,
-    PeerKind::IRcvConnAck,
-    PeerKind::IRcvConnNack,
-    PeerKind::Timeout,
-    PeerKind::IRcvCea,
-    PeerKind::IPeerDisc,
-    PeerKind::IRcvNonCea,
-    PeerKind::RPeerDisc,
-    PeerKind::WinElection,
-    PeerKind::SendMessage,
-    PeerKind::RRcvMessage,
-    PeerKind::RRcvDwr,
-    PeerKind::RRcvDwa,
-    PeerKind::Stop,
-    PeerKind::RRcvDpr,
-    PeerKind::IRcvMessage,
-    PeerKind::IRcvDwr,
-    PeerKind::IRcvDwa,
-    PeerKind::IRcvDpr,
-    PeerKind::IRcvDpa,
-    PeerKind::RRcvDpa,
+/// Their names.
+pub(crate) const NAMES: [&str; 22] = [
+    "Start",
+    "R-Conn-CER",
+    "I-Rcv-Conn-Ack",
+    "I-Rcv-Conn-Nack",
+    "Timeout",
+    "I-Rcv-CEA",
+    "I-Peer-Disc",
+    "I-Rcv-Non-CEA",
+    "R-Peer-Disc",
+    "Win-Election",
+    "Send-Message",
+    "R-Rcv-Message",
+    "R-Rcv-DWR",
+    "R-Rcv-DWA",
+    "Stop",
+    "R-Rcv-DPR",
+    "I-Rcv-Message",
+    "I-Rcv-DWR",
+    "I-Rcv-DWA",
+    "I-Rcv-DPR",
+    "I-Rcv-DPA",
+    "R-Rcv-DPA",
 ];
 
 impl PeerKind {
@@ -77,30 +77,7 @@ impl PeerKind {
     pub fn name(self) -> &'static str
         ensures { result.now ≡ name_of self }
     {
-        match self {
-            PeerKind::Start => "Start",
-            PeerKind::RConnCer => "R-Conn-CER",
-            PeerKind::IRcvConnAck => "I-Rcv-Conn-Ack",
-            PeerKind::IRcvConnNack => "I-Rcv-Conn-Nack",
-            PeerKind::Timeout => "Timeout",
-            PeerKind::IRcvCea => "I-Rcv-CEA",
-            PeerKind::IPeerDisc => "I-Peer-Disc",
-            PeerKind::IRcvNonCea => "I-Rcv-Non-CEA",
-            PeerKind::RPeerDisc => "R-Peer-Disc",
-            PeerKind::WinElection => "Win-Election",
-            PeerKind::SendMessage => "Send-Message",
-            PeerKind::RRcvMessage => "R-Rcv-Message",
-            PeerKind::RRcvDwr => "R-Rcv-DWR",
-            PeerKind::RRcvDwa => "R-Rcv-DWA",
-            PeerKind::Stop => "Stop",
-            PeerKind::RRcvDpr => "R-Rcv-DPR",
-            PeerKind::IRcvMessage => "I-Rcv-Message",
-            PeerKind::IRcvDwr => "I-Rcv-DWR",
-            PeerKind::IRcvDwa => "I-Rcv-DWA",
-            PeerKind::IRcvDpr => "I-Rcv-DPR",
-            PeerKind::IRcvDpa => "I-Rcv-DPA",
-            PeerKind::RRcvDpa => "R-Rcv-DPA",
-        }
+        NAMES[self as usize]
     }
 
     /// Its place in the kinds of a peer's laws.

@@ -1,51 +1,23 @@
 //! The laws of a peer's machine, and a registry that takes them.
 
-ghost use Rattle.std.specs.Prelude.{◌≡◌, ◌∷◌, [], IfOk, OnOk, OnErr};
+ghost use Rattle.std.specs.Prelude.{◌≡◌, IfOk, OnOk, OnErr};
 ghost use Rattle.tab_role.specs.Roles.{joined};
-ghost use Rattle.peer_rules.specs.Kinds.{kinds};
-ghost use Rattle.peer_rules.specs.Laws.{peer_laws, acts};
-ghost use Rattle.peer_rules.specs.Registering.{IsToldOf};
+ghost use Rattle.role_lines.specs.Registering.{IsToldOf};
+ghost use Rattle.peer_rules.specs.Laws.{peer_laws};
 
-use crate::kind::KINDS;
-use crate::lines::{ACTS, law_of};
-use base_list::AddError;
+use crate::kind::NAMES;
+use crate::lines::ACTS;
+use role_lines::laws_of;
 use std::alloc::{AllocError, Global};
 use tab_law::LawBook;
 use tab_role::{RegisterError, TakesRoles};
-
-/// Adds the kinds of events.
-fn add_kinds(book: &mut LawBook) -> Result<(), AddError>
-    requires { book.old.kinds ≡ [] }
-    ensures { OnOk result (book.new ≡ record book.old { kinds = kinds }) }
-{
-    for kind in KINDS {
-        book.add_kind(kind.name().as_bytes())?;
-    }
-    Ok(())
-}
-
-/// Adds the actions.
-fn add_acts(alloc: Global, book: &mut LawBook) -> Result<(), AddError>
-    requires { book.old.acts ≡ [] }
-    ensures { OnOk result (book.new ≡ record book.old { acts = acts }) }
-{
-    for (name, steps) in ACTS {
-        book.add_act(name.as_bytes(), law_of(alloc, steps)?)?;
-    }
-    Ok(())
-}
 
 /// The kinds of events of a peer's machine and the laws of its actions, in the order of their first appearance in the table
 /// (RFC 6733 section 5.6). It has no guards.
 pub fn peer_laws(alloc: Global) -> Result<LawBook, AllocError>
     ensures { IfOk result (λ book. book ≡ peer_laws) }
 {
-    let mut book = LawBook::new(alloc);
-    // No name is there twice and there is room for all, so what an addition lacks is memory.
-    if add_kinds(&mut book).is_err() || add_acts(alloc, &mut book).is_err() {
-        return Err(AllocError);
-    }
-    Ok(book)
+    laws_of(alloc, &NAMES, &[], &ACTS)
 }
 
 /// Adds the role of a peer's machine to a registry, with the callbacks of its laws in their order, all or none. Want of

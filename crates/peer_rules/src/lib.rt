@@ -20,8 +20,9 @@ mod laws;
 mod lines;
 mod message;
 
+pub use deed_message::Names;
 pub use election::elect;
 pub use event::{Side, peer_event};
 pub use kind::PeerKind;
 pub use laws::{peer_laws, register_peer};
-pub use message::{Names, peer_message};
+pub use message::peer_message;

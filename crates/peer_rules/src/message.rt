@@ -2,25 +2,20 @@
 
 ghost use Rattle.std.specs.Prelude.{◌≡◌, ◌∷◌, [], Some, IfOk, slice_index};
 ghost use Rattle.base_codes.specs.declared.deed_code.DeedCode.TheVariants.{SndCer, SndCea, SndDwa, SndDpr, SndDpa};
-ghost use Rattle.peer_rules.specs.Messages.{made, header, lowest, identifier, request_header, answer_header, address_of, product_name, message_by, message_of};
+ghost use Rattle.deed_message.specs.Headers.{lowest};
+ghost use Rattle.dia_write.specs.Answer.{made};
+ghost use Rattle.peer_rules.specs.Messages.{request_by, answer_by, address_of, product_name, message_by, message_of};
 
 use base_codes::{CommandCode, DeedCode};
+use deed_message::{Names, answer_header, lowest, made, made_copy, request_header};
 use dia_avp::{AvpList, Octets};
 use dia_command::{
     CapabilitiesExchangeAnswer, CapabilitiesExchangeRequest, Command, DeviceWatchdogAnswer,
-    DisconnectPeerAnswer, DisconnectPeerRequest, Flags, Header, Text, TypedAvp, TypedAvps,
+    DisconnectPeerAnswer, DisconnectPeerRequest, Header, Text, TypedAvp, TypedAvps,
 };
 use dia_write::Identity;
 use std::alloc::{AllocError, Global};
 use tab_law::Deed;
-
-/// What the messages of a machine say of names: who this node is, and the Session-Id of the machine, empty where it has
-/// none.
-#[derive(Clone, Copy)]
-pub struct Names<'a> {
-    pub identity: &'a Identity,
-    pub session: &'a [u8],
-}
 
 /// What a CER tells of this node (RFC 6733 section 5.3.1).
 const PRODUCT: &str = "dbench";
@@ -33,61 +28,18 @@ const APPLICATION: u32 = 4;
 /// REBOOTING (RFC 6733 section 5.4.3).
 const CAUSE: u32 = 0;
 
-fn made<T>(value: T) -> TypedAvp<T>
-    ensures { result ≡ made value }
-{
-    TypedAvp {
-        mandatory: true,
-        protected: false,
-        value,
-    }
-}
-
-fn header(request: bool, command: CommandCode, hop_by_hop: u32, end_to_end: u32) -> Header
-    ensures { result ≡ header request command hop_by_hop end_to_end }
-{
-    Header {
-        length: 0,
-        flags: Flags {
-            request,
-            proxiable: false,
-            error: false,
-            retransmitted: false,
-        },
-        command: command.number(),
-        application: 0,
-        hop_by_hop,
-        end_to_end,
-    }
-}
-
-/// The lowest 32 bits.
-fn lowest(number: u64) -> u32
-    ensures { result ≡ lowest number }
-{
-    (number % 0x1_0000_0000) as u32
-}
-
-/// The identifier of a request, by its machine's number and the count of its requests.
-fn identifier(machine: u64, count: u64) -> u32
-    ensures { result ≡ identifier machine count }
-{
-    (machine % 0x1_0000 * 0x1_0000 + count % 0x1_0000) as u32
-}
-
-fn request_header(command: CommandCode, deed: &Deed) -> Header
-    ensures { result ≡ request_header command deed.now.a }
+fn request_by(command: CommandCode, deed: &Deed) -> Header
+    ensures { result ≡ request_by command deed.now.a }
 {
     deed.known();
-    let identifier = identifier(deed.a[2], deed.a[3]);
-    header(true, command, identifier, identifier)
+    request_header(command, deed.a[2], deed.a[3])
 }
 
-fn answer_header(command: CommandCode, deed: &Deed) -> Header
-    ensures { result ≡ answer_header command deed.now.a }
+fn answer_by(command: CommandCode, deed: &Deed) -> Header
+    ensures { result ≡ answer_by command deed.now.a }
 {
     deed.known();
-    header(false, command, lowest(deed.a[2]), lowest(deed.a[3]))
+    answer_header(command, false, deed.a[2], deed.a[3])
 }
 
 /// The Result-Code that a deed hands in.
@@ -96,12 +48,6 @@ fn result_code(deed: &Deed) -> TypedAvp<u32>
 {
     deed.known();
     made(lowest(deed.a[4]))
-}
-
-fn copy_of(alloc: Global, octets: &Octets) -> Result<TypedAvp<Octets>, AllocError>
-    ensures { IfOk result (λ avp. avp ≡ made octets.now) }
-{
-    Ok(made(octets.copy(alloc)?))
 }
 
 /// The one Host-IP-Address: family 1, IPv4, and the four octets.
@@ -138,9 +84,9 @@ fn cer(alloc: Global, deed: &Deed, identity: &Identity) -> Result<Command, Alloc
     ensures { IfOk result (λ c. message_by identity.now deed.now.a SndCer ≡ Some c) }
 {
     Ok(Command::Cer(CapabilitiesExchangeRequest {
-        header: request_header(CommandCode::CapabilitiesExchange, deed),
-        origin_host: copy_of(alloc, &identity.host)?,
-        origin_realm: copy_of(alloc, &identity.realm)?,
+        header: request_by(CommandCode::CapabilitiesExchange, deed),
+        origin_host: made_copy(alloc, &identity.host)?,
+        origin_realm: made_copy(alloc, &identity.realm)?,
         host_ip_address: addresses(alloc, identity)?,
         vendor_id: made(VENDOR),
         product_name: product(alloc)?,
@@ -153,10 +99,10 @@ fn cea(alloc: Global, deed: &Deed, identity: &Identity) -> Result<Command, Alloc
     ensures { IfOk result (λ c. message_by identity.now deed.now.a SndCea ≡ Some c) }
 {
     Ok(Command::Cea(CapabilitiesExchangeAnswer {
-        header: answer_header(CommandCode::CapabilitiesExchange, deed),
+        header: answer_by(CommandCode::CapabilitiesExchange, deed),
         result_code: result_code(deed),
-        origin_host: copy_of(alloc, &identity.host)?,
-        origin_realm: copy_of(alloc, &identity.realm)?,
+        origin_host: made_copy(alloc, &identity.host)?,
+        origin_realm: made_copy(alloc, &identity.realm)?,
         host_ip_address: addresses(alloc, identity)?,
         vendor_id: made(VENDOR),
         product_name: product(alloc)?,
@@ -169,10 +115,10 @@ fn dwa(alloc: Global, deed: &Deed, identity: &Identity) -> Result<Command, Alloc
     ensures { IfOk result (λ c. message_by identity.now deed.now.a SndDwa ≡ Some c) }
 {
     Ok(Command::Dwa(DeviceWatchdogAnswer {
-        header: answer_header(CommandCode::DeviceWatchdog, deed),
+        header: answer_by(CommandCode::DeviceWatchdog, deed),
         result_code: result_code(deed),
-        origin_host: copy_of(alloc, &identity.host)?,
-        origin_realm: copy_of(alloc, &identity.realm)?,
+        origin_host: made_copy(alloc, &identity.host)?,
+        origin_realm: made_copy(alloc, &identity.realm)?,
         rest: AvpList::new(alloc),
     }))
 }
@@ -181,9 +127,9 @@ fn dpr(alloc: Global, deed: &Deed, identity: &Identity) -> Result<Command, Alloc
     ensures { IfOk result (λ c. message_by identity.now deed.now.a SndDpr ≡ Some c) }
 {
     Ok(Command::Dpr(DisconnectPeerRequest {
-        header: request_header(CommandCode::DisconnectPeer, deed),
-        origin_host: copy_of(alloc, &identity.host)?,
-        origin_realm: copy_of(alloc, &identity.realm)?,
+        header: request_by(CommandCode::DisconnectPeer, deed),
+        origin_host: made_copy(alloc, &identity.host)?,
+        origin_realm: made_copy(alloc, &identity.realm)?,
         disconnect_cause: made(CAUSE),
         rest: AvpList::new(alloc),
     }))
@@ -193,10 +139,10 @@ fn dpa(alloc: Global, deed: &Deed, identity: &Identity) -> Result<Command, Alloc
     ensures { IfOk result (λ c. message_by identity.now deed.now.a SndDpa ≡ Some c) }
 {
     Ok(Command::Dpa(DisconnectPeerAnswer {
-        header: answer_header(CommandCode::DisconnectPeer, deed),
+        header: answer_by(CommandCode::DisconnectPeer, deed),
         result_code: result_code(deed),
-        origin_host: copy_of(alloc, &identity.host)?,
-        origin_realm: copy_of(alloc, &identity.realm)?,
+        origin_host: made_copy(alloc, &identity.host)?,
+        origin_realm: made_copy(alloc, &identity.realm)?,
         rest: AvpList::new(alloc),
     }))
 }

@@ -1,16 +1,14 @@
 -- What a walk prints: a table stepped over a list of events.
-use Rattle.std.specs.Prelude.{◌≡◌, ◌⊎◌, ℕ, ◌==◌, Bool, true, false, List, [], ◌∷◌, ◌++◌, replicate, Option, Some, None, codes, decimal, option_map, if◌then◌else◌}
-use Rattle.std.specs.List.{flat_map, list_all, slice_get}
+use Rattle.std.specs.Prelude.{◌≡◌, ◌⊎◌, ℕ, Bool, true, false, List, [], ◌∷◌, ◌++◌, replicate, Option, Some, None, codes, decimal, option_map}
+use Rattle.std.specs.List.{flat_map, slice_get}
 use Rattle.std.specs.Option.{option_map_or, option_or}
 use Rattle.tab_law.specs.Books.{Laws, NamedPermits}
 use Rattle.tab_law.specs.declared.limits.TheConstants.{PLACES}
-use Rattle.tab_text.specs.Codes.{number_of}
 use Rattle.tab_text.specs.Contents.{Contents}
 use Rattle.tab_text.specs.Faults.{first_fault}
 use Rattle.tab_text.specs.Rows.{table_of}
 use Rattle.tab_text.specs.declared.fault.ParseError.{ParseError}
 use Rattle.tab_text.specs.declared.fault.ParseError.TheVariants as parsing
-use Rattle.tab_text.specs.declared.fault.TextFault.{TextFault}
 use Rattle.tab_step.specs.declared.binding.Unbound.{Unbound}
 use Rattle.tab_step.specs.declared.binding.Unbound.TheVariants as binding
 use Rattle.tab_step.specs.Bind.{missing}
@@ -19,6 +17,7 @@ use Rattle.tab_step.specs.declared.machine.Event.{Event}
 use Rattle.tab_step.specs.declared.machine.MachineState.{MachineState}
 use Rattle.tab_step.specs.declared.machine.Stepped.{Stepped}
 use Rattle.bench_device.specs.Devices.{Tells}
+use Rattle.fault_text.specs.Faults.{bad_text, table_fault, unbound_text}
 use Rattle.event_text.specs.Deeds.{deed_line, name_or}
 use Rattle.event_text.specs.Events.{events_of, first_bad}
 use Rattle.bench_device.specs.declared.status.Status.{Status}
@@ -59,18 +58,6 @@ pub record RunText (table : Contents) (laws : Laws) (events : List Event) (text 
   pub steps : List Stepped
   pub run : AreSteps (NamedPermits laws) table laws at_start events steps
   pub printed : text ≡ steps_text table laws 0 events steps
-
--- `line 1 fault 1`: the first fault of a table's text
-abbrev pub table_fault : TextFault → List ℕ
-table_fault fault = codes "line " ++ decimal fault.line ++ codes " fault " ++ decimal (number_of fault.code) ++ codes "\n"
-
--- `unbound Start`: the first name of a table that isn't in the book
-abbrev pub unbound_text : List ℕ → List ℕ
-unbound_text name = codes "unbound " ++ name ++ codes "\n"
-
--- `bad line 2`: the first line that is no event
-abbrev pub bad_text : ℕ → List ℕ
-bad_text line = codes "bad line " ++ decimal line ++ codes "\n"
 
 -- what is refused first: the table's text, a name that the book lacks, a line that is no event
 unfoldable pub refusal_of : Laws → (table events : List ℕ) → Option (List ℕ)

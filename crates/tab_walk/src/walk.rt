@@ -4,16 +4,17 @@ ghost use Rattle.std.specs.List.{flat_map, slice_get};
 ghost use Rattle.std.specs.Option.{option_map};
 ghost use Rattle.tab_step.specs.Bind.{IsBoundTo};
 ghost use Rattle.bench_device.specs.Devices.{HasWriteCause};
-ghost use Rattle.tab_walk.specs.Walks.{IsRefused, IsWalked, IsWalkedBound, IsWalkedOn, RunText, bad_text, bind_text, kind_text, parse_text, row_text, state_text, step_text, table_fault, unbound_text};
+ghost use Rattle.tab_walk.specs.Walks.{IsRefused, IsWalked, IsWalkedBound, IsWalkedOn, RunText, bind_text, kind_text, parse_text, row_text, state_text, step_text};
 
 use bench_device::{ByteSink, MAX_IDLE_WRITES, Status, tell};
 use bench_text::put_number;
 use event_text::{EventsError, put_deeds, put_name, read_events};
+use fault_text::{bad_line, table_fault, unbound_text};
 use std::alloc::{AllocError, Global};
 use tab_call::Registry;
 use tab_law::LawBook;
 use tab_step::{Bound, Event, Stepped, Unbound, bind, step_into};
-use tab_text::{ParseError, Table, TextFault, parse};
+use tab_text::{ParseError, Table, parse};
 
 /// What is printed, and whether it is a refusal.
 #[derive(Drop)]
@@ -90,38 +91,6 @@ fn put_step(
     put_deeds(out, step.deeds.as_slice())
 }
 
-/// `line N fault C`: the first fault of a table's text.
-fn fault_line(alloc: Global, fault: &TextFault) -> Result<Vec<u8>, AllocError>
-    ensures { IfOk result (λ text. text.items ≡ table_fault fault.now) }
-{
-    let mut text = Vec::new(alloc);
-    put_number(&mut text, b"line ", fault.line as u64)?;
-    put_number(&mut text, b" fault ", u64::from(fault.code.number()))?;
-    text.extend_from_slice(b"\n")?;
-    Ok(text)
-}
-
-/// `bad line N`: the first line of the events that isn't one.
-fn bad_line(alloc: Global, line: usize) -> Result<Vec<u8>, AllocError>
-    ensures { IfOk result (λ text. text.items ≡ bad_text line) }
-{
-    let mut text = Vec::new(alloc);
-    put_number(&mut text, b"bad line ", line as u64)?;
-    text.extend_from_slice(b"\n")?;
-    Ok(text)
-}
-
-/// `unbound NAME`: the first name of a table that isn't in the book.
-fn unbound_line(alloc: Global, name: &[u8]) -> Result<Vec<u8>, AllocError>
-    ensures { IfOk result (λ text. text.items ≡ unbound_text name.now) }
-{
-    let mut text = Vec::new(alloc);
-    text.extend_from_slice(b"unbound ")?;
-    text.extend_from_slice(name)?;
-    text.extend_from_slice(b"\n")?;
-    Ok(text)
-}
-
 /// The text of a bound table's run on events. Each step is printed when it is taken, so room for one is enough.
 fn run_text(
     alloc: Global,
@@ -155,12 +124,12 @@ fn walk_bound(
     alloc: Global,
     bound: &Bound,
     registry: &Registry,
-    events: &str,
+    events: &[u8],
 ) -> Result<Outcome, AllocError>
     requires { IsBoundTo bound.now registry.now.book }
     ensures { IfOk result (λ walk. IsWalkedBound bound.now.table registry.now.book events.now walk.text.items walk.refused) }
 {
-    match read_events(alloc, registry.laws(), events.as_bytes()) {
+    match read_events(alloc, registry.laws(), events) {
         Ok(events) => Ok(Outcome {
             text: run_text(alloc, bound, registry, &events)?,
             refused: false,
@@ -176,7 +145,7 @@ fn unparsed(alloc: Global, error: &ParseError) -> Result<Outcome, AllocError>
 {
     match error {
         ParseError::NoMemory => Err(AllocError),
-        ParseError::Fault(fault) => Ok(refusal(fault_line(alloc, fault)?)),
+        ParseError::Fault(fault) => Ok(refusal(table_fault(alloc, fault)?)),
     }
 }
 
@@ -186,7 +155,7 @@ fn unbound(alloc: Global, why: &Unbound) -> Result<Outcome, AllocError>
 {
     match why {
         Unbound::NoMemory => Err(AllocError),
-        Unbound::Missing(name) => Ok(refusal(unbound_line(alloc, name.as_slice())?)),
+        Unbound::Missing(name) => Ok(refusal(unbound_text(alloc, name.as_slice())?)),
     }
 }
 
@@ -195,7 +164,7 @@ fn text_of(
     alloc: Global,
     table: &[u8],
     registry: &Registry,
-    events: &str,
+    events: &[u8],
 ) -> Result<Outcome, AllocError>
     ensures { IfOk result (λ walk. IsWalked registry.now.book table.now events.now walk.text.items walk.refused) }
 {
@@ -225,12 +194,12 @@ fn walk_status(refused: bool) -> Status
 ///
 /// A line of `events` is `KIND N=V ..`: a kind of the registry, and facts by number. Refused, with status `Refused`, are a
 /// table with a fault (`line N fault C`), one that names what the registry lacks (`unbound NAME`), and a line of another
-/// form (`bad line N`); nothing is stepped then.
+/// form (`bad line N`), each with what was wanted; nothing is stepped then.
 pub fn walk_on<O: ByteSink>(
     alloc: Global,
     table: &[u8],
     registry: &Registry,
-    events: &str,
+    events: &[u8],
     sink: &mut O,
 ) -> Status
     requires idle { O.idle sink.old ≡ 0 }

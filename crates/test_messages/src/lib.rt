@@ -1,11 +1,9 @@
-//! Tests of groups and messages, over their public calls alone.
+//! Tests of messages, over their public calls alone.
 #![tactic(auto)]
 
 #[cfg(test)]
 mod message;
 #[cfg(test)]
 mod services;
-#[cfg(test)]
-mod tree;
 #[cfg(test)]
 mod worked;

@@ -1,4 +1,4 @@
-//! Tests of what the program reads and prints, over public calls: devices, texts, messages, events and walks.
+//! Tests of what the program reads and prints, over public calls: devices, texts, and messages.
 #![tactic(auto)]
 
 #[cfg(test)]

@@ -4,4 +4,3 @@ mod faults;
 mod inputs;
 mod messages;
 mod streams;
-mod walks;

@@ -1,14 +1,8 @@
-//! The tests of the tables, over the public calls of their crates: laws, texts and steps.
+//! The tests of the tables, over the public calls of their crates: laws, stored callbacks and steps.
 #![tactic(auto)]
 
 #[cfg(test)]
-mod joined;
-#[cfg(test)]
 mod laws;
-#[cfg(test)]
-mod prints;
 #[cfg(test)]
 mod registry;
 mod steps;
-#[cfg(test)]
-mod texts;

@@ -1,0 +1,5 @@
+pub mod Amounts
+pub mod Accounts
+pub mod Places
+pub mod Requests
+pub mod Answers

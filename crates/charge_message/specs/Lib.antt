@@ -1,0 +1,3 @@
+pub mod Avps
+pub mod Services
+pub mod Messages

@@ -1,0 +1,144 @@
+//! Instances of Multiple-Services-Credit-Control (RFC 8506 section 8.16) from the slots of a deed.
+
+ghost use Rattle.std.specs.Prelude.{◌≡◌, ◌≤◌, ◌+◌, ◌++◌, IfOk, OnOk};
+ghost use Rattle.base_codes.specs.declared.slot.TheConstants.{SIZE, MAX_SLOTS};
+ghost use Rattle.tab_law.specs.declared.limits.TheConstants.{PLACES};
+ghost use Rattle.charge_message.specs.Services.{rating_avps, final_avps, asked, answered, avps_by, first_of, is_sent, service, services};
+
+use crate::avp::{final_avp, number_avp, push_units};
+use base_codes::{avp_code, session_fact, slot};
+use deed_message::made;
+use dia_avp::AvpList;
+use dia_command::TypedAvps;
+use std::alloc::{AllocError, Global};
+use tab_law::Deed;
+
+fn push_rating(list: &mut AvpList, alloc: Global, group: u64) -> Result<(), AllocError>
+    ensures { OnOk result (list.new ≡ list.old ++ rating_avps group) }
+{
+    if group == 1 {
+        return Ok(());
+    }
+    let rating = group.saturating_sub(2);
+    list.push(number_avp(alloc, avp_code::RATING_GROUP, rating)?)
+}
+
+fn push_final(list: &mut AvpList, alloc: Global, last: u64, granted: u64) -> Result<(), AllocError>
+    ensures { OnOk result (list.new ≡ list.old ++ final_avps last granted) }
+{
+    if last != 1 || granted == 0 {
+        return Ok(());
+    }
+    list.push(final_avp(alloc)?)
+}
+
+fn asked(alloc: Global, deed: &Deed, first: usize) -> Result<AvpList, AllocError>
+    requires { first + SIZE ≤ PLACES }
+    ensures { IfOk result (λ list. list ≡ asked deed.now.a first) }
+{
+    deed.known();
+    let unit = deed.a[first + slot::UNIT];
+    let mut list = AvpList::new(alloc);
+    push_units(
+        &mut list,
+        alloc,
+        avp_code::REQUESTED_SERVICE_UNIT,
+        unit,
+        deed.a[first + slot::WANT],
+    )?;
+    push_units(
+        &mut list,
+        alloc,
+        avp_code::USED_SERVICE_UNIT,
+        unit,
+        deed.a[first + slot::USED],
+    )?;
+    push_rating(&mut list, alloc, deed.a[first + slot::GROUP])?;
+    Ok(list)
+}
+
+fn answered(alloc: Global, deed: &Deed, first: usize) -> Result<AvpList, AllocError>
+    requires { first + SIZE ≤ PLACES }
+    ensures { IfOk result (λ list. list ≡ answered deed.now.a first) }
+{
+    deed.known();
+    let granted = deed.a[first + slot::GRANTED];
+    let result = deed.a[first + slot::RESULT_CODE];
+    let mut list = AvpList::new(alloc);
+    push_units(
+        &mut list,
+        alloc,
+        avp_code::GRANTED_SERVICE_UNIT,
+        deed.a[first + slot::UNIT],
+        granted,
+    )?;
+    push_rating(&mut list, alloc, deed.a[first + slot::GROUP])?;
+    list.push(number_avp(alloc, avp_code::RESULT_CODE, result)?)?;
+    push_final(&mut list, alloc, deed.a[first + slot::FINAL], granted)?;
+    Ok(list)
+}
+
+fn first_of(number: usize) -> usize
+    requires slots { number ≤ MAX_SLOTS }
+    ensures is { result ≡ first_of number }
+    ensures within { result + SIZE ≤ PLACES }
+{
+    slot::FIRST + number.saturating_sub(1) * slot::SIZE
+}
+
+fn is_sent(deed: &Deed, number: usize) -> bool
+    requires { number ≤ MAX_SLOTS }
+    ensures { result ≡ is_sent deed.now.a number }
+{
+    deed.known();
+    number as u64 <= deed.a[session_fact::SERVICES] && deed.a[first_of(number) + slot::GROUP] != 0
+}
+
+fn service_of(
+    alloc: Global,
+    deed: &Deed,
+    first: usize,
+    request: bool,
+) -> Result<AvpList, AllocError>
+    requires { first + SIZE ≤ PLACES }
+    ensures { IfOk result (λ list. list ≡ avps_by request deed.now.a first) }
+{
+    if request {
+        asked(alloc, deed, first)
+    } else {
+        answered(alloc, deed, first)
+    }
+}
+
+fn push_service(
+    list: &mut TypedAvps<AvpList>,
+    alloc: Global,
+    deed: &Deed,
+    number: usize,
+    request: bool,
+) -> Result<(), AllocError>
+    requires { number ≤ MAX_SLOTS }
+    ensures { OnOk result (list.new ≡ list.old ++ service (avps_by request) deed.now.a number) }
+{
+    if is_sent(deed, number) {
+        list.push(made(service_of(alloc, deed, first_of(number), request)?))?;
+    }
+    Ok(())
+}
+
+/// The instances of a message: in a request, of each slot what is wanted, what was used, and the group; in an answer what is
+/// granted, the group, the result, and whether it is the last.
+pub(crate) fn services(
+    alloc: Global,
+    deed: &Deed,
+    request: bool,
+) -> Result<TypedAvps<AvpList>, AllocError>
+    ensures { IfOk result (λ list. list ≡ services (avps_by request) deed.now.a) }
+{
+    let mut list = TypedAvps::new(alloc);
+    push_service(&mut list, alloc, deed, 1, request)?;
+    push_service(&mut list, alloc, deed, 2, request)?;
+    push_service(&mut list, alloc, deed, 3, request)?;
+    push_service(&mut list, alloc, deed, 4, request)?;
+    Ok(list)
+}

@@ -1,0 +1,40 @@
+//! The laws of a client's machine, and a registry that takes them.
+
+ghost use Rattle.std.specs.Prelude.{◌≡◌, IfOk, OnOk, OnErr};
+ghost use Rattle.tab_role.specs.Roles.{joined};
+ghost use Rattle.role_lines.specs.Registering.{IsToldOf};
+ghost use Rattle.client_rules.specs.Laws.{client_laws};
+
+use crate::kind::NAMES;
+use crate::lines::{ACTS, GUARDS};
+use role_lines::laws_of;
+use std::alloc::{AllocError, Global};
+use tab_law::LawBook;
+use tab_role::{RegisterError, TakesRoles};
+
+/// The kinds of events of a client's machine and the laws of its guards and actions, in the order of their first appearance in
+/// the table (RFC 8506 section 7).
+pub fn client_laws(alloc: Global) -> Result<LawBook, AllocError>
+    ensures { IfOk result (λ book. book ≡ client_laws) }
+{
+    laws_of(alloc, &NAMES, &GUARDS, &ACTS)
+}
+
+/// Adds the role of a client's machine to a registry, with the callbacks of its laws in their order, all or none. Want of
+/// memory may come before any other refusal, since the laws that the callbacks are compared with take memory.
+pub fn register_client<R: TakesRoles>(
+    alloc: Global,
+    registry: &mut R,
+    calls: R::Calls,
+) -> Result<(), RegisterError>
+where
+    R::Calls: Drop,
+    ensures ok { OnOk result (R.book registry.new ≡ joined client_laws (R.book registry.old)) }
+    ensures answer { IsToldOf client_laws (R.book registry.old) (R.asked calls) (R.done calls) result }
+    ensures err { OnErr result (R.book registry.new ≡ R.book registry.old) }
+{
+    let Ok(laws) = client_laws(alloc) else {
+        return Err(RegisterError::NoMemory);
+    };
+    registry.register(&laws, calls)
+}

@@ -1,0 +1,55 @@
+-- What a run does of what the words ask for.
+use Rattle.std.specs.Prelude.{◌≡◌, ◌⊎◌, ◌<◌, ℕ, List, Option, Some, None, codes}
+use Rattle.std.specs.Io.KnownBytes.{IsAtEnd}
+use Rattle.bench_device.specs.Devices.{Tells}
+use Rattle.bench_device.specs.Inputs.{IsInput}
+use Rattle.bench_device.specs.declared.status.Status.{Status}
+use Rattle.bench_device.specs.declared.status.Status.TheVariants as statuses
+use Rattle.clap.specs.Words.{Text}
+use Rattle.law_text.specs.Sentences.{book_text}
+use Rattle.msg_text.specs.Inputs.{IsReport}
+use Rattle.role_tables.specs.Roles.{all_laws, table_named}
+use Rattle.tab_walk.specs.Walks.{IsWalkedOn}
+use Rattle.dbench.specs.Words.{Wanted, Read, Walk, Names, Table, Nothing}
+
+-- Messages of a file or of standard input were read: what was written out is what the text prints. Without a file the text
+-- is that of the source. It is done only where nothing is left to read, and refused only where something was read.
+pub record ReadsMessages {I O : Type 0} (remaining : I → Option (List ℕ)) (reads : I → ℕ) (contents : O → Option (List ℕ)) (file : Option Text) (source source' : I) (sink sink' : O) (answer : Status) : Type 0 where
+  pub start : I
+  pub no_read : reads start ≡ reads source
+  pub standard : file ≡ None → start ≡ source
+  pub report : IsReport remaining contents start source' sink sink' answer
+  pub whole : answer ≡ statuses.Done → IsAtEnd (remaining source')
+  pub some : answer ≡ statuses.Refused → reads source < reads source'
+
+-- A table and then events were read whole, and what is told is the walk of the table over the events, over all laws.
+pub record WalksTable {I O : Type 0} (remaining : I → Option (List ℕ)) (reads failures : I → ℕ) (contents : O → Option (List ℕ)) (write_failures idle : O → ℕ) (source source' : I) (sink sink' : O) (answer : Status) : Type 0 where
+  pub table : List ℕ
+  pub events : List ℕ
+  pub between : I
+  pub table_read : IsInput remaining reads failures source between table
+  pub events_read : IsInput remaining reads failures between source' events
+  pub walked : IsWalkedOn contents write_failures idle all_laws table events sink sink' answer
+
+-- a table that is there is told; one that isn't is refused with some text
+abbrev pub TellsTable : {O : Type 0} → (contents : O → Option (List ℕ)) → (failures idle : O → ℕ) → Option (List ℕ) → (old new : O) → Status → Type 0
+TellsTable contents failures idle (Some table) old new answer = Tells contents failures idle old new table statuses.Done answer
+TellsTable contents failures idle None old new answer = (text : List ℕ) × Tells contents failures idle old new text statuses.Usage answer
+
+-- memory ran out, and that is told
+abbrev pub TellsNoMemory : {O : Type 0} → (contents : O → Option (List ℕ)) → (failures idle : O → ℕ) → (old new : O) → Status → Type 0
+TellsNoMemory contents failures idle old new answer = Tells contents failures idle old new (codes "no memory\n") statuses.NoMemory answer
+
+-- what is done, by what was asked for
+abbrev pub IsMet : {I O : Type 0} → (remaining : I → Option (List ℕ)) → (reads failures : I → ℕ) → (contents : O → Option (List ℕ)) → (write_failures idle : O → ℕ) → Wanted → (source source' : I) → (sink sink' : O) → Status → Type 0
+IsMet remaining reads failures contents write_failures idle (Read file) source source' sink sink' answer =
+    ReadsMessages remaining reads contents file source source' sink sink' answer
+IsMet remaining reads failures contents write_failures idle (Walk table events) source source' sink sink' answer =
+    WalksTable remaining reads failures contents write_failures idle source source' sink sink' answer ⊎ TellsNoMemory contents write_failures idle sink sink' answer
+IsMet remaining reads failures contents write_failures idle Names source source' sink sink' answer =
+    (source' ≡ source)
+    × (Tells contents write_failures idle sink sink' (book_text all_laws) statuses.Done answer ⊎ TellsNoMemory contents write_failures idle sink sink' answer)
+IsMet remaining reads failures contents write_failures idle (Table role) source source' sink sink' answer =
+    (source' ≡ source) × TellsTable contents write_failures idle (table_named role) sink sink' answer
+IsMet remaining reads failures contents write_failures idle Nothing source source' sink sink' answer =
+    (source' ≡ source) × (text : List ℕ) × Tells contents write_failures idle sink sink' text statuses.Usage answer

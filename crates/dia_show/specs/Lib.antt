@@ -1,0 +1,4 @@
+pub mod Names
+pub mod Dates
+pub mod Parts
+pub mod Values

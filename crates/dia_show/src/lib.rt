@@ -1,0 +1,21 @@
+//! What an AVP says, as text: the names of the standards, and values by their type.
+//!
+//! | File | What it does |
+//! |---|---|
+//! | `commands`, `enumerations` | names by number, as the standards have them |
+//! | `dates` | Time as a date |
+//! | `parts` | text in quotes, octets, addresses |
+//! | `values` | the text of an AVP's data by its type |
+#![tactic(auto)]
+
+mod commands;
+mod dates;
+mod enumerations;
+mod parts;
+mod values;
+
+pub use commands::put_command;
+pub use dates::put_time;
+pub use enumerations::enumerated_name;
+pub use parts::{put_address, put_octets, put_quoted};
+pub use values::put_value;

@@ -1,0 +1,40 @@
+-- What is told of a table, or of lines of events, that is refused.
+use Rattle.std.specs.Prelude.{ℕ, List, ◌++◌, codes, decimal}
+use Rattle.tab_text.specs.Codes.{number_of}
+use Rattle.tab_text.specs.declared.fault.TextCode.{TextCode}
+use Rattle.tab_text.specs.declared.fault.TextCode.TheVariants.{NoHeader, BadByte, EmptyCell, NoRowToContinue, BadName, TooManyRows, TooManyNames, TooManyInRow, TooLong}
+use Rattle.tab_text.specs.declared.fault.TextFault.{TextFault}
+
+-- what was wanted where a table's text has a fault
+unfoldable pub wanted_of : TextCode → List ℕ
+wanted_of NoHeader = codes "a header: two blanks, then the words State, Event, Action and Next"
+wanted_of BadByte = codes "printable ASCII, and in a row's line a blank or + in byte 0 and a blank in byte 1"
+wanted_of EmptyCell = codes "a row with an Event, an Action (- for none) and a Next, the first one with a State too"
+wanted_of NoRowToContinue = codes "a row before a line that continues one"
+wanted_of BadName = codes "names (a letter, then letters, digits, -, / and _, at most 40 bytes); an Event as `Kind` or `Kind when guard and guard`; commas between actions"
+wanted_of TooManyRows = codes "at most 4096 rows"
+wanted_of TooManyNames = codes "at most 64 states, 128 kinds, 64 guards and 64 actions"
+wanted_of TooManyInRow = codes "at most 4 guards and 8 actions in a row"
+wanted_of TooLong = codes "at most 1048576 bytes"
+
+-- what was wanted, on a line of its own
+abbrev pub wanted_line : List ℕ → List ℕ
+wanted_line what = codes "  wanted: " ++ what ++ codes "\n"
+
+-- `line 1 fault 1`: the first fault of a table's text
+abbrev pub table_fault : TextFault → List ℕ
+table_fault fault =
+    codes "line " ++ decimal fault.line ++ codes " fault " ++ decimal (number_of fault.code) ++ codes "\n" ++ wanted_line (wanted_of fault.code)
+
+-- `unbound Start`: the first name of a table that isn't registered
+abbrev pub unbound_text : List ℕ → List ℕ
+unbound_text name =
+    codes "unbound " ++ name ++ codes "\n" ++ wanted_line (codes "a kind, a guard or an action that is registered")
+
+-- what a line of events is
+unfoldable pub event_form : List ℕ
+event_form = codes "KIND N=V ..: a kind that is registered, then facts, each once, N at most 63 and V below 2^64"
+
+-- `bad line 2`: the first line that is no event
+abbrev pub bad_text : ℕ → List ℕ
+bad_text line = codes "bad line " ++ decimal line ++ codes "\n" ++ wanted_line event_form

@@ -1,0 +1,90 @@
+//! What is told of a table, or of lines of events, that is refused: the first fault, and what was wanted in its place.
+#![tactic(auto)]
+
+ghost use Rattle.std.specs.Prelude.{◌≡◌, ◌++◌, IfOk, OnOk, codes};
+ghost use Rattle.fault_text.specs.Faults.{bad_text, event_form, table_fault, unbound_text, wanted_of};
+
+use bench_text::put_number;
+use std::alloc::{AllocError, Global};
+use tab_text::{TextCode, TextFault};
+
+/// What was wanted where a table's text has a fault.
+#[tactic(auto, unfolding(crate::specs::Faults::wanted_of))]
+pub fn wanted(code: TextCode) -> &'static [u8]
+    ensures { result.now ≡ wanted_of code }
+{
+    match code {
+        TextCode::NoHeader => {
+            b"a header: two blanks, then the words State, Event, Action and Next"
+        }
+        TextCode::BadByte => {
+            b"printable ASCII, and in a row's line a blank or + in byte 0 and a blank in byte 1"
+        }
+        TextCode::EmptyCell => {
+            b"a row with an Event, an Action (- for none) and a Next, the first one with a State too"
+        }
+        TextCode::NoRowToContinue => b"a row before a line that continues one",
+        TextCode::BadName => {
+            b"names (a letter, then letters, digits, -, / and _, at most 40 bytes); an Event as `Kind` or `Kind when guard and guard`; commas between actions"
+        }
+        TextCode::TooManyRows => b"at most 4096 rows",
+        TextCode::TooManyNames => b"at most 64 states, 128 kinds, 64 guards and 64 actions",
+        TextCode::TooManyInRow => b"at most 4 guards and 8 actions in a row",
+        TextCode::TooLong => b"at most 1048576 bytes",
+    }
+}
+
+/// What a line of events is.
+#[tactic(auto, unfolding(crate::specs::Faults::event_form))]
+pub fn event_form() -> &'static [u8]
+    ensures { result.now ≡ event_form }
+{
+    b"KIND N=V ..: a kind that is registered, then facts, each once, N at most 63 and V below 2^64"
+}
+
+/// Puts what was wanted, on a line of its own.
+fn put_wanted(out: &mut Vec<u8>, what: &[u8]) -> Result<(), AllocError>
+    ensures { OnOk result (out.new.items ≡ out.old.items ++ codes "  wanted: " ++ what.now ++ codes "\n") }
+{
+    out.extend_from_slice(b"  wanted: ")?;
+    out.extend_from_slice(what)?;
+    out.extend_from_slice(b"\n")
+}
+
+/// `line N fault C`: the first fault of a table's text, and what was wanted there.
+pub fn table_fault(alloc: Global, fault: &TextFault) -> Result<Vec<u8>, AllocError>
+    ensures { IfOk result (λ text. text.items ≡ table_fault fault.now) }
+{
+    let mut text = Vec::new(alloc);
+    put_number(&mut text, b"line ", fault.line as u64)?;
+    put_number(&mut text, b" fault ", u64::from(fault.code.number()))?;
+    text.extend_from_slice(b"\n")?;
+    put_wanted(&mut text, wanted(fault.code))?;
+    Ok(text)
+}
+
+/// `unbound NAME`: the first name of a table that isn't registered.
+pub fn unbound_text(alloc: Global, name: &[u8]) -> Result<Vec<u8>, AllocError>
+    ensures { IfOk result (λ text. text.items ≡ unbound_text name.now) }
+{
+    let mut text = Vec::new(alloc);
+    text.extend_from_slice(b"unbound ")?;
+    text.extend_from_slice(name)?;
+    text.extend_from_slice(b"\n")?;
+    put_wanted(
+        &mut text,
+        b"a kind, a guard or an action that is registered",
+    )?;
+    Ok(text)
+}
+
+/// `bad line N`: the first line of events that is none, and what a line is.
+pub fn bad_line(alloc: Global, line: usize) -> Result<Vec<u8>, AllocError>
+    ensures { IfOk result (λ text. text.items ≡ bad_text line) }
+{
+    let mut text = Vec::new(alloc);
+    put_number(&mut text, b"bad line ", line as u64)?;
+    text.extend_from_slice(b"\n")?;
+    put_wanted(&mut text, event_form())?;
+    Ok(text)
+}

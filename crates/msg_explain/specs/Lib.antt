@@ -1,0 +1,5 @@
+pub mod Parts
+pub mod Lines
+pub mod Messages
+pub mod Faulty
+pub mod Explained

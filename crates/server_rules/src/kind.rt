@@ -1,0 +1,57 @@
+//! The kinds of events of a server's machine.
+
+ghost use Rattle.std.specs.Prelude.{◌≡◌, Some};
+ghost use Rattle.std.specs.List.{slice_get};
+ghost use Rattle.base_list.specs.Named.{place_of};
+ghost use Rattle.server_rules.specs.Kinds.{name_of, all, kinds};
+
+/// A kind of events, in the order of the first appearance in the table: a request by its CC-Request-Type (RFC 8506
+/// section 8.3), or the timer.
+#[derive(Clone, Copy, Debug, PartialEq, Eq)]
+pub enum ServerKind {
+    /// INITIAL_REQUEST came.
+    Initial,
+    /// UPDATE_REQUEST came.
+    Update,
+    /// TERMINATION_REQUEST came.
+    Terminate,
+    /// EVENT_REQUEST came.
+    Event,
+    /// The timer Tcc fired (RFC 8506 section 13).
+    Tcc,
+}
+
+/// Their names.
+pub(crate) const NAMES: [&str; 5] = ["Initial", "Update", "Terminate", "Event", "Tcc"];
+
+/// All of them.
+const ALL: [ServerKind; 5] = [
+    ServerKind::Initial,
+    ServerKind::Update,
+    ServerKind::Terminate,
+    ServerKind::Event,
+    ServerKind::Tcc,
+];
+
+impl ServerKind {
+    /// The one with that place in the kinds of a server's laws.
+    pub fn at(place: u8) -> Option<ServerKind>
+        ensures { result ≡ slice_get all place }
+    {
+        ALL.get(place as usize).copied()
+    }
+
+    /// Its name in tables.
+    pub fn name(self) -> &'static str
+        ensures { result.now ≡ name_of self }
+    {
+        NAMES[self as usize]
+    }
+
+    /// Its place in the kinds of a server's laws.
+    pub fn place(self) -> u8
+        ensures { place_of (name_of self) kinds ≡ Some result }
+    {
+        self as u8
+    }
+}

@@ -1,0 +1,5 @@
+pub mod Formats
+pub mod Images
+pub mod Paths
+pub mod Assembled
+pub mod WorkedImages

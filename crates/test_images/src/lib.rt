@@ -1,0 +1,4 @@
+//! The tests of images, over the public calls of their crates.
+#![tactic(auto)]
+
+mod assembled;

@@ -1,0 +1,62 @@
+//! The shipped tables: each is printed as it is written, its kinds, guards and actions are those of its role's laws in the order of
+//! their first appearance, and it is bound to them.
+
+use crate::role_table::{has_states, has_the_names_of, is_printed_as_written};
+use client_rules::client_laws;
+use peer_rules::peer_laws;
+use role_tables::{CLIENT_TABLE, PEER_TABLE, SERVER_TABLE};
+use server_rules::server_laws;
+use std::test::Fail;
+
+/// The states of a peer, by first appearance.
+const PEER_STATES: [&str; 8] = [
+    "Closed",
+    "Wait-Conn-Ack",
+    "R-Open",
+    "Wait-I-CEA",
+    "Wait-Conn-Ack/Elect",
+    "I-Open",
+    "Wait-Returns",
+    "Closing",
+];
+
+const CLIENT_STATES: [&str; 6] = [
+    "Idle", "PendingI", "PendingE", "Open", "PendingU", "PendingT",
+];
+
+const SERVER_STATES: [&str; 2] = ["Idle", "Open"];
+
+#[test]
+fn the_shipped_tables_are_printed_as_they_are_written(rt: HostRuntime) -> Result<(), Fail> {
+    for text in [PEER_TABLE, CLIENT_TABLE, SERVER_TABLE] {
+        assert!(rt; is_printed_as_written(rt.alloc(), text.as_bytes())?);
+    }
+    Ok(())
+}
+
+#[test]
+fn the_table_of_a_peer_names_what_its_laws_name(rt: HostRuntime) -> Result<(), Fail> {
+    let alloc = rt.alloc();
+    let laws = peer_laws(alloc)?;
+    assert!(rt; has_the_names_of(alloc, PEER_TABLE.as_bytes(), &laws)?);
+    assert!(rt; has_states(alloc, PEER_TABLE.as_bytes(), &PEER_STATES)?);
+    Ok(())
+}
+
+#[test]
+fn the_table_of_a_client_names_what_its_laws_name(rt: HostRuntime) -> Result<(), Fail> {
+    let alloc = rt.alloc();
+    let laws = client_laws(alloc)?;
+    assert!(rt; has_the_names_of(alloc, CLIENT_TABLE.as_bytes(), &laws)?);
+    assert!(rt; has_states(alloc, CLIENT_TABLE.as_bytes(), &CLIENT_STATES)?);
+    Ok(())
+}
+
+#[test]
+fn the_table_of_a_server_names_what_its_laws_name(rt: HostRuntime) -> Result<(), Fail> {
+    let alloc = rt.alloc();
+    let laws = server_laws(alloc)?;
+    assert!(rt; has_the_names_of(alloc, SERVER_TABLE.as_bytes(), &laws)?);
+    assert!(rt; has_states(alloc, SERVER_TABLE.as_bytes(), &SERVER_STATES)?);
+    Ok(())
+}
