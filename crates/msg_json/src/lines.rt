@@ -1,0 +1,119 @@
+//! One line for a message, or for what ends an input.
+ghost use Rattle.std.specs.Prelude.{◌<◌, ◌^◌, IfOk, OnOk, length};
+ghost use Rattle.dia_dict.specs.Dictionary.{known};
+ghost use Rattle.msg_json.specs.Lines.{IsLineBehind, PutsLine};
+
+use crate::avps::put_avps;
+use crate::faults::put_fault;
+use crate::headers::put_header;
+use crate::members::{put_null, put_number};
+use dia_dict::Dictionary;
+use dia_msg::{MsgError, MsgFault, read_message};
+use msg_explain::{Part, parts_of};
+use serde::{Described, Serialize, Serializer};
+use std::alloc::{AllocError, Global};
+
+/// A message, the `number`th of an input, which begins at `offset` in it.
+#[derive(Clone, Copy)]
+struct Message<'a> {
+    alloc: Global,
+    dictionary: &'a Dictionary,
+    number: u64,
+    offset: u64,
+    octets: &'a [u8],
+    parts: &'a [Part<'a>],
+    fault: Option<&'a MsgFault>,
+}
+
+impl Described for Message<'_> {}
+
+impl Serialize for Message<'_> {
+    fn serialize<S: Serializer>(&self, out: &mut S) -> Result<(), S::Error> {
+        out.begin_map(None)?;
+        put_number(out, "number", self.number)?;
+        put_number(out, "offset", self.offset)?;
+        put_header(out, self.alloc, self.octets)?;
+        put_avps(out, self.alloc, self.dictionary, self.parts)?;
+        match self.fault {
+            None => put_null(out, "fault")?,
+            Some(fault) => put_fault(out, self.alloc, self.dictionary, fault, self.parts)?,
+        }
+        out.end_map()
+    }
+}
+
+/// What ends an input, where it stands in it, and why.
+#[derive(Clone, Copy, Serialize)]
+struct Stop<'a> {
+    stop: &'a str,
+    place: u64,
+    reason: &'a str,
+}
+
+fn put_line<T: Serialize>(out: &mut Vec<u8>, value: &T) -> Result<(), AllocError>
+    ensures { OnOk result (IsLineBehind out.old.items out.new.items) }
+{
+    let Ok(line) = serde_json::to_vec(*out.allocator(), value) else {
+        return Err(AllocError);
+    };
+    out.extend_from_slice(&line)?;
+    out.extend_from_slice(b"\n")
+}
+
+/// Puts what a message says, the `number`th of an input, which begins at `offset` in it, as one object of JSON and the end of its
+/// line: its header, its AVPs in the order of the octets, those of a group inside it, and its fault, or null. Says whether it has
+/// one.
+pub fn put_json(
+    out: &mut Vec<u8>,
+    dictionary: &Dictionary,
+    number: u64,
+    offset: u64,
+    octets: &[u8],
+) -> Result<bool, AllocError>
+    requires { length octets.now < 2 ^ 32 }
+    ensures { IfOk result (PutsLine (known dictionary.now) octets.now out.old.items out.new.items) }
+{
+    let alloc = *out.allocator();
+    let parts = parts_of(alloc, dictionary, octets)?;
+    let message = Message {
+        alloc,
+        dictionary,
+        number,
+        offset,
+        octets,
+        parts: &parts,
+        fault: None,
+    };
+    match read_message(alloc, dictionary, octets) {
+        Ok(_) => {
+            put_line(out, &message)?;
+            Ok(false)
+        }
+        Err(MsgError::NoMemory) => Err(AllocError),
+        Err(MsgError::Fault(fault)) => {
+            put_line(
+                out,
+                &Message {
+                    fault: Some(&fault),
+                    ..message
+                },
+            )?;
+            Ok(true)
+        }
+    }
+}
+
+/// Puts what ends an input before its end as one object of JSON and the end of its line: what it is, the character or octet of the
+/// input at which it stands, and what was wrong.
+pub fn put_stop(out: &mut Vec<u8>, stop: &str, place: u64, reason: &str) -> Result<(), AllocError>
+    ensures { OnOk result (IsLineBehind out.old.items out.new.items) }
+{
+    put_line(
+        out,
+        &Stop {
+            stop,
+            place,
+            reason,
+        },
+    )
+}
