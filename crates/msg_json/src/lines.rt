@@ -60,6 +60,29 @@ fn put_line<T: Serialize>(out: &mut Vec<u8>, value: &T) -> Result<(), AllocError
     out.extend_from_slice(b"\n")
 }
 
+fn put_message<'a>(
+    out: &mut Vec<u8>,
+    dictionary: &'a Dictionary,
+    number: u64,
+    offset: u64,
+    octets: &'a [u8],
+    parts: &'a [Part<'a>],
+    fault: Option<&'a MsgFault>,
+) -> Result<(), AllocError>
+    ensures { OnOk result (IsLineBehind out.old.items out.new.items) }
+{
+    let message = Message {
+        alloc: *out.allocator(),
+        dictionary,
+        number,
+        offset,
+        octets,
+        parts,
+        fault,
+    };
+    put_line(out, &message)
+}
+
 /// Puts what a message says, the `number`th of an input, which begins at `offset` in it, as one object of JSON and the end of its
 /// line: its header, its AVPs in the order of the octets, those of a group inside it, and its fault, or null. Says whether it has
 /// one.
@@ -75,28 +98,21 @@ pub fn put_json(
 {
     let alloc = *out.allocator();
     let parts = parts_of(alloc, dictionary, octets)?;
-    let message = Message {
-        alloc,
-        dictionary,
-        number,
-        offset,
-        octets,
-        parts: &parts,
-        fault: None,
-    };
     match read_message(alloc, dictionary, octets) {
         Ok(_) => {
-            put_line(out, &message)?;
+            put_message(out, dictionary, number, offset, octets, &parts, None)?;
             Ok(false)
         }
         Err(MsgError::NoMemory) => Err(AllocError),
         Err(MsgError::Fault(fault)) => {
-            put_line(
+            put_message(
                 out,
-                &Message {
-                    fault: Some(&fault),
-                    ..message
-                },
+                dictionary,
+                number,
+                offset,
+                octets,
+                &parts,
+                Some(&fault),
             )?;
             Ok(true)
         }

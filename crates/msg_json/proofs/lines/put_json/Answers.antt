@@ -1,0 +1,23 @@
+use Rattle.std.proofs.Common.{Ok, Err, refl, subst}
+use Rattle.dia_dict.specs.Dictionary.{known}
+use Rattle.dia_msg.specs.declared.fault.MsgError.{MsgError}
+use Rattle.dia_msg.specs.Reading.{IsReading, UnlessNoMemory}
+use Rattle.msg_json.proofs.lines.put_json.Goals as goal
+
+-- a command has no fault
+pub returns-in-Ok : goal.returns-in-Ok
+returns-in-Ok c = record {
+  answer = Ok c.in-Ok.field-0;
+  reading = c.in-Ok.ensures.reading;
+  is_refused = refl;
+  behind = c.in_ok-put_message-in-Ok.ensures;
+}
+
+-- the line of the first fault
+pub returns : goal.returns
+returns c = record {
+  answer = Err c.in-Err-Fault.fault;
+  reading = subst (λ (e : MsgError). UnlessNoMemory (Err e) (IsReading (known c.args.dictionary.now) c.args.octets.now)) c.in-Err-Fault.field-0-is c.in-Err-Fault.ensures.reading;
+  is_refused = refl;
+  behind = c.in_ok-put_message-in-Err-Fault.ensures;
+}
