@@ -8,15 +8,15 @@ use Rattle.dia_command.specs.declared.command.Command.{Command}
 use Rattle.dia_msg.specs.Reading.{IsReading}
 use Rattle.msg_explain.specs.Explained.{is_fault}
 
--- A line stands behind what was there: tokens of JSON with nothing between them (RFC 8259 section 2), and the end of the line.
-pub record IsLineBehind (before after : List ℕ) : Type 0 where
+-- A text is a line: tokens of JSON with nothing between them (RFC 8259 section 2), and the end of the line.
+pub record IsLine (text : List ℕ) : Type 0 where
   pub line : List ℕ
   pub compact : line ≡ print (tokens line)
-  pub put : after ≡ before ++ line ++ codes "\n"
+  pub whole : text ≡ line ++ codes "\n"
 
--- The line of a message stands behind what was there, and whether the message is read as a fault.
-pub record PutsLine (definitions : List Definition) (octets before after : List ℕ) (refused : Bool) : Type 0 where
+-- A text is a line for a message, and whether the message is read as a fault.
+pub record SaysInJson (definitions : List Definition) (octets text : List ℕ) (refused : Bool) : Type 0 where
   pub answer : Result Command MsgFault
   pub reading : IsReading definitions octets answer
   pub is_refused : refused ≡ is_fault answer
-  pub behind : IsLineBehind before after
+  pub is_line : IsLine text

@@ -2,7 +2,7 @@
 //!
 //! | File | What it puts |
 //! |---|---|
-//! | `lines` | the line of a message, and that of what ends an input |
+//! | `lines` | the line of a message |
 //! | `headers` | a message's number, place, header and session |
 //! | `avps` | its AVPs, groups opened |
 //! | `values` | an AVP's data by its type |
@@ -17,4 +17,4 @@ mod lines;
 mod members;
 mod values;
 
-pub use lines::{put_json, put_stop};
+pub use lines::put_json;

@@ -1,7 +1,7 @@
-//! One line for a message, or for what ends an input.
-ghost use Rattle.std.specs.Prelude.{◌<◌, ◌^◌, IfOk, OnOk, length};
+//! One line for a message.
+ghost use Rattle.std.specs.Prelude.{◌≡◌, ◌<◌, ◌^◌, ◌++◌, ℕ, List, IfOk, OnOk, length};
 ghost use Rattle.dia_dict.specs.Dictionary.{known};
-ghost use Rattle.msg_json.specs.Lines.{IsLineBehind, PutsLine};
+ghost use Rattle.msg_json.specs.Lines.{IsLine, SaysInJson};
 
 use crate::avps::put_avps;
 use crate::faults::put_fault;
@@ -42,18 +42,10 @@ impl Serialize for Message<'_> {
     }
 }
 
-/// What ends an input, where it stands in it, and why.
-#[derive(Clone, Copy, Serialize)]
-struct Stop<'a> {
-    stop: &'a str,
-    place: u64,
-    reason: &'a str,
-}
-
-fn put_line<T: Serialize>(out: &mut Vec<u8>, value: &T) -> Result<(), AllocError>
-    ensures { OnOk result (IsLineBehind out.old.items out.new.items) }
+fn put_line(out: &mut Vec<u8>, message: &Message<'_>) -> Result<(), AllocError>
+    ensures { OnOk result ((text : List ℕ) × IsLine text × (out.new.items ≡ out.old.items ++ text)) }
 {
-    let Ok(line) = serde_json::to_vec(*out.allocator(), value) else {
+    let Ok(line) = serde_json::to_vec(*out.allocator(), message) else {
         return Err(AllocError);
     };
     out.extend_from_slice(&line)?;
@@ -69,7 +61,7 @@ fn put_message<'a>(
     parts: &'a [Part<'a>],
     fault: Option<&'a MsgFault>,
 ) -> Result<(), AllocError>
-    ensures { OnOk result (IsLineBehind out.old.items out.new.items) }
+    ensures { OnOk result ((text : List ℕ) × IsLine text × (out.new.items ≡ out.old.items ++ text)) }
 {
     let message = Message {
         alloc: *out.allocator(),
@@ -94,7 +86,8 @@ pub fn put_json(
     octets: &[u8],
 ) -> Result<bool, AllocError>
     requires { length octets.now < 2 ^ 32 }
-    ensures { IfOk result (PutsLine (known dictionary.now) octets.now out.old.items out.new.items) }
+    ensures { IfOk result (λ refused. (text : List ℕ) × SaysInJson (known dictionary.now) octets.now text refused
+        × (out.new.items ≡ out.old.items ++ text)) }
 {
     let alloc = *out.allocator();
     let parts = parts_of(alloc, dictionary, octets)?;
@@ -117,19 +110,4 @@ pub fn put_json(
             Ok(true)
         }
     }
-}
-
-/// Puts what ends an input before its end as one object of JSON and the end of its line: what it is, the character or octet of the
-/// input at which it stands, and what was wrong.
-pub fn put_stop(out: &mut Vec<u8>, stop: &str, place: u64, reason: &str) -> Result<(), AllocError>
-    ensures { OnOk result (IsLineBehind out.old.items out.new.items) }
-{
-    put_line(
-        out,
-        &Stop {
-            stop,
-            place,
-            reason,
-        },
-    )
 }

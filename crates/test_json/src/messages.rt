@@ -2,7 +2,7 @@
 
 use bench_text::decode;
 use dia_dict::Dictionary;
-use msg_json::{put_json, put_stop};
+use msg_json::put_json;
 use std::alloc::Global;
 use std::test::Fail;
 
@@ -166,15 +166,5 @@ fn what_is_unknown_cut_off_or_missing_is_told(rt: HostRuntime) -> Result<(), Fai
     assert!(rt; says(rt.alloc(), 1, 0, UNKNOWN, true, UNKNOWN_LINE));
     assert!(rt; says(rt.alloc(), 1, 0, "01000038800001", true, CUT_LINE));
     assert!(rt; says(rt.alloc(), 1, 0, MISSING, true, MISSING_LINE));
-    Ok(())
-}
-
-#[test]
-fn what_ends_an_input_has_a_line(rt: HostRuntime) -> Result<(), Fail> {
-    let mut out = Vec::new(rt.alloc());
-    out.extend_from_slice(b"x\n")?;
-    put_stop(&mut out, "bad hex", 57, "no \"digit\"\t")?;
-    let line: &str = "x\n{\"stop\":\"bad hex\",\"place\":57,\"reason\":\"no \\\"digit\\\"\\t\"}\n";
-    assert!(rt; out.as_slice() == line.as_bytes());
     Ok(())
 }

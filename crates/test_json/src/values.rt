@@ -19,13 +19,15 @@ fn message_with(code: u32, data: &[u8], octets: &mut [u8; 64]) -> usize {
 /// Whether the line of such a message has these members behind the AVP's type.
 fn says(alloc: Global, dictionary: &Dictionary, code: u32, data: &[u8], members: &str) -> bool {
     let mut octets = [0u8; 64];
-    let length = message_with(code, data, &mut octets);
+    let length = message_with(code, data, &mut octets).min(64);
     let mut out = Vec::new(alloc);
     if put_json(&mut out, dictionary, 1, 0, &octets[..length]).is_err() {
         return false;
     }
-    let line = out.as_slice();
-    line.windows(members.len()).any(|w| w == members.as_bytes())
+    match str::from_utf8(&out) {
+        Ok(line) => line.contains(members),
+        Err(_) => false,
+    }
 }
 
 /// Code, data and members.
