@@ -57,7 +57,10 @@ clock_text seconds =
     codes "T" ++ two_digits (seconds / 3600) ++ codes ":" ++ two_digits (seconds / 60 % 60)
     ++ codes ":" ++ two_digits (seconds % 60) ++ codes "Z"
 
+-- `2024-03-01T23:59:59Z`
+abbrev pub utc_text : ℕ → List ℕ
+utc_text number = date_text (seconds_of number / 86400) ++ clock_text (seconds_of number % 86400)
+
 -- `3918326399 2024-03-01T23:59:59Z`
 abbrev pub time_text : ℕ → List ℕ
-time_text number =
-    decimal number ++ codes " " ++ date_text (seconds_of number / 86400) ++ clock_text (seconds_of number % 86400)
+time_text number = decimal number ++ codes " " ++ utc_text number

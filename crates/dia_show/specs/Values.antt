@@ -70,6 +70,16 @@ typed_text OctetString code octets = octets_text octets
 abbrev pub names_code : Definition → ℕ
 names_code d = if unwrap_or d.vendor 0 == 0 then d.code else 0
 
+-- the name of a number in the AVP of a definition: a Result-Code and an Enumerated have some
+abbrev pub name_of_kind : AvpKind → ℕ → ℕ → List ℕ
+name_of_kind Unsigned32 code number = number_name code number
+name_of_kind Enumerated code number = enumerated_name code number
+name_of_kind kind code number = []
+
+-- the same by the definition
+abbrev pub value_name : Definition → ℕ → List ℕ
+value_name d number = name_of_kind d.kind (names_code d) number
+
 -- data by the definition that the AVP has, in hexadecimal where it has none
 abbrev pub value_text : Option Definition → List ℕ → List ℕ
 value_text None octets = octets_text octets

@@ -50,7 +50,8 @@ fn command_name(number: u32) -> &'static str
     }
 }
 
-fn command_letters(number: u32) -> &'static str
+/// The first two letters of the abbreviation of a command, empty where the standards have no such command.
+pub fn command_letters(number: u32) -> &'static str
     ensures { result.now ≡ command_letters number }
 {
     match CommandCode::coded(number) {

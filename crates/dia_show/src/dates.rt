@@ -1,6 +1,6 @@
 //! Time as a date and a time of day.
 ghost use Rattle.std.specs.Prelude.{◌≡◌, ◌<◌, ◌≤◌, ◌+◌, ◌^◌, ◌++◌, OnOk};
-ghost use Rattle.dia_show.specs.Dates.{seconds_of, even_days, year_of_four, year_of, leap_day, day_of_year, month_at, two_digits, date_text, clock_text, time_text};
+ghost use Rattle.dia_show.specs.Dates.{seconds_of, even_days, year_of_four, year_of, leap_day, day_of_year, month_at, two_digits, date_text, clock_text, utc_text, time_text};
 
 use bench_text::put_number;
 use std::alloc::AllocError;
@@ -113,14 +113,21 @@ fn put_clock(out: &mut Vec<u8>, seconds: u32) -> Result<(), AllocError>
     out.extend_from_slice(b"Z")
 }
 
-/// Puts a Time: its number, and behind one blank the date and the time of day in UTC that it is (RFC 6733 section 4.3.1). A number
-/// below 2^31 is one after 7 February 2036, 06:28:16, up to 2104.
+/// Puts the date and the time of day in UTC that a Time's number is (RFC 6733 section 4.3.1). A number below 2^31 is one after
+/// 7 February 2036, 06:28:16, up to 2104.
+pub fn put_utc(out: &mut Vec<u8>, number: u32) -> Result<(), AllocError>
+    ensures { OnOk result (out.new.items ≡ out.old.items ++ utc_text number) }
+{
+    let seconds = seconds_of(number);
+    put_date(out, (seconds / DAY) as u32)?;
+    put_clock(out, (seconds % DAY) as u32)
+}
+
+/// Puts a Time: its number, and behind one blank its date and time of day as `put_utc` puts them.
 pub fn put_time(out: &mut Vec<u8>, number: u32) -> Result<(), AllocError>
     ensures { OnOk result (out.new.items ≡ out.old.items ++ time_text number) }
 {
-    let seconds = seconds_of(number);
     put_number(out, b"", u64::from(number))?;
     out.extend_from_slice(b" ")?;
-    put_date(out, (seconds / DAY) as u32)?;
-    put_clock(out, (seconds % DAY) as u32)
+    put_utc(out, number)
 }

@@ -14,8 +14,8 @@ mod enumerations;
 mod parts;
 mod values;
 
-pub use commands::put_command;
-pub use dates::put_time;
+pub use commands::{command_letters, put_command};
+pub use dates::{put_time, put_utc};
 pub use enumerations::enumerated_name;
 pub use parts::{put_address, put_octets, put_quoted};
-pub use values::put_value;
+pub use values::{put_value, value_name};

@@ -1,7 +1,7 @@
 //! What an AVP's data says, by its type.
 ghost use Rattle.std.specs.Prelude.{◌≡◌, ◌++◌, ◌<◌, ◌^◌, OnOk};
 ghost use Rattle.std.specs.Option.{option_copied};
-ghost use Rattle.dia_show.specs.Values.{name_behind, ill_sized, number_name, unsigned_text, enumerated_text, long_text, moment_text, address_text, typed_text, names_code, value_text};
+ghost use Rattle.dia_show.specs.Values.{name_behind, ill_sized, number_name, unsigned_text, enumerated_text, long_text, moment_text, address_text, typed_text, names_code, value_name, value_text};
 
 use crate::dates::put_time;
 use crate::enumerations::enumerated_name;
@@ -114,6 +114,17 @@ fn names_code(definition: &Definition) -> u32
         definition.code
     } else {
         0
+    }
+}
+
+/// The name of a number in the AVP of this definition, empty where the standards have none.
+pub fn value_name(definition: &Definition, number: u32) -> &'static str
+    ensures { result.now ≡ value_name definition.now number }
+{
+    match definition.kind {
+        AvpKind::Unsigned32 => number_name(names_code(definition), number),
+        AvpKind::Enumerated => enumerated_name(names_code(definition), number),
+        _ => "",
     }
 }
 

@@ -55,11 +55,15 @@ data_text definition room octets =
 
 -- what is wrong with an AVP that is broken
 abbrev pub broken_words : FaultCode → List ℕ
-broken_words ShortHeader = codes ": broken, its header is cut off: "
-broken_words LengthBelowHeader = codes ": broken, its length is below that of its header: "
-broken_words PastEnd = codes ": broken, it runs past the end: "
-broken_words TooMany = codes ": broken: "
-broken_words TooDeep = codes ": broken: "
+broken_words ShortHeader = codes "its header is cut off"
+broken_words LengthBelowHeader = codes "its length is below that of its header"
+broken_words PastEnd = codes "it runs past the end"
+broken_words TooMany = codes "it is one AVP too many"
+broken_words TooDeep = codes "it opens one level too many"
+
+-- the same of one that is broken, with all octets behind it
+unfoldable pub broken_text : FaultCode → List ℕ → List ℕ
+broken_text code octets = codes ": broken, " ++ broken_words code ++ codes ": " ++ octets_text octets
 
 -- the AVP at the front of octets without its place, or what is broken there with all octets behind it
 abbrev pub front_text : List Definition → ℕ → List ℕ → Result (Avp × List ℕ) FaultCode → List ℕ
@@ -67,7 +71,7 @@ front_text definitions room octets (Ok x) =
     let definition = definition_of definitions x.0.code x.0.vendor in
     title_text definition octets ++ data_text definition room x.0.octets
 front_text definitions room octets (Err code) =
-    title_text (definition_of definitions (cut_avp octets).code (cut_avp octets).vendor) octets ++ broken_words code ++ octets_text octets
+    title_text (definition_of definitions (cut_avp octets).code (cut_avp octets).vendor) octets ++ broken_text code octets
 
 -- the line of a part
 unfoldable pub part_line : List Definition → Piece → List ℕ

@@ -17,7 +17,8 @@ use dia_msg::MsgFault;
 use dia_tree::{cut_avp, is_grouped};
 use std::alloc::AllocError;
 
-fn reason(code: ResultCode) -> &'static [u8]
+/// What a fault's Result-Code means of a message (RFC 6733 section 7.1).
+pub fn reason(code: ResultCode) -> &'static [u8]
     ensures { result.now ≡ reason code }
 {
     match code {
@@ -81,7 +82,8 @@ fn is_failed(dictionary: &Dictionary, code: ResultCode, failed: &AvpView<'_>, oc
     }
 }
 
-fn failed_place(
+/// Where the failed AVP of a fault begins in its message: the first of its parts that is it.
+pub fn failed_place(
     dictionary: &Dictionary,
     code: ResultCode,
     failed: &AvpView<'_>,

@@ -6,7 +6,7 @@ ghost use Rattle.dia_avp.specs.Reading.{avp_at};
 ghost use Rattle.dia_tree.specs.Kind.{is_grouped};
 ghost use Rattle.dia_dict.specs.Dictionary.{known};
 ghost use Rattle.msg_explain.specs.Parts.{seen_part};
-ghost use Rattle.msg_explain.specs.Lines.{indent, place_text, flag_letter, flag_letters, vendor_text, name_text, code_text, title_text, data_text, broken_words, front_text, part_line};
+ghost use Rattle.msg_explain.specs.Lines.{indent, place_text, flag_letter, flag_letters, vendor_text, name_text, code_text, title_text, data_text, broken_words, broken_text, front_text, part_line};
 
 use crate::parts::{Part, length_at};
 use bench_text::put_number;
@@ -27,7 +27,7 @@ fn put_place(out: &mut Vec<u8>, part: &Part<'_>) -> Result<(), AllocError>
 }
 
 /// A flag's letter, or `-` where it isn't set.
-pub(crate) fn flag_letter(flags: u8, mask: u8, sign: u8) -> u8
+pub fn flag_letter(flags: u8, mask: u8, sign: u8) -> u8
     ensures { result ≡ flag_letter flags mask sign }
 {
     if flags & mask != 0 { sign } else { b'-' }
@@ -115,15 +115,27 @@ fn put_data(
     put_value(out, definition, octets)
 }
 
-fn broken_words(code: FaultCode) -> &'static [u8]
+/// What is wrong with an AVP that is broken.
+pub fn broken_words(code: FaultCode) -> &'static [u8]
     ensures { result.now ≡ broken_words code }
 {
     match code {
-        FaultCode::ShortHeader => b": broken, its header is cut off: ",
-        FaultCode::LengthBelowHeader => b": broken, its length is below that of its header: ",
-        FaultCode::PastEnd => b": broken, it runs past the end: ",
-        FaultCode::TooMany | FaultCode::TooDeep => b": broken: ",
+        FaultCode::ShortHeader => b"its header is cut off",
+        FaultCode::LengthBelowHeader => b"its length is below that of its header",
+        FaultCode::PastEnd => b"it runs past the end",
+        FaultCode::TooMany => b"it is one AVP too many",
+        FaultCode::TooDeep => b"it opens one level too many",
     }
+}
+
+#[tactic(auto, unfolding(crate::specs::Lines::broken_text))]
+fn put_broken(out: &mut Vec<u8>, code: FaultCode, octets: &[u8]) -> Result<(), AllocError>
+    ensures { OnOk result (out.new.items ≡ out.old.items ++ broken_text code octets.now) }
+{
+    out.extend_from_slice(b": broken, ")?;
+    out.extend_from_slice(broken_words(code))?;
+    out.extend_from_slice(b": ")?;
+    put_octets(out, octets)
 }
 
 // The AVP at the front, or what is broken there.
@@ -144,8 +156,7 @@ fn put_front(
         Err(code) => {
             let avp = cut_avp(octets);
             put_title(out, dictionary.find(avp.code, avp.vendor), octets)?;
-            out.extend_from_slice(broken_words(code))?;
-            put_octets(out, octets)
+            put_broken(out, code, octets)
         }
     }
 }

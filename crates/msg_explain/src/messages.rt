@@ -22,7 +22,8 @@ fn put_letters(out: &mut Vec<u8>, flags: u8) -> Result<(), AllocError>
     ])
 }
 
-fn session_in(octets: &[u8]) -> Option<&[u8]>
+/// The data of the first Session-Id among the AVPs that octets are, as far as they are AVPs.
+pub fn session_in(octets: &[u8]) -> Option<&[u8]>
     ensures { bytes_of result ≡ session_in octets.now }
 {
     let mut rest = octets;

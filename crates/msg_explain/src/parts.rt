@@ -15,14 +15,14 @@ const FEW_PARTS: usize = 32;
 /// An AVP in a message: where it begins, how many levels of groups it may still open, and the octets from it to the end of its
 /// list.
 #[derive(Clone, Copy)]
-pub(crate) struct Part<'a> {
+pub struct Part<'a> {
     pub place: usize,
     pub room: u8,
     pub octets: &'a [u8],
 }
 
 /// The AVP Length at the front of octets; octets that are missing count as zero.
-pub(crate) fn length_at(octets: &[u8]) -> u32
+pub fn length_at(octets: &[u8]) -> u32
     ensures is { result ≡ length_at octets.now }
     ensures few { result < 2 ^ 24 }
 {
@@ -61,7 +61,7 @@ fn list_parts<'a>(
 }
 
 /// The AVPs of a message with where they lie, groups opened.
-pub(crate) fn parts_of<'a>(
+pub fn parts_of<'a>(
     alloc: Global,
     dictionary: &Dictionary,
     octets: &'a [u8],
