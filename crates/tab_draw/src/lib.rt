@@ -3,5 +3,7 @@
 
 mod graph;
 mod label;
+mod run;
 
 pub use graph::draw;
+pub use run::draw_on;
