@@ -3,7 +3,7 @@ use Rattle.std.specs.Prelude.{◌≡◌, ◌≢◌, ◌⊎◌, List, [], option_
 use Rattle.clap.specs.Words.{Text}
 use Rattle.clap.specs.declared.error.kind.ErrorKind.{ErrorKind}
 use Rattle.clap.specs.declared.error.kind.ErrorKind.TheVariants.{DisplayHelp, DisplayVersion, OutOfMemory}
-use Rattle.dbench.specs.Words.{AreRefused, AskForText, Wanted, Read, Walk, Names, Table, Nothing, wanted, word_faults}
+use Rattle.dbench.specs.Words.{AreRefused, AskForText, Wanted, Read, Walk, Names, Table, Draw, Nothing, wanted, word_faults}
 use Rattle.dbench.specs.declared.words.Task.{Task}
 use Rattle.dbench.specs.declared.words.Task.TheVariants as tasks
 use Rattle.dbench.specs.declared.words.Asked.{Asked}
@@ -17,6 +17,7 @@ meaning (tasks.Read file) = Read (option_map (λ name. name.now) file)
 meaning (tasks.Walk table events) = Walk table.now (option_map (λ name. name.now) events)
 meaning tasks.Names = Names
 meaning (tasks.Table role) = Table role.now
+meaning (tasks.Draw table) = Draw (option_map (λ name. name.now) table)
 meaning tasks.Nothing = Nothing
 
 -- a command where nothing is wrong, a text that is asked for, or a refusal where something is wrong

@@ -9,8 +9,10 @@ use Rattle.clap.specs.Words.{Text}
 use Rattle.law_text.specs.Sentences.{book_text}
 use Rattle.msg_text.specs.Inputs.{IsReport}
 use Rattle.role_tables.specs.Roles.{all_laws, table_named}
+use Rattle.tab_draw.specs.Runs.{graph_status, graph_text}
+use Rattle.tab_text.specs.Faults.{first_fault}
 use Rattle.tab_walk.specs.Walks.{IsWalkedOn}
-use Rattle.dbench.specs.Words.{Wanted, Read, Walk, Names, Table, Nothing}
+use Rattle.dbench.specs.Words.{Wanted, Read, Walk, Names, Table, Draw, Nothing}
 
 -- Messages of a file or of standard input were read: what was written out is what the text prints. Without a file the text
 -- is that of the source. It is done only where nothing is left to read, and refused only where something was read.
@@ -30,6 +32,12 @@ pub record WalksTable {I O : Type 0} (remaining : I → Option (List ℕ)) (read
   pub table_read : IsInput remaining reads failures source between table
   pub events_read : IsInput remaining reads failures between source' events
   pub walked : IsWalkedOn contents write_failures idle all_laws table events sink sink' answer
+
+-- A table was read whole, and what is told is its graph, or its first fault.
+pub record DrawsTable {I O : Type 0} (remaining : I → Option (List ℕ)) (reads failures : I → ℕ) (contents : O → Option (List ℕ)) (write_failures idle : O → ℕ) (source source' : I) (sink sink' : O) (answer : Status) : Type 0 where
+  pub table : List ℕ
+  pub read : IsInput remaining reads failures source source' table
+  pub told : Tells contents write_failures idle sink sink' (graph_text table) (graph_status (first_fault table)) answer
 
 -- a table that is there is told; one that isn't is refused with some text
 abbrev pub TellsTable : {O : Type 0} → (contents : O → Option (List ℕ)) → (failures idle : O → ℕ) → Option (List ℕ) → (old new : O) → Status → Type 0
@@ -51,5 +59,7 @@ IsMet remaining reads failures contents write_failures idle Names source source'
     × (Tells contents write_failures idle sink sink' (book_text all_laws) statuses.Done answer ⊎ TellsNoMemory contents write_failures idle sink sink' answer)
 IsMet remaining reads failures contents write_failures idle (Table role) source source' sink sink' answer =
     (source' ≡ source) × TellsTable contents write_failures idle (table_named role) sink sink' answer
+IsMet remaining reads failures contents write_failures idle (Draw table) source source' sink sink' answer =
+    DrawsTable remaining reads failures contents write_failures idle source source' sink sink' answer ⊎ TellsNoMemory contents write_failures idle sink sink' answer
 IsMet remaining reads failures contents write_failures idle Nothing source source' sink sink' answer =
     (source' ≡ source) × (text : List ℕ) × Tells contents write_failures idle sink sink' text statuses.Usage answer

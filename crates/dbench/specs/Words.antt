@@ -32,22 +32,28 @@ walk_inputs = with_rule (with_rule (new_app (codes "walk")) (new_rule (codes "TA
 abbrev pub walk_app : App
 walk_app = with_rule (with_rule walk_inputs names_rule) table_rule
 
+-- `draw`, with one TABLE at most
+abbrev pub draw_app : App
+draw_app = with_rule (new_app (codes "draw")) (new_rule (codes "TABLE"))
+
 -- `dbench`, with a version, of which a command is required
 abbrev pub dbench_app : App
 dbench_app =
-    with_subcommand (with_subcommand (on_top (λ s. record s { has_version = true; subcommand_required = true }) (new_app (codes "dbench"))) read_app.top) walk_app.top
+    with_subcommand (with_subcommand (with_subcommand (on_top (λ s. record s { has_version = true; subcommand_required = true }) (new_app (codes "dbench"))) read_app.top) walk_app.top) draw_app.top
 
 -- what is wrong with the words, or which text they ask for; nothing where they are a command
 unfoldable pub word_faults : List Text → Kinds
 word_faults words = fault_of dbench_app words
 
 -- what a command asks for: messages of this file or of standard input; a walk of a table over events of a file or of
--- standard input; the names that tables may use; the table of a role; or not one thing
+-- standard input; the names that tables may use; the table of a role; the graph of a table of a file or of standard input;
+-- or not one thing
 pub data Wanted : Type 0 where
   Read : Option Text → Wanted
   Walk : Text → Option Text → Wanted
   Names : Wanted
   Table : Text → Wanted
+  Draw : Option Text → Wanted
   Nothing : Wanted
 
 -- what `walk` asks for: by its flag, NAME, TABLE and EVENTS
@@ -65,7 +71,8 @@ is_given value = option_map_or (λ text. bytes_eq text (codes "true")) value fal
 abbrev pub wanted_of : Option (Text × List Row) → Wanted
 wanted_of None = Read None
 wanted_of (Some used) =
-    if bytes_eq used.0 (codes "walk")
+    if bytes_eq used.0 (codes "draw") then Draw (first_of (codes "TABLE") used.1)
+    else if bytes_eq used.0 (codes "walk")
     then walk_wanted (is_given (first_of (codes "names") used.1)) (first_of (codes "NAME") used.1) (first_of (codes "TABLE") used.1) (first_of (codes "EVENTS") used.1)
     else Read (first_of (codes "FILE") used.1)
 

@@ -3,10 +3,12 @@
 //! | File | What it does |
 //! |---|---|
 //! | `words` | what the words on the command line ask for |
+//! | `draw` | the runs of `draw`
 //! | `walk` | the runs of `walk`, over callbacks that are made here |
 //! | `run` | one run, from words, an input and an output to a status |
 #![tactic(auto)]
 
+mod draw;
 mod run;
 mod walk;
 mod words;

@@ -7,6 +7,7 @@ ghost use Rattle.dbench.specs.Asked.{meaning};
 ghost use Rattle.dbench.specs.Runs.{IsMet, ReadsMessages, TellsNoMemory};
 ghost use Rattle.dbench.specs.Words.{AreRefused, AskForText, AsksInVain, no_words_status, no_words_text, wanted, word_faults};
 
+use crate::draw::draw;
 use crate::walk::{tell_names, tell_table, walk};
 use crate::words::{Asked, NoWords, Task, WALK_USAGE, WordsError, parse_words};
 use bench_device::{
@@ -109,6 +110,7 @@ fn run<I: FileSource, O: ByteSink>(
         Task::Walk(table, events) => walk(alloc, table, events, source, sink),
         Task::Names => tell_names(alloc, sink),
         Task::Table(name) => tell_table(name, sink),
+        Task::Draw(table) => draw(alloc, table, source, sink),
         Task::Nothing => tell(sink, WALK_USAGE.as_bytes(), Status::Usage),
     }
 }

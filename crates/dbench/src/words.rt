@@ -3,7 +3,7 @@ ghost use Rattle.std.specs.Prelude.{◌≡◌, IfOk, Some, false, map, option_ma
 ghost use Rattle.clap.specs.Words.{app_of, first_of, found_of, kind_of, rows_of, rule_of, with_rule};
 ghost use Rattle.clap.specs.declared.builder.command.Command.TheViews.{out-Command};
 ghost use Rattle.dbench.specs.declared.words.WordsError.TheVariants.{NoMemory};
-ghost use Rattle.dbench.specs.Words.{dbench_app, is_given, names_rule, read_app, table_rule, walk_app, walk_inputs, walk_wanted, wanted_of};
+ghost use Rattle.dbench.specs.Words.{dbench_app, draw_app, is_given, names_rule, read_app, table_rule, walk_app, walk_inputs, walk_wanted, wanted_of};
 ghost use Rattle.dbench.specs.Asked.{IsAsked, IsRefusal, meaning};
 
 use clap::error::ErrorKind;
@@ -50,6 +50,8 @@ pub(crate) enum Task<'a> {
     Names,
     /// The table of the role of that name.
     Table(&'a str),
+    /// `draw`, of the table of this file or of standard input.
+    Draw(Option<&'a str>),
     /// Not one thing.
     Nothing,
 }
@@ -121,6 +123,20 @@ printed walk may be handed in again once ` FROM TO row N` is cut off.
 Nothing is stepped where something is wrong. `line N fault C` is the first fault of the table, `unbound NAME` a name
 of the table that `--names` doesn't list, `bad line N` the first line of events that is none, from 1; the line below
 says what was wanted.";
+
+const DRAW_ABOUT: &str = "Draw a state table as a graph, for Graphviz";
+
+const DRAW_LONG_ABOUT: &str = "\
+Draw a state table as a graph, for Graphviz.
+
+Reads TABLE, whose columns are State, Event, Action and Next. Each state is a box, the first is that in which a machine
+starts. Each row that leaves its state is an arrow with the row's number (from 0), its kind of events and its guards; the
+rows that stay in a state stand in its box, and have one arrow together.
+
+  dbench draw peer.tbl | dot -Tsvg > peer.svg
+  dbench walk --table server | dbench draw | dot -Grankdir=LR -Tsvg > server.svg
+
+`line N fault C` is the first fault of the table; the line below says what was wanted.";
 
 /// What is told where `walk` asks for not one thing.
 pub(crate) const WALK_USAGE: &str = "\
@@ -202,6 +218,18 @@ fn walk_command<'a>(alloc: Global) -> Result<Command<'a>, AllocError>
     walk_options(alloc, command)
 }
 
+fn draw_command<'a>(alloc: Global) -> Result<Command<'a>, AllocError>
+    ensures app { IfOk result (λ c. app_of c ≡ draw_app) }
+    ensures local { IfOk result (λ c. (out-Command c).has_globals ≡ false) }
+{
+    let table = Arg::new(alloc, "TABLE").help("The file of the table; without it, standard input");
+    Command::new(alloc, "draw")
+        .about(DRAW_ABOUT)
+        .long_about(DRAW_LONG_ABOUT)
+        .after_help(STATUSES)
+        .arg(table)
+}
+
 fn command<'a>(alloc: Global) -> Result<Command<'a>, AllocError>
     ensures { IfOk result (λ c. app_of c ≡ dbench_app) }
 {
@@ -211,7 +239,8 @@ fn command<'a>(alloc: Global) -> Result<Command<'a>, AllocError>
         .after_help(STATUSES)
         .subcommand_required(true)
         .subcommand(read_command(alloc)?)?
-        .subcommand(walk_command(alloc)?)
+        .subcommand(walk_command(alloc)?)?
+        .subcommand(draw_command(alloc)?)
 }
 
 // The text of an error is asked for, or tells what is wrong with the words.
@@ -265,6 +294,9 @@ fn value_of<'a>(found: &ArgMatches<'a>, id: &str) -> Option<&'a str>
 fn task_of<'a>(name: &str, found: &ArgMatches<'a>) -> Task<'a>
     ensures { meaning result ≡ wanted_of (Some (name.now, rows_of (found_of found.now))) }
 {
+    if name == "draw" {
+        return Task::Draw(value_of(found, "TABLE"));
+    }
     if name == "walk" {
         let names = is_given(value_of(found, "names"));
         let role = value_of(found, "NAME");

@@ -1,6 +1,8 @@
-//! Tests of the texts of tables, over their public calls alone: read, refused, and printed.
+//! Tests of the texts of tables, over their public calls alone: read, refused, printed and drawn.
 #![tactic(auto)]
 
+#[cfg(test)]
+mod draws;
 #[cfg(test)]
 mod joined;
 #[cfg(test)]

@@ -1,4 +1,5 @@
 //! What is printed, and how a run ends.
+mod draws;
 mod inputs;
 mod roles;
 mod walks;
