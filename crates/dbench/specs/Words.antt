@@ -9,13 +9,19 @@ use Rattle.clap.specs.declared.error.kind.ErrorKind.{ErrorKind}
 use Rattle.clap.specs.declared.error.kind.ErrorKind.TheVariants.{DisplayHelp, DisplayVersion}
 use Rattle.bench_device.specs.declared.status.Status.{Status}
 use Rattle.bench_device.specs.declared.status.Status.TheVariants as statuses
+use Rattle.msg_text.specs.declared.manner.Style.{Style}
+use Rattle.msg_text.specs.declared.manner.Style.TheVariants.{Plain, Explained}
 use Rattle.role_tables.specs.Roles.{table_named}
 use Rattle.dbench.specs.declared.words.NoWords.{NoWords}
 use Rattle.dbench.specs.declared.words.NoWords.TheVariants as no_words
 
--- `read`, with one FILE at most
+-- a flag of `read`
+abbrev pub explain_rule : Rule
+explain_rule = record (new_rule (codes "explain")) { long = Some (codes "explain"); action = Some SetTrue }
+
+-- `read`, with one FILE at most, and with that flag or without
 abbrev pub read_app : App
-read_app = with_rule (new_app (codes "read")) (new_rule (codes "FILE"))
+read_app = with_rule (with_rule (new_app (codes "read")) (new_rule (codes "FILE"))) explain_rule
 
 -- a flag and an option of `walk`
 abbrev pub names_rule : Rule
@@ -45,11 +51,11 @@ dbench_app =
 unfoldable pub word_faults : List Text → Kinds
 word_faults words = fault_of dbench_app words
 
--- what a command asks for: messages of this file or of standard input; a walk of a table over events of a file or of
+-- what a command asks for: messages in a style, of this file or of standard input; a walk of a table over events of a file or of
 -- standard input; the names that tables may use; the table of a role; the graph of a table of a file or of standard input;
 -- or not one thing
 pub data Wanted : Type 0 where
-  Read : Option Text → Wanted
+  Read : Style → Option Text → Wanted
   Walk : Text → Option Text → Wanted
   Names : Wanted
   Table : Text → Wanted
@@ -67,14 +73,19 @@ walk_wanted flag role table events = Nothing
 abbrev pub is_given : Option Text → Bool
 is_given value = option_map_or (λ text. bytes_eq text (codes "true")) value false
 
+-- the style that `read` prints in, by its flag
+abbrev pub style_of : Bool → Style
+style_of false = Plain
+style_of true = Explained
+
 -- what a command asks for, by its name and what stands behind it
 abbrev pub wanted_of : Option (Text × List Row) → Wanted
-wanted_of None = Read None
+wanted_of None = Read Plain None
 wanted_of (Some used) =
     if bytes_eq used.0 (codes "draw") then Draw (first_of (codes "TABLE") used.1)
     else if bytes_eq used.0 (codes "walk")
     then walk_wanted (is_given (first_of (codes "names") used.1)) (first_of (codes "NAME") used.1) (first_of (codes "TABLE") used.1) (first_of (codes "EVENTS") used.1)
-    else Read (first_of (codes "FILE") used.1)
+    else Read (style_of (is_given (first_of (codes "explain") used.1))) (first_of (codes "FILE") used.1)
 
 -- what the words ask for, where they are a command
 unfoldable pub wanted : List Text → Wanted

@@ -3,6 +3,7 @@ ghost use Rattle.std.specs.Prelude.{◌≡◌, ◌≢◌, ◌⊎◌, ◌<◌, �
 ghost use Rattle.std.specs.Io.KnownBytes.{IsAtEnd};
 ghost use Rattle.bench_device.specs.Devices.{IsRun, Tells};
 ghost use Rattle.msg_text.specs.Inputs.{IsReport};
+ghost use Rattle.msg_text.specs.Styles.{end_in, says_in};
 ghost use Rattle.dbench.specs.Asked.{meaning};
 ghost use Rattle.dbench.specs.Runs.{IsMet, ReadsMessages, TellsNoMemory};
 ghost use Rattle.dbench.specs.Words.{AreRefused, AskForText, AsksInVain, no_words_status, no_words_text, wanted, word_faults};
@@ -13,12 +14,13 @@ use crate::words::{Asked, NoWords, Task, WALK_USAGE, WordsError, parse_words};
 use bench_device::{
     ByteSink, FileSource, MAX_IDLE_WRITES, MAX_READS, Status, tell, tell_not_opened,
 };
-use msg_text::read_on;
+use msg_text::{Style, read_on};
 use std::alloc::Global;
 use std::convert::AsStr;
 
 fn read_file<I: FileSource, O: ByteSink>(
     alloc: Global,
+    style: Style,
     name: &str,
     source: &mut I,
     sink: &mut O,
@@ -37,7 +39,7 @@ fn read_file<I: FileSource, O: ByteSink>(
 
     // What was written out is what the text that was read of the file prints.
     ensures report { result ≢ Status.Fault → (start : I) × (I.reads start ≡ I.reads source.old)
-        × IsReport I.remaining O.contents start source.new sink.old sink.new result }
+        × IsReport (says_in style) (end_in style) I.remaining O.contents start source.new sink.old sink.new result }
 
     // It is done only where nothing is left to read, and refused only where something was read.
     ensures whole { result ≡ Status.Done → IsAtEnd (I.remaining source.new) }
@@ -45,7 +47,7 @@ fn read_file<I: FileSource, O: ByteSink>(
     ensures words { result ≢ Status.Usage }
 {
     if source.open(name).is_ok() {
-        return read_on(alloc, source, sink);
+        return read_on(style, alloc, source, sink);
     }
     tell_not_opened(alloc, name, sink)
 }
@@ -66,6 +68,7 @@ pub(crate) fn tell_no_words<O: ByteSink>(why: NoWords, sink: &mut O) -> Status
 /// Reads messages of a file or of standard input.
 fn read<I: FileSource, O: ByteSink>(
     alloc: Global,
+    style: Style,
     file: Option<&str>,
     source: &mut I,
     sink: &mut O,
@@ -78,12 +81,12 @@ fn read<I: FileSource, O: ByteSink>(
     ensures row { O.most_idle sink.new ≤ max (O.most_idle sink.old) MAX_IDLE_WRITES }
     ensures run { IsRun I.reads I.failures O.failures O.idle source.old source.new sink.old sink.new result }
     ensures met { result ≢ Status.Fault
-        → ReadsMessages I.remaining I.reads O.contents (option_map (λ name. name.now) file.entry) source.old source.new sink.old sink.new result }
+        → ReadsMessages I.remaining I.reads O.contents style (option_map (λ name. name.now) file.entry) source.old source.new sink.old sink.new result }
     ensures words { result ≢ Status.Usage }
 {
     match file {
-        None => read_on(alloc, source, sink),
-        Some(name) => read_file(alloc, name, source, sink),
+        None => read_on(style, alloc, source, sink),
+        Some(name) => read_file(alloc, style, name, source, sink),
     }
 }
 
@@ -106,7 +109,7 @@ fn run<I: FileSource, O: ByteSink>(
     ensures usage { result ≡ Status.Usage → AsksInVain (meaning task.entry) × (source.new ≡ source.old) }
 {
     match task {
-        Task::Read(file) => read(alloc, file, source, sink),
+        Task::Read(style, file) => read(alloc, style, file, source, sink),
         Task::Walk(table, events) => walk(alloc, table, events, source, sink),
         Task::Names => tell_names(alloc, sink),
         Task::Table(name) => tell_table(name, sink),

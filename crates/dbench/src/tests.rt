@@ -29,6 +29,21 @@ fn words_ask_for_a_text_or_an_input_or_are_refused(rt: HostRuntime) -> Result<()
         (["dbench"].as_slice(), 2, "Usage: dbench"),
         (["dbench", "run"].as_slice(), 2, "Usage: dbench"),
         (["dbench", "read", "a", "b"].as_slice(), 2, "Usage: dbench"),
+        (
+            ["dbench", "read", "--explain"].as_slice(),
+            1,
+            "bad hex at character 0: each octet wants two hexadecimal digits, and between digits only blanks may stand\n",
+        ),
+        (
+            ["dbench", "read", "no/such.hex", "--explain"].as_slice(),
+            3,
+            "read fault: no/such.hex can't be opened\n",
+        ),
+        (
+            ["dbench", "read", "--explain", "--explain"].as_slice(),
+            2,
+            "Usage: dbench",
+        ),
         (["dbench", "read", "--fast"].as_slice(), 2, "Usage: dbench"),
         (["dbench", "walk", "--help"].as_slice(), 0, "KIND N=V .."),
         (

@@ -3,11 +3,12 @@ ghost use Rattle.std.specs.Prelude.{◌≡◌, IfOk, Some, false, map, option_ma
 ghost use Rattle.clap.specs.Words.{app_of, first_of, found_of, kind_of, rows_of, rule_of, with_rule};
 ghost use Rattle.clap.specs.declared.builder.command.Command.TheViews.{out-Command};
 ghost use Rattle.dbench.specs.declared.words.WordsError.TheVariants.{NoMemory};
-ghost use Rattle.dbench.specs.Words.{dbench_app, draw_app, is_given, names_rule, read_app, table_rule, walk_app, walk_inputs, walk_wanted, wanted_of};
+ghost use Rattle.dbench.specs.Words.{dbench_app, draw_app, explain_rule, is_given, names_rule, read_app, style_of, table_rule, walk_app, walk_inputs, walk_wanted, wanted_of};
 ghost use Rattle.dbench.specs.Asked.{IsAsked, IsRefusal, meaning};
 
 use clap::error::ErrorKind;
 use clap::{Arg, ArgAction, ArgMatches, Command, Error};
+use msg_text::Style;
 use std::alloc::{AllocError, AllocFailed, AllocGlobal, Global};
 use std::convert::AsStr;
 use std::env::Env;
@@ -42,8 +43,8 @@ pub(crate) fn given_words<R: Env + AllocGlobal>(rt: &R) -> Result<Vec<String>, N
 /// What a command asks for.
 #[derive(Clone, Copy, Debug)]
 pub(crate) enum Task<'a> {
-    /// `read`, of this file or of standard input.
-    Read(Option<&'a str>),
+    /// `read` in a style, of this file or of standard input.
+    Read(Style, Option<&'a str>),
     /// `walk`, of this table, over the events of this file or of standard input.
     Walk(&'a str, Option<&'a str>),
     /// The names that tables may use.
@@ -100,8 +101,13 @@ message it prints the header, the AVPs (code, /vendor, flags, length, data) and 
 of a faulty one `fault` with the Result-Code and the failed AVP. It stops at a `frame fault` (1: the version
 isn't 1, 2: the length is below 20, no multiple of 4 or over 4096) and at `bad hex`.
 
+With --explain it says in names what each message holds: the octet of the input at which it begins, its header and
+session, and each AVP in the order of the octets, those of a group indented below it: the octet of the message at which
+it begins, code, name, flags, length and value. A fault is told with its name, what is wrong in words, and which AVP at
+which octet; `bad hex` and `frame fault` with the character or octet of the input. All count from 0.
+
   echo 0100001480000118000000000000000100000001 | dbench read
-  dbench read examples/dwr.hex";
+  dbench read --explain examples/dwr.hex";
 
 const WALK_ABOUT: &str = "Step a state table over events and print each step";
 
@@ -157,6 +163,16 @@ Exit status:
   3  a read or a write failed, or the input didn't end in 1048576 reads
   4  no memory";
 
+fn explain_flag<'a>(alloc: Global) -> Arg<'a>
+    ensures rule { rule_of result ≡ explain_rule }
+    ensures local { result.global ≡ false }
+{
+    Arg::new(alloc, "explain")
+        .long("explain")
+        .action(ArgAction::SetTrue)
+        .help("Say in names and words what each message holds, and what is wrong with it")
+}
+
 fn read_command<'a>(alloc: Global) -> Result<Command<'a>, AllocError>
     ensures app { IfOk result (λ c. app_of c ≡ read_app) }
     ensures local { IfOk result (λ c. (out-Command c).has_globals ≡ false) }
@@ -166,7 +182,8 @@ fn read_command<'a>(alloc: Global) -> Result<Command<'a>, AllocError>
         .about(READ_ABOUT)
         .long_about(READ_LONG_ABOUT)
         .after_help(STATUSES)
-        .arg(file)
+        .arg(file)?
+        .arg(explain_flag(alloc))
 }
 
 fn walk_inputs<'a>(alloc: Global) -> Result<Command<'a>, AllocError>
@@ -266,6 +283,17 @@ fn is_given(value: Option<&str>) -> bool
     }
 }
 
+/// The style that `read` prints in, by its flag.
+fn style_of(explain: bool) -> Style
+    ensures { result ≡ style_of explain }
+{
+    if explain {
+        Style::Explained
+    } else {
+        Style::Plain
+    }
+}
+
 /// What `walk` asks for, by its flag, NAME, TABLE and EVENTS.
 fn walk_task<'a>(
     names: bool,
@@ -307,7 +335,8 @@ fn task_of<'a>(name: &str, found: &ArgMatches<'a>) -> Task<'a>
             value_of(found, "EVENTS"),
         )
     } else {
-        Task::Read(value_of(found, "FILE"))
+        let explain = is_given(value_of(found, "explain"));
+        Task::Read(style_of(explain), value_of(found, "FILE"))
     }
 }
 
@@ -324,6 +353,6 @@ pub(crate) fn parse_words<'a, S: AsStr>(
     };
     match matches.subcommand() {
         Some((name, found)) => Ok(Asked::Task(task_of(name, found))),
-        None => Ok(Asked::Task(Task::Read(None))),
+        None => Ok(Asked::Task(Task::Read(Style::Plain, None))),
     }
 }

@@ -1,5 +1,5 @@
 -- How reading ends, and what the source did then.
-use Rattle.std.specs.Prelude.{◌≡◌, ℕ, ◌+◌, Bool, true, false, List, [], Option, codes}
+use Rattle.std.specs.Prelude.{◌≡◌, ℕ, ◌+◌, ◌++◌, Bool, true, false, List, [], Option, Some, None, codes, decimal}
 use Rattle.std.specs.Io.KnownBytes.{IsAtEnd}
 use Rattle.dia_frame.specs.declared.fault.FrameFault.{FrameFault}
 use Rattle.dia_frame.specs.declared.fault.FrameFault.TheVariants.{Version, Length, Broken}
@@ -10,6 +10,7 @@ use Rattle.msg_text.specs.declared.ends.Refusal.TheVariants as refusals
 use Rattle.bench_device.specs.declared.status.Status.{Status}
 use Rattle.bench_device.specs.declared.status.Status.TheVariants as statuses
 use Rattle.msg_text.specs.declared.ends.End.{End}
+use Rattle.msg_text.specs.declared.ends.EndWords.{EndWords}
 use Rattle.msg_text.specs.declared.ends.End.TheVariants.{Whole, Refused, ReadFailed, TooManyReads}
 
 -- Whole: nothing is left. Read failed: one read failed. Too many: 1,048,576 were made, and none failed.
@@ -38,6 +39,15 @@ end_text (Refused (refusals.Frame fault)) = frame_text fault
 end_text (Refused refusals.NoMemory) = codes "no memory\n"
 end_text ReadFailed = codes "read fault\n"
 end_text TooManyReads = codes "read fault: no end of input after 1048576 reads\n"
+
+-- a number, where there is one
+abbrev pub place_text : Option ℕ → List ℕ
+place_text None = []
+place_text (Some place) = decimal place
+
+-- the text of words with a number in them, or without
+abbrev pub words_of : EndWords → List ℕ
+words_of w = w.before.now ++ place_text w.place ++ w.after.now
 
 -- the status; `refused` is whether a fault was printed
 abbrev pub end_status : End → Bool → Status

@@ -9,8 +9,10 @@ use std::alloc::AllocError;
 
 /// Why the input is read no further.
 #[derive(Clone, Copy, Debug, PartialEq, Eq)]
-pub(crate) enum Refusal {
+pub enum Refusal {
+    /// A character is neither a digit nor a blank, or a digit is left over at the end.
     BadHex,
+    /// The octets behind the last message are no message.
     Frame(FrameFault),
     NoMemory,
 }
@@ -36,11 +38,30 @@ impl From<FeedError> for Refusal {
 
 /// How reading came to its end.
 #[derive(Clone, Copy, Debug, PartialEq, Eq)]
-pub(crate) enum End {
+pub enum End {
+    /// All was read.
     Whole,
     Refused(Refusal),
     ReadFailed,
+    /// So many reads were made that no more are.
     TooManyReads,
+}
+
+/// How far an input was read.
+#[derive(Clone, Copy, Debug, PartialEq, Eq)]
+pub struct Place {
+    /// Octets of the whole messages so far: where the next one begins.
+    pub octets: u64,
+    /// Characters so far.
+    pub characters: u64,
+}
+
+/// A text with a number in it, or without.
+#[derive(Clone, Copy, Debug)]
+pub struct EndWords {
+    pub before: &'static [u8],
+    pub place: Option<u64>,
+    pub after: &'static [u8],
 }
 
 fn frame_text(fault: FrameFault) -> &'static [u8]

@@ -2,11 +2,18 @@
 #![tactic(auto)]
 
 mod ends;
+mod explaining;
+mod manner;
+mod plain;
 mod read;
 mod reading;
 mod report;
 mod show;
 
+pub use ends::{End, EndWords, Place, Refusal};
+pub use explaining::Explaining;
+pub use manner::{Manner, Style};
+pub use plain::Plain;
 pub use read::read_on;
 pub use report::Report;
 pub use show::{put_fault, put_message};

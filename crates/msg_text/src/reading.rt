@@ -1,9 +1,10 @@
 //! What is known of an input while it is read: its octets, its messages, and what they print.
-ghost use Rattle.std.specs.Prelude.{◌≡◌, ◌≢◌, ◌++◌, ◌<◌, ℕ, List, [], None, IfOk, OnOk, OnErr};
+ghost use Rattle.std.specs.Prelude.{◌≡◌, ◌≢◌, ◌++◌, ◌<◌, ◌≤◌, ◌+◌, ◌^◌, ℕ, List, length, [], None, IfOk, OnOk, OnErr};
 ghost use Rattle.std.specs.Option.{ForSome};
 ghost use Rattle.msg_text.specs.Ends.{IsLast};
 
-use crate::ends::{End, Refusal};
+use crate::ends::{End, Place, Refusal};
+use crate::manner::Manner;
 use crate::report::Report;
 use bench_text::{Stop, decode};
 use dia_frame::Framer;
@@ -14,25 +15,28 @@ const PIECE: usize = 4096;
 
 /// What is known of the input so far.
 #[derive(Drop)]
-pub(crate) struct Reading {
+pub(crate) struct Reading<M> {
     framer: Framer,
-    report: Report,
+    report: Report<M>,
+    /// How many characters were read.
+    characters: u64,
     /// The digit of an octet whose second digit hasn't come.
     half: Option<u8>,
     ghost half_fits: { ForSome half (λ digit. digit < 16) },
 }
 
-impl Reading {
-    ghost use Rattle.msg_text.specs.Readings.{Finishes, Halts, PrintsFront, PrintsWaiting, SoFar, Stands, TakesPiece, TakesText};
+impl<M: Manner> Reading<M> {
+    ghost use Rattle.msg_text.specs.Readings.{Finishes, Halts, PrintsFront, PrintsWaiting, SoFar, Stands, TakesPiece, TakesText, place_of};
     ghost use Rattle.msg_text.specs.Inputs.{IsPrintedOf};
 
     /// Nothing is read yet.
-    pub(crate) fn new(alloc: Global) -> Result<Reading, AllocError>
-        ensures { IfOk result (λ reading. SoFar reading [] [] None) }
+    pub(crate) fn new(alloc: Global) -> Result<Reading<M>, AllocError>
+        ensures { IfOk result (λ reading. SoFar M.Says reading [] [] None) }
     {
         Ok(Reading {
             framer: Framer::new(alloc, PIECE),
             report: Report::new(alloc)?,
+            characters: 0,
             half: None,
         })
     }
@@ -51,19 +55,30 @@ impl Reading {
         self.report.has_refused()
     }
 
+    /// How far the input was read.
+    pub(crate) fn place(&self) -> Place
+        ensures { result ≡ place_of self.now }
+    {
+        Place {
+            octets: self.report.octets(),
+            characters: self.characters,
+        }
+    }
+
     /// Forgets what was written out.
     pub(crate) fn clear(&mut self)
-        ensures { (text written : List ℕ) → SoFar self.old text written None
-            → SoFar self.new text (written ++ self.old.report.out.items) None }
+        ensures characters { self.new.characters ≡ self.old.characters }
+        ensures so_far { (text written : List ℕ) → SoFar M.Says self.old text written None
+            → SoFar M.Says self.new text (written ++ self.old.report.out.items) None }
     {
         self.report.clear();
     }
 
     // Prints the messages that wait, oldest first.
     fn print_waiting(&mut self) -> Result<(), AllocError>
-        ensures half { self.new.half ≡ self.old.half }
-        ensures printed { OnOk result (PrintsWaiting self.old.framer self.new.framer self.old.report self.new.report) }
-        ensures halted { OnErr result (PrintsFront self.old.framer self.old.report self.new.report) }
+        ensures kept { (self.new.half ≡ self.old.half) × (self.new.characters ≡ self.old.characters) }
+        ensures printed { OnOk result (PrintsWaiting M.Says self.old.framer self.new.framer self.old.report self.new.report) }
+        ensures halted { OnErr result (PrintsFront M.Says self.old.framer self.old.report self.new.report) }
     {
         while let Some(frame) = self.framer.next_frame() {
             self.report.message(frame.as_slice())?;
@@ -73,10 +88,10 @@ impl Reading {
 
     // The messages that a piece completes are printed, also where the octets behind them show a fault.
     fn take_piece(&mut self, piece: &[u8]) -> Result<(), Refusal>
-        ensures half { self.new.half ≡ self.old.half }
-        ensures stands { (octets written : List ℕ) (before : Stands self.old.framer self.old.report octets written None)
-            → TakesPiece result (Stands self.new.framer self.new.report (octets ++ piece.now) written)
-            (Halts before.messages self.new.report (octets ++ piece.now) written) }
+        ensures kept { (self.new.half ≡ self.old.half) × (self.new.characters ≡ self.old.characters) }
+        ensures stands { (octets written : List ℕ) (before : Stands M.Says self.old.framer self.old.report octets written None)
+            → TakesPiece result (Stands M.Says self.new.framer self.new.report (octets ++ piece.now) written)
+            (Halts M.Says before.messages self.new.report (octets ++ piece.now) written) }
     {
         let fed = self.framer.feed(piece);
         self.print_waiting()?;
@@ -88,14 +103,17 @@ impl Reading {
 
     /// Takes the next characters, and prints the messages that they complete.
     pub(crate) fn take_text(&mut self, text: &[u8]) -> Result<(), Refusal>
-        ensures { (before written : List ℕ) → SoFar self.old before written None
-            → TakesText result self.new before text.now written }
+        requires room { self.old.characters + length text.now < 2 ^ 64 }
+        ensures characters { self.new.characters ≤ self.old.characters + length text.now }
+        ensures taken { (before written : List ℕ) → SoFar M.Says self.old before written None
+            → TakesText M.Says result self.new before text.now written }
     {
         let mut rest = text;
         'pieces: while !rest.is_empty() {
             let mut piece = [0u8; PIECE];
             let decoded = decode(self.half, rest, &mut piece);
             self.half = decoded.half;
+            self.characters += decoded.used as u64;
             self.take_piece(&piece[..decoded.made])?;
             if let Stop::BadCharacter = decoded.stop {
                 return Err(Refusal::BadHex);
@@ -108,8 +126,8 @@ impl Reading {
     /// Ends with the input: a digit that is left over is bad, and octets that are left over are a message.
     pub(crate) fn end(&mut self) -> End
         ensures last { IsLast result }
-        ensures printed { (text written : List ℕ) → SoFar self.old text written None
-            → IsPrintedOf (Unit {0}) text (written ++ self.new.report.out.items) result self.new.report.refused }
+        ensures printed { (text written : List ℕ) → SoFar M.Says self.old text written None
+            → IsPrintedOf M.Says (Unit {0}) text (written ++ self.new.report.out.items) result self.new.report.refused (place_of self.new) }
     {
         match self.finish() {
             Ok(()) => End::Whole,
@@ -118,7 +136,7 @@ impl Reading {
     }
 
     fn finish(&mut self) -> Result<(), Refusal>
-        ensures { (text written : List ℕ) → SoFar self.old text written None → Finishes result self.new text written }
+        ensures { (text written : List ℕ) → SoFar M.Says self.old text written None → Finishes M.Says result self.new text written }
     {
         if self.half.is_some() {
             return Err(Refusal::BadHex);

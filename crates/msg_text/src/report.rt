@@ -1,54 +1,49 @@
 //! What is printed of messages, kept until it is written out.
-ghost use Rattle.std.specs.Prelude.{◌≡◌, ℕ, List, [], false, Bool, IfOk, OnOk, OnErr};
-ghost use Rattle.msg_text.specs.Printed.{CommandText, FaultText, Prints, dictionary};
+ghost use Rattle.std.specs.Prelude.{◌≡◌, ◌+◌, ℕ, List, [], ◌∷◌, false, Bool, IfOk, OnOk, OnErr};
 
-use crate::show::{put_fault, put_message};
-use dia_avp::{WriteError, write_avp};
-use dia_dict::Dictionary;
-use dia_msg::{Command, MsgError, MsgFault, read_message, write_message};
+use crate::manner::Manner;
 use std::alloc::{AllocError, Global};
 
-/// Reads messages and keeps their text.
-pub struct Report {
-    alloc: Global,
-    dictionary: Dictionary,
-    /// The encoding of the message that is being printed, and its lines.
-    encoding: Vec<u8>,
+/// Reads messages and keeps what is printed of them.
+#[derive(Drop)]
+pub struct Report<M> {
+    manner: M,
+    /// The lines of the message that is being printed.
     lines: Vec<u8>,
     /// What is to be written out.
     out: Vec<u8>,
     /// A fault was printed.
     refused: bool,
+    /// How many messages there were, and their octets.
+    messages: u64,
+    octets: u64,
 }
 
-impl Drop for Report {
-    fn drop(self) {
-        let Report {
-            alloc: _,
-            dictionary,
-            encoding,
-            lines,
-            out,
-            refused: _,
-        } = self;
+// A count and so many more. Of no input that is read the counts need more than 64 bits.
+fn counted(count: u64, more: usize) -> Result<u64, AllocError>
+    ensures { IfOk result (λ sum. sum ≡ count + more) }
+{
+    match count.checked_add(more as u64) {
+        Some(sum) => Ok(sum),
+        None => Err(AllocError),
     }
 }
 
-impl Report {
+impl<M: Manner> Report<M> {
     ghost use Rattle.msg_text.specs.Reports.{Gains, Stays};
 
     /// A report without text.
-    pub fn new(alloc: Global) -> Result<Report, AllocError>
+    pub fn new(alloc: Global) -> Result<Report<M>, AllocError>
         ensures start { IfOk result (λ r. (r.out.items ≡ []) × (r.refused ≡ false)) }
-        ensures dictionary { IfOk result (λ r. r.dictionary ≡ dictionary) }
+        ensures counts { IfOk result (λ r. (r.messages ≡ 0) × (r.octets ≡ 0)) }
     {
         Ok(Report {
-            alloc,
-            dictionary: Dictionary::base(alloc)?,
-            encoding: Vec::new(alloc),
+            manner: M::new(alloc)?,
             lines: Vec::new(alloc),
             out: Vec::new(alloc),
             refused: false,
+            messages: 0,
+            octets: 0,
         })
     }
 
@@ -63,7 +58,7 @@ impl Report {
     pub fn clear(&mut self)
         ensures out { self.new.out.items ≡ [] }
         ensures refused { self.new.refused ≡ self.old.refused }
-        ensures dictionary { self.new.dictionary ≡ self.old.dictionary }
+        ensures counts { (self.new.messages ≡ self.old.messages) × (self.new.octets ≡ self.old.octets) }
     {
         self.out.clear();
     }
@@ -75,63 +70,30 @@ impl Report {
         self.refused
     }
 
-    /// Reads the octets of one message and keeps its text, or the text of its fault. Without memory nothing of it
-    /// is kept.
+    /// How many octets the messages had.
+    pub(crate) fn octets(&self) -> u64
+        ensures { result ≡ self.now.octets }
+    {
+        self.octets
+    }
+
+    /// Reads the octets of the next message and keeps what is printed of it. Without memory nothing of it is kept.
     pub fn message(&mut self, octets: &[u8]) -> Result<(), AllocError>
-        ensures ok { OnOk result ((text : List ℕ) × (refused : Bool) × Prints self.old.dictionary octets.now text refused
-            × Gains self.old self.new text refused) }
+        ensures ok { OnOk result ((text : List ℕ) × (refused : Bool)
+            × M.Says (self.old.messages + 1) self.old.octets octets.now text refused
+            × Gains self.old self.new (octets.now ∷ []) text refused) }
         ensures err { OnErr result (Stays self.old self.new) }
     {
-        let refused = self.read(octets)?;
+        let number = counted(self.messages, 1)?;
+        let end = counted(self.octets, octets.len())?;
+        self.lines.clear();
+        let refused = self
+            .manner
+            .put(&mut self.lines, number, self.octets, octets)?;
         self.out.extend_from_slice(&self.lines)?;
         self.refused = self.refused | refused;
+        self.messages = number;
+        self.octets = end;
         Ok(())
-    }
-
-    // Makes the lines of a message, or of its fault, and says whether it has one.
-    fn read(&mut self, octets: &[u8]) -> Result<bool, AllocError>
-        ensures ok { IfOk result (Prints self.old.dictionary octets.now self.new.lines.items) }
-        ensures stays { Stays self.old self.new }
-    {
-        match read_message(self.alloc, &self.dictionary, octets) {
-            Ok(command) => {
-                self.command(&command)?;
-                Ok(false)
-            }
-            Err(MsgError::NoMemory) => Err(AllocError),
-            Err(MsgError::Fault(fault)) => {
-                self.fault(&fault)?;
-                Ok(true)
-            }
-        }
-    }
-
-    fn command(&mut self, command: &Command) -> Result<(), AllocError>
-        ensures ok { OnOk result (CommandText command.now self.new.lines.items) }
-        ensures stays { Stays self.old self.new }
-    {
-        self.encoding.clear();
-        self.lines.clear();
-        match write_message(command, &mut self.encoding) {
-            Err(WriteError::NoMemory) => Err(AllocError),
-            // Octets of at most 4,096 give no command so long that it has no encoding.
-            Ok(()) | Err(WriteError::LengthOver24Bits) => {
-                put_message(&mut self.lines, command.header(), &self.encoding)
-            }
-        }
-    }
-
-    fn fault(&mut self, fault: &MsgFault) -> Result<(), AllocError>
-        ensures ok { OnOk result (FaultText fault.now self.new.lines.items) }
-        ensures stays { Stays self.old self.new }
-    {
-        self.encoding.clear();
-        self.lines.clear();
-        if let Some(avp) = &fault.failed {
-            if write_avp(&avp.view(), &mut self.encoding) == Err(WriteError::NoMemory) {
-                return Err(AllocError);
-            }
-        }
-        put_fault(&mut self.lines, fault.result.number(), &self.encoding)
     }
 }

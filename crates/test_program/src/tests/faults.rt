@@ -1,7 +1,7 @@
 //! Which fault `read` prints of a message that has one.
 use super::messages::{kept, refused};
 use super::streams::filled;
-use msg_text::Report;
+use msg_text::{Plain, Report};
 use std::alloc::Global;
 use std::test::Fail;
 
@@ -303,7 +303,7 @@ const OTHER_VERSIONS: &[[u8; 20]] = &[
 
 /// Whether another version is printed of a header. Of a stream that is a frame fault, so it is read by itself.
 fn is_other_version(alloc: Global, octets: &[u8]) -> Result<bool, Fail> {
-    let mut report = Report::new(alloc)?;
+    let mut report = Report::<Plain>::new(alloc)?;
     report.message(octets)?;
     Ok(report.text() == b"fault 5011\n".as_slice())
 }

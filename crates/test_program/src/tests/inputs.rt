@@ -1,7 +1,7 @@
 //! What is printed of an input, and how reading it ends.
 use super::streams::{Narrow, Pieces, filled, prints, prints_filled, prints_from};
 use bench_device::{Counting, Status};
-use msg_text::read_on;
+use msg_text::{Style, read_on};
 use std::alloc::Global;
 use std::io::ErrorKind;
 use std::test::Fail;
@@ -164,7 +164,7 @@ fn a_reader_without_end_is_a_read_fault(rt: HostRuntime) -> Result<(), Fail> {
         error: Some(ErrorKind::Interrupted),
     });
     let mut sink = Counting::new(Vec::new(rt.alloc()));
-    let status = read_on(rt.alloc(), &mut source, &mut sink);
+    let status = read_on(Style::Plain, rt.alloc(), &mut source, &mut sink);
     let wanted = format!(in rt.alloc();
         "{DWR_TEXT}read fault: no end of input after 1048576 reads\n"
     )?;
@@ -185,7 +185,7 @@ fn is_write_fault(alloc: Global, room: usize, error: Option<ErrorKind>) -> Resul
     });
     let taken = Vec::new(alloc);
     let mut sink = Counting::new(Narrow { taken, room, error });
-    let status = read_on(alloc, &mut source, &mut sink);
+    let status = read_on(Style::Plain, alloc, &mut source, &mut sink);
     let front = DWR_TEXT.as_bytes().get(..room).ok_or("a front")?;
     let failures = if error == Some(ErrorKind::BrokenPipe) {
         1

@@ -1,6 +1,6 @@
 //! Readers and writers in memory, and what `read_on` prints of a text.
 use bench_device::Counting;
-use msg_text::read_on;
+use msg_text::{Style, read_on};
 use std::alloc::Global;
 use std::io;
 use std::io::{ErrorKind, Read, Write};
@@ -61,7 +61,7 @@ impl Write for Narrow {
 pub(crate) fn read_from(alloc: Global, reader: Pieces<'_>) -> Result<(u8, String), Fail> {
     let mut source = Counting::new(reader);
     let mut sink = Counting::new(Vec::new(alloc));
-    let status = read_on(alloc, &mut source, &mut sink);
+    let status = read_on(Style::Plain, alloc, &mut source, &mut sink);
     let text = String::from_utf8(sink.device).map_err(|_| "text")?;
     Ok((status.code(), text))
 }

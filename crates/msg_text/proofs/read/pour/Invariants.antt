@@ -1,4 +1,4 @@
-use Rattle.std.proofs.Common.{◌≡◌, ◌≤◌, ◌+◌, ℕ, List, None, max}
+use Rattle.std.proofs.Common.{◌≡◌, ◌≤◌, ◌+◌, ◌*◌, ℕ, List, None, max}
 use Rattle.std.specs.Io.KnownBytes.{Appends, Consumes}
 use Rattle.msg_text.specs.Readings.{SoFar}
 use Rattle.msg_text.proofs.read.pour.Given as goal
@@ -11,7 +11,8 @@ invariant-reads g l =
     × (g.O.ByteSink.idle l.sink ≡ 0)
     × (g.O.ByteSink.failures l.sink ≡ g.O.ByteSink.failures l.initial.sink)
     × (g.O.ByteSink.most_idle l.sink ≤ max (g.O.ByteSink.most_idle l.initial.sink) 1048576)
+    × (l.reading.characters ≤ l.counter * 65536)
     × (read : List ℕ) × (written : List ℕ)
     × Consumes (g.I.ByteSource.remaining l.initial.source) (g.I.ByteSource.remaining l.source) read
     × Appends (g.O.ByteSink.contents l.initial.sink) (g.O.ByteSink.contents l.sink) written
-    × SoFar l.reading read written None
+    × SoFar g.M.Manner.Says l.reading read written None

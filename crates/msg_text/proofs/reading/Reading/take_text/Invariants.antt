@@ -1,13 +1,14 @@
-use Rattle.std.proofs.Common.{◌≡◌, ◌++◌, ℕ, List, None, length}
+use Rattle.std.proofs.Common.{◌≡◌, ◌++◌, ◌+◌, ℕ, List, None, length}
 use Rattle.msg_text.specs.Readings.{SoFar}
 use Rattle.msg_text.proofs.reading.Reading.take_text.Given as goal
 
 -- what is used of the text was taken
 abbrev pub invariant-pieces : goal.invariant-pieces
-invariant-pieces l =
+invariant-pieces g l =
     (used : List ℕ) × (l.text ≡ used ++ l.rest)
-    × ((before written : List ℕ) → SoFar l.initial.self before written None → SoFar l.self (before ++ used) written None)
+    × (l.self.characters + length l.rest ≡ l.initial.self.characters + length l.text)
+    × ((before written : List ℕ) → SoFar g.M.Manner.Says l.initial.self before written None → SoFar g.M.Manner.Says l.self (before ++ used) written None)
 
 -- each turn uses a character or more
 abbrev pub decreases-pieces : goal.decreases-pieces
-decreases-pieces l = length l.rest
+decreases-pieces g l = length l.rest

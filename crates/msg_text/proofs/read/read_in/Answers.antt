@@ -2,13 +2,13 @@ use Rattle.std.proofs.Common.{inr, ◌≤◌, ◌+◌, refl, arith}
 use Rattle.bench_device.specs.declared.status.Status.TheVariants.{NoMemory}
 use Rattle.msg_text.proofs.RunLemmas.{IsRun-closed, IsRun-told, IsRun-write, done-closed, usage-closed}
 use Rattle.msg_text.proofs.ReadLemmas.{IsReport-closed, IsReport-none}
-use Rattle.msg_text.proofs.read.read_on.Goals as goal
+use Rattle.msg_text.proofs.read.read_in.Goals as goal
 
 -- there was no memory to begin with
 pub returns-in_default-clause-run : goal.returns-in_default-clause-run
 returns-in_default-clause-run g c =
     IsRun-told g.I.ByteSource.reads g.I.ByteSource.failures g.O.ByteSink.contents g.O.ByteSink.failures g.O.ByteSink.idle _ _ _ _ _ NoMemory _
-    refl (λ e. cc) c.tell.ensures.told
+    refl (λ e. cc) c.tell_no_memory.ensures.told
 
 -- reading ended, and the last texts were handed out
 pub returns-in-Ok-clause-run : goal.returns-in-Ok-clause-run
@@ -35,11 +35,11 @@ returns-clause-run g c =
 -- what was read and what was written out
 pub returns-in_default-clause-report : goal.returns-in_default-clause-report
 returns-in_default-clause-report g c =
-    IsReport-none g.I.ByteSource.remaining g.O.ByteSink.contents g.O.ByteSink.failures g.O.ByteSink.idle _ _ _ _ c.tell.ensures.told
+    IsReport-none g.M.Manner.Says g.M.Manner.end_text g.I.ByteSource.remaining g.O.ByteSink.contents g.O.ByteSink.failures g.O.ByteSink.idle _ _ _ _ _ c.tell_no_memory.ensures.told
 
 pub returns-in-Ok-clause-report : goal.returns-in-Ok-clause-report
 returns-in-Ok-clause-report g c =
-    IsReport-closed g.I.ByteSource.remaining g.O.ByteSink.contents g.O.ByteSink.failures g.O.ByteSink.idle _ _ _ _ _ _ c.in-Ok.end _
+    IsReport-closed g.M.Manner.Says g.M.Manner.end_text g.I.ByteSource.remaining g.O.ByteSink.contents g.O.ByteSink.failures g.O.ByteSink.idle _ _ _ _ _ _ c.in-Ok.end _
     c.in-Ok.ensures.report c.in-Ok.ensures.sound.0 c.close.ensures.closes
 
 pub returns-clause-report : goal.returns-clause-report

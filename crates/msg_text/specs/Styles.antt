@@ -1,0 +1,58 @@
+-- In which styles messages are printed, and how reading them ended.
+use Rattle.std.specs.Prelude.{◌≡◌, ◌⊎◌, ◌≤◌, ◌^◌, ◌++◌, ℕ, List, length, true, codes, decimal}
+use Rattle.dia_dict.specs.Dictionary.{known}
+use Rattle.dia_frame.specs.declared.fault.FrameFault.{FrameFault}
+use Rattle.dia_frame.specs.declared.fault.FrameFault.TheVariants.{Version, Length, Broken}
+use Rattle.msg_explain.specs.Explained.{Explains}
+use Rattle.msg_text.specs.Ends.{end_text}
+use Rattle.msg_text.specs.Printed.{Prints, Saying, dictionary}
+use Rattle.msg_text.specs.declared.ends.Refusal.TheVariants as refusals
+use Rattle.msg_text.specs.declared.ends.End.{End}
+use Rattle.msg_text.specs.declared.ends.End.TheVariants.{Whole, Refused, ReadFailed, TooManyReads}
+use Rattle.msg_text.specs.declared.ends.Place.{Place}
+use Rattle.msg_text.specs.declared.manner.Style.{Style}
+use Rattle.msg_text.specs.declared.manner.Style.TheVariants.{Plain, Explained}
+
+-- plainly: header, AVPs and encoding, or a fault, wherever the message stands
+abbrev pub IsPlain : Saying
+IsPlain number offset octets text refused = Prints dictionary octets text refused
+
+-- and the end without its place
+abbrev pub plain_end : End → Place → List ℕ
+plain_end end place = end_text end
+
+-- in names; of octets that no length of an AVP or message could tell, only that they are too many
+abbrev pub IsExplained : Saying
+IsExplained number offset octets text refused =
+    Explains (known dictionary) number offset octets text refused
+    ⊎ ((2 ^ 32 ≤ length octets) × (text ≡ codes "too long\n") × (refused ≡ true))
+
+-- what a frame fault is, at an octet of the input (RFC 6733 section 3)
+abbrev pub frame_words : FrameFault → ℕ → List ℕ
+frame_words Version octet =
+    codes "frame fault 1 at octet " ++ decimal octet ++ codes ": no message begins here, its first octet would be version 1\n"
+frame_words Length octet =
+    codes "frame fault 2 at octet " ++ decimal octet ++ codes ": the length in this header is below 20, no multiple of 4 or over 4096\n"
+frame_words Broken octet =
+    codes "frame fault 3 at octet " ++ decimal octet ++ codes ": a frame fault came before\n"
+
+-- and the end with its place
+abbrev pub explained_end : End → Place → List ℕ
+explained_end (Refused refusals.BadHex) place =
+    codes "bad hex at character " ++ decimal place.characters
+    ++ codes ": each octet wants two hexadecimal digits, and between digits only blanks may stand\n"
+explained_end (Refused (refusals.Frame fault)) place = frame_words fault place.octets
+explained_end (Refused refusals.NoMemory) place = end_text (Refused refusals.NoMemory)
+explained_end Whole place = end_text Whole
+explained_end ReadFailed place = end_text ReadFailed
+explained_end TooManyReads place = end_text TooManyReads
+
+-- what is printed of a message, by the style
+abbrev pub says_in : Style → Saying
+says_in Plain = IsPlain
+says_in Explained = IsExplained
+
+-- what is printed at the end, by the style
+abbrev pub end_in : Style → End → Place → List ℕ
+end_in Plain = plain_end
+end_in Explained = explained_end

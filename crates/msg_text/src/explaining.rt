@@ -1,0 +1,95 @@
+//! Messages in names, and where reading stopped.
+ghost use Rattle.std.specs.Prelude.{◌≡◌, ◌++◌, List, ℕ, IfOk, decimal};
+ghost use Rattle.msg_text.specs.Ends.{words_of};
+ghost use Rattle.msg_text.specs.Printed.{dictionary};
+ghost use Rattle.msg_text.specs.Styles.{IsExplained, explained_end, frame_words};
+
+use crate::ends::{End, EndWords, Place, Refusal};
+use crate::manner::Manner;
+use dia_dict::Dictionary;
+use dia_frame::FrameFault;
+use msg_explain::explain;
+use std::alloc::{AllocError, Global};
+
+/// Prints what a message says, in names.
+#[derive(Drop)]
+pub struct Explaining {
+    definitions: Dictionary,
+    ghost base: { definitions ≡ dictionary },
+}
+
+// A number between two texts.
+fn placed(before: &'static [u8], place: u64, after: &'static [u8]) -> EndWords
+    ensures { words_of result ≡ before.now ++ decimal place ++ after.now }
+{
+    EndWords {
+        before,
+        place: Some(place),
+        after,
+    }
+}
+
+// What is told of a frame fault at this octet.
+fn frame_words(fault: FrameFault, octet: u64) -> EndWords
+    ensures { words_of result ≡ frame_words fault octet }
+{
+    match fault {
+        FrameFault::Version => placed(
+            b"frame fault 1 at octet ",
+            octet,
+            b": no message begins here, its first octet would be version 1\n",
+        ),
+        FrameFault::Length => placed(
+            b"frame fault 2 at octet ",
+            octet,
+            b": the length in this header is below 20, no multiple of 4 or over 4096\n",
+        ),
+        FrameFault::Broken => placed(
+            b"frame fault 3 at octet ",
+            octet,
+            b": a frame fault came before\n",
+        ),
+    }
+}
+
+impl Manner for Explaining {
+    ghost Says = { IsExplained };
+
+    ghost end_text = { explained_end };
+
+    fn new(alloc: Global) -> Result<Explaining, AllocError> {
+        Ok(Explaining {
+            definitions: Dictionary::base(alloc)?,
+        })
+    }
+
+    fn put(
+        &mut self,
+        out: &mut Vec<u8>,
+        number: u64,
+        offset: u64,
+        octets: &[u8],
+    ) -> Result<bool, AllocError> {
+        if octets.len() > u32::MAX as usize {
+            out.extend_from_slice(b"too long\n")?;
+            return Ok(true);
+        }
+        explain(out, &self.definitions, number, offset, octets)
+    }
+
+    fn end_words(end: End, place: Place) -> EndWords {
+        match end {
+            End::Refused(Refusal::BadHex) => placed(
+                b"bad hex at character ",
+                place.characters,
+                b": each octet wants two hexadecimal digits, and between digits only blanks may stand\n",
+            ),
+            End::Refused(Refusal::Frame(fault)) => frame_words(fault, place.octets),
+            other => EndWords {
+                before: other.text(),
+                place: None,
+                after: b"",
+            },
+        }
+    }
+}
