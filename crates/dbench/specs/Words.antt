@@ -42,10 +42,14 @@ walk_app = with_rule (with_rule walk_inputs names_rule) table_rule
 abbrev pub draw_app : App
 draw_app = with_rule (new_app (codes "draw")) (new_rule (codes "TABLE"))
 
--- `dbench`, with a version, of which a command is required
+-- `dbench`, with a version, of which a command is required: `read` and `walk`
+abbrev pub walking_app : App
+walking_app =
+    with_subcommand (with_subcommand (on_top (λ s. record s { has_version = true; subcommand_required = true }) (new_app (codes "dbench"))) read_app.top) walk_app.top
+
+-- the same, and `draw`
 abbrev pub dbench_app : App
-dbench_app =
-    with_subcommand (with_subcommand (with_subcommand (on_top (λ s. record s { has_version = true; subcommand_required = true }) (new_app (codes "dbench"))) read_app.top) walk_app.top) draw_app.top
+dbench_app = with_subcommand walking_app draw_app.top
 
 -- what is wrong with the words, or which text they ask for; nothing where they are a command
 unfoldable pub word_faults : List Text → Kinds

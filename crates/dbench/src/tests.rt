@@ -82,6 +82,18 @@ fn words_ask_for_a_text_or_an_input_or_are_refused(rt: HostRuntime) -> Result<()
             3,
             "read fault: no/such.tbl can't be opened\n",
         ),
+        (["dbench", "draw", "--help"].as_slice(), 0, "dot -Tsvg"),
+        (["dbench", "draw", "a", "b"].as_slice(), 2, "Usage: dbench"),
+        (
+            ["dbench", "draw", "no/such.tbl"].as_slice(),
+            3,
+            "read fault: no/such.tbl can't be opened\n",
+        ),
+        (
+            ["dbench", "draw"].as_slice(),
+            1,
+            "line 1 fault 1\n  wanted: a header: two blanks, then the words State, Event, Action and Next\n",
+        ),
     ] {
         let (code, text) = run(&rt, words)?;
         assert!(rt; code == status, "{text}");

@@ -3,7 +3,7 @@ ghost use Rattle.std.specs.Prelude.{◌≡◌, IfOk, Some, false, map, option_ma
 ghost use Rattle.clap.specs.Words.{app_of, first_of, found_of, kind_of, rows_of, rule_of, with_rule};
 ghost use Rattle.clap.specs.declared.builder.command.Command.TheViews.{out-Command};
 ghost use Rattle.dbench.specs.declared.words.WordsError.TheVariants.{NoMemory};
-ghost use Rattle.dbench.specs.Words.{dbench_app, draw_app, explain_rule, is_given, names_rule, read_app, style_of, table_rule, walk_app, walk_inputs, walk_wanted, wanted_of};
+ghost use Rattle.dbench.specs.Words.{dbench_app, draw_app, explain_rule, is_given, names_rule, read_app, style_of, table_rule, walk_app, walk_inputs, walk_wanted, walking_app, wanted_of};
 ghost use Rattle.dbench.specs.Asked.{IsAsked, IsRefusal, meaning};
 
 use clap::error::ErrorKind;
@@ -247,8 +247,8 @@ fn draw_command<'a>(alloc: Global) -> Result<Command<'a>, AllocError>
         .arg(table)
 }
 
-fn command<'a>(alloc: Global) -> Result<Command<'a>, AllocError>
-    ensures { IfOk result (λ c. app_of c ≡ dbench_app) }
+fn walking_command<'a>(alloc: Global) -> Result<Command<'a>, AllocError>
+    ensures { IfOk result (λ c. app_of c ≡ walking_app) }
 {
     Command::new(alloc, "dbench")
         .version("0.1.0")
@@ -256,8 +256,13 @@ fn command<'a>(alloc: Global) -> Result<Command<'a>, AllocError>
         .after_help(STATUSES)
         .subcommand_required(true)
         .subcommand(read_command(alloc)?)?
-        .subcommand(walk_command(alloc)?)?
-        .subcommand(draw_command(alloc)?)
+        .subcommand(walk_command(alloc)?)
+}
+
+fn command<'a>(alloc: Global) -> Result<Command<'a>, AllocError>
+    ensures { IfOk result (λ c. app_of c ≡ dbench_app) }
+{
+    walking_command(alloc)?.subcommand(draw_command(alloc)?)
 }
 
 // The text of an error is asked for, or tells what is wrong with the words.
