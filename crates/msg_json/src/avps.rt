@@ -1,6 +1,6 @@
 //! The AVPs of a message in the order of the octets, those of a group inside it.
 
-use crate::members::{put_null, put_number, put_text, put_word};
+use crate::members::{put_made, put_null, put_number, put_word};
 use crate::values::{put_value, put_wrong, type_name};
 use dia_avp::{AvpView, FaultCode, MAX_DEPTH, avp_at};
 use dia_dict::{AvpKind, Definition, Dictionary};
@@ -28,12 +28,11 @@ fn vendor_at(octets: &[u8]) -> Option<u32> {
 /// The name that the dictionary has, null where it has none.
 pub(crate) fn put_name<S: Serializer>(
     out: &mut S,
-    alloc: Global,
     definition: Option<&Definition>,
 ) -> Result<(), S::Error> {
     match definition {
         None => put_null(out, "name"),
-        Some(definition) => put_text(out, alloc, ("name", "name_hex"), definition.name.as_slice()),
+        Some(definition) => put_made(out, "name", definition.name.as_slice()),
     }
 }
 
@@ -44,27 +43,26 @@ fn put_type<S: Serializer>(out: &mut S, definition: Option<&Definition>) -> Resu
     }
 }
 
-fn put_flags<S: Serializer>(out: &mut S, alloc: Global, flags: u8) -> Result<(), S::Error> {
+fn put_flags<S: Serializer>(out: &mut S, flags: u8) -> Result<(), S::Error> {
     let letters = [
         flag_letter(flags, 0x80, b'V'),
         flag_letter(flags, 0x40, b'M'),
         flag_letter(flags, 0x20, b'P'),
     ];
-    put_text(out, alloc, ("flags", "flags_hex"), &letters)
+    put_made(out, "flags", &letters)
 }
 
 // What an AVP's header and the dictionary say of it.
 fn put_title<S: Serializer>(
     out: &mut S,
-    alloc: Global,
     part: &Part<'_>,
     definition: Option<&Definition>,
 ) -> Result<(), S::Error> {
     put_number(out, "place", part.place as u64)?;
     put_number(out, "code", u64::from(number_at(part.octets, 0)))?;
     put_vendor(out, vendor_at(part.octets))?;
-    put_name(out, alloc, definition)?;
-    put_flags(out, alloc, octet_at(part.octets, 4))?;
+    put_name(out, definition)?;
+    put_flags(out, octet_at(part.octets, 4))?;
     put_number(out, "length", u64::from(length_at(part.octets)))?;
     put_type(out, definition)
 }
@@ -85,7 +83,7 @@ fn put_whole<S: Serializer>(
     avp: &AvpView<'_>,
 ) -> Result<u8, S::Error> {
     let definition = dictionary.find(avp.code, avp.vendor);
-    put_title(out, alloc, part, definition)?;
+    put_title(out, part, definition)?;
     if is_opened(definition, part.room) {
         out.key("avps")?;
         out.begin_seq(None)?;
@@ -105,7 +103,7 @@ fn put_broken<S: Serializer>(
     code: FaultCode,
 ) -> Result<(), S::Error> {
     let cut = cut_avp(part.octets);
-    put_title(out, alloc, part, dictionary.find(cut.code, cut.vendor))?;
+    put_title(out, part, dictionary.find(cut.code, cut.vendor))?;
     put_wrong(out, alloc, broken_words(code), part.octets)?;
     out.end_map()
 }

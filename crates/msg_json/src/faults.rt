@@ -1,14 +1,13 @@
 //! The fault of a message (RFC 6733 section 7).
 
 use crate::avps::{put_name, put_vendor};
-use crate::members::{put_null, put_number, put_text, put_word};
+use crate::members::{put_made, put_null, put_number, put_word};
 use base_codes::ResultCode;
 use dia_avp::AvpView;
 use dia_dict::Dictionary;
 use dia_msg::MsgFault;
 use msg_explain::{Part, failed_place, reason};
 use serde::Serializer;
-use std::alloc::Global;
 
 fn put_place<S: Serializer>(out: &mut S, place: Option<usize>) -> Result<(), S::Error> {
     match place {
@@ -19,7 +18,6 @@ fn put_place<S: Serializer>(out: &mut S, place: Option<usize>) -> Result<(), S::
 
 fn put_failed<S: Serializer>(
     out: &mut S,
-    alloc: Global,
     dictionary: &Dictionary,
     code: ResultCode,
     failed: &AvpView<'_>,
@@ -29,7 +27,7 @@ fn put_failed<S: Serializer>(
     out.begin_map(None)?;
     put_number(out, "code", u64::from(failed.code))?;
     put_vendor(out, failed.vendor)?;
-    put_name(out, alloc, dictionary.find(failed.code, failed.vendor))?;
+    put_name(out, dictionary.find(failed.code, failed.vendor))?;
     put_place(out, failed_place(dictionary, code, failed, parts))?;
     out.end_map()
 }
@@ -37,7 +35,6 @@ fn put_failed<S: Serializer>(
 /// What a message is refused for: its Result-Code, why, and the AVP that it is about.
 pub(crate) fn put_fault<S: Serializer>(
     out: &mut S,
-    alloc: Global,
     dictionary: &Dictionary,
     fault: &MsgFault,
     parts: &[Part<'_>],
@@ -46,10 +43,10 @@ pub(crate) fn put_fault<S: Serializer>(
     out.begin_map(None)?;
     put_number(out, "result_code", u64::from(fault.result.number()))?;
     put_word(out, "name", fault.result.name())?;
-    put_text(out, alloc, ("reason", "reason_hex"), reason(fault.result))?;
+    put_made(out, "reason", reason(fault.result))?;
     match &fault.failed {
         None => put_null(out, "failed")?,
-        Some(avp) => put_failed(out, alloc, dictionary, fault.result, &avp.view(), parts)?,
+        Some(avp) => put_failed(out, dictionary, fault.result, &avp.view(), parts)?,
     }
     out.end_map()
 }

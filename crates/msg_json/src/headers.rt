@@ -1,6 +1,6 @@
 //! A message's header (RFC 6733 section 3) and session.
 
-use crate::members::{no_memory, put_digits, put_null, put_number, put_text};
+use crate::members::{no_memory, put_digits, put_made, put_null, put_number, put_text};
 use base_codes::HEADER_LEN;
 use dia_command::{Header, header_of};
 use dia_show::{command_letters, put_command};
@@ -8,14 +8,14 @@ use msg_explain::{flag_letter, session_in};
 use serde::Serializer;
 use std::alloc::Global;
 
-fn put_flags<S: Serializer>(out: &mut S, alloc: Global, flags: u8) -> Result<(), S::Error> {
+fn put_flags<S: Serializer>(out: &mut S, flags: u8) -> Result<(), S::Error> {
     let letters = [
         flag_letter(flags, 0x80, b'R'),
         flag_letter(flags, 0x40, b'P'),
         flag_letter(flags, 0x20, b'E'),
         flag_letter(flags, 0x10, b'T'),
     ];
-    put_text(out, alloc, ("flags", "flags_hex"), &letters)
+    put_made(out, "flags", &letters)
 }
 
 // The abbreviation of a command has three letters, and its name stands one blank behind them.
@@ -29,8 +29,8 @@ fn put_names<S: Serializer>(out: &mut S, alloc: Global, header: &Header) -> Resu
         return Err(no_memory(out));
     }
     let (letters, name) = text.split_at(3.min(text.len()));
-    put_text(out, alloc, ("abbreviation", "abbreviation_hex"), letters)?;
-    put_text(out, alloc, ("name", "name_hex"), &name[1.min(name.len())..])
+    put_made(out, "abbreviation", letters)?;
+    put_made(out, "name", &name[1.min(name.len())..])
 }
 
 fn put_session<S: Serializer>(
@@ -65,7 +65,7 @@ pub(crate) fn put_header<S: Serializer>(
     let header = header_of(octets);
     let (_, avps) = octets.split_at(HEADER_LEN);
     put_names(out, alloc, &header)?;
-    put_flags(out, alloc, octets[4])?;
+    put_flags(out, octets[4])?;
     put_fields(out, octets[0], &header)?;
     put_session(out, alloc, session_in(avps))
 }

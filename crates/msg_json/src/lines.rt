@@ -36,7 +36,7 @@ impl Serialize for Message<'_> {
         put_avps(out, self.alloc, self.dictionary, self.parts)?;
         match self.fault {
             None => put_null(out, "fault")?,
-            Some(fault) => put_fault(out, self.alloc, self.dictionary, fault, self.parts)?,
+            Some(fault) => put_fault(out, self.dictionary, fault, self.parts)?,
         }
         out.end_map()
     }

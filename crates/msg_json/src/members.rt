@@ -40,7 +40,15 @@ pub(crate) fn put_digits<S: Serializer>(
     }
 }
 
-/// A text under its key, or its octets in hexadecimal under the other key where they are no UTF-8.
+/// A text that was made here, or a name of the dictionary: it is UTF-8.
+pub(crate) fn put_made<S: Serializer>(out: &mut S, key: &str, text: &[u8]) -> Result<(), S::Error> {
+    match str::from_utf8(text) {
+        Ok(text) => put_word(out, key, text),
+        Err(_) => put_null(out, key),
+    }
+}
+
+/// A text under its first key, or its octets in hexadecimal under the second where they are no UTF-8.
 pub(crate) fn put_text<S: Serializer>(
     out: &mut S,
     alloc: Global,

@@ -1,6 +1,6 @@
 //! An AVP's data by its type (RFC 6733 sections 4.2 and 4.3.1). What its type does not have is in hexadecimal.
 
-use crate::members::{no_memory, put_digits, put_number, put_text, put_word};
+use crate::members::{no_memory, put_digits, put_made, put_number, put_text, put_word};
 use dia_avp::{Address, AvpView};
 use dia_dict::{AvpKind, Definition};
 use dia_show::{put_utc, value_name};
@@ -30,7 +30,7 @@ pub(crate) fn put_wrong<S: Serializer>(
     words: &[u8],
     octets: &[u8],
 ) -> Result<(), S::Error> {
-    put_text(out, alloc, ("wrong", "wrong_hex"), words)?;
+    put_made(out, "wrong", words)?;
     put_digits(out, alloc, "hex", octets)
 }
 
@@ -78,7 +78,7 @@ fn put_time<S: Serializer>(out: &mut S, alloc: Global, avp: &AvpView<'_>) -> Res
         return Err(no_memory(out));
     }
     put_number(out, "value", u64::from(number))?;
-    put_text(out, alloc, ("utc", "utc_hex"), &date)
+    put_made(out, "utc", &date)
 }
 
 fn put_address<S: Serializer>(

@@ -1,7 +1,13 @@
-//! Tests of what messages say in names, over public calls alone.
+//! Tests of what messages say in names, in lines of text and as JSON, over public calls alone.
 #![tactic(auto)]
 
 #[cfg(test)]
+mod json_lines;
+#[cfg(test)]
+mod json_values;
+#[cfg(test)]
 mod messages;
+#[cfg(test)]
+mod octets;
 #[cfg(test)]
 mod values;

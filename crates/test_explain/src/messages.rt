@@ -1,6 +1,6 @@
 //! What is said of a message: the expected lines are written by hand from its octets.
 
-use bench_text::decode;
+use crate::octets::{BAD_SIZE, BROKEN_INSIDE, CUT, TERMINATION, UNKNOWN, octets_of};
 use dia_dict::Dictionary;
 use msg_explain::explain;
 use std::alloc::Global;
@@ -8,35 +8,14 @@ use std::test::Fail;
 
 /// Whether this is said of the octets that the digits spell, and whether they have a fault.
 fn says(alloc: Global, number: u64, offset: u64, digits: &str, refused: bool, text: &str) -> bool {
-    let mut octets = [0u8; 256];
-    let decoded = decode(None, digits.as_bytes(), &mut octets);
+    let (octets, made) = octets_of(digits);
     let mut out = Vec::new(alloc);
     let Ok(dictionary) = Dictionary::base(alloc) else {
         return false;
     };
-    explain(
-        &mut out,
-        &dictionary,
-        number,
-        offset,
-        &octets[..decoded.made],
-    ) == Ok(refused)
+    explain(&mut out, &dictionary, number, offset, &octets[..made]) == Ok(refused)
         && out.as_slice() == text.as_bytes()
 }
-
-const TERMINATION: &str = "
-010000a8c0000110000000040000000700000007
-000001074000000c63313b31
-0000010840000011632e6578616d706c65000000
-000001284000000f6578616d706c6500
-0000011b4000000f6578616d706c6500
-000001024000000c00000004
-000001cd4000000b78407900
-000001a04000000c00000003
-0000019f4000000c00000002
-000001274000000c00000001
-000001be40000018
-  000001a1400000100000000000000023";
 
 const TERMINATION_TEXT: &str = "\
 message 1 at octet 0: CCR Credit-Control-Request RP--, version 1, length 168, command 272, application 4, hop-by-hop 7, end-to-end 7, session \"c1;1\"
@@ -59,12 +38,6 @@ fn each_header_field_and_each_avp_has_its_line(rt: HostRuntime) -> Result<(), Fa
     Ok(())
 }
 
-const BAD_SIZE: &str = "
-010000448000011a000000000000000100000002
-0000010840000011632e6578616d706c65000000
-000001284000000f6578616d706c6500
-000001114000000900000000";
-
 const BAD_SIZE_TEXT: &str = "\
 message 2 at octet 168: DPR Disconnect-Peer-Request R---, version 1, length 68, command 282, application 0, hop-by-hop 1, end-to-end 2
   20: 264 Origin-Host -M- 17 \"c.example\"
@@ -72,11 +45,6 @@ message 2 at octet 168: DPR Disconnect-Peer-Request R---, version 1, length 68, 
   56: 273 Disconnect-Cause -M- 9 0x00 (a size that its type does not have)
 fault 5014 DIAMETER_INVALID_AVP_LENGTH in message 2 at octet 168: an AVP has a wrong length: AVP 273 Disconnect-Cause at its octet 56
 ";
-
-const BROKEN_INSIDE: &str = "
-0100002c800001180000000000000001fffffffe
-000001be60000018
-  000001a5400000110000000000000001";
 
 const BROKEN_INSIDE_TEXT: &str = "\
 message 18446744073709551615 at octet 18446744073709551615: DWR Device-Watchdog-Request R---, version 1, length 44, command 280, application 0, hop-by-hop 1, end-to-end 4294967294
@@ -101,12 +69,6 @@ fn a_wrong_length_is_told_with_its_place(rt: HostRuntime) -> Result<(), Fail> {
     Ok(())
 }
 
-const UNKNOWN: &str = "
-01000038300001180000000000000001000000ff
-0000270fc0000010000028af00000007
-0000270f8000000c00000000
-0000010c20000007";
-
 const UNKNOWN_TEXT: &str = "\
 message 1 at octet 0: DWA Device-Watchdog-Answer --ET, version 1, length 56, command 280, application 0, hop-by-hop 1, end-to-end 255
   20: 9999/10415 unknown VM- 16 0x00000007
@@ -114,8 +76,6 @@ message 1 at octet 0: DWA Device-Watchdog-Answer --ET, version 1, length 56, com
   48: 268 Result-Code --P 7: broken, its length is below that of its header: 0x0000010c20000007
 fault 5001 DIAMETER_AVP_UNSUPPORTED in message 1 at octet 0: an AVP that is not known has flag M: AVP 9999/10415 unknown at its octet 20
 ";
-
-const CUT: &str = "01000038800001";
 
 const CUT_TEXT: &str = "\
 message 1 at octet 0: no whole header 0x01000038800001

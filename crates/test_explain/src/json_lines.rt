@@ -1,6 +1,6 @@
 //! Whole lines: the expected ones are written by hand from the octets.
 
-use bench_text::decode;
+use crate::octets::{BAD_SIZE, BROKEN_INSIDE, CUT, TERMINATION, UNKNOWN, octets_of};
 use dia_dict::Dictionary;
 use msg_json::put_json;
 use std::alloc::Global;
@@ -8,35 +8,14 @@ use std::test::Fail;
 
 /// Whether this is the line of the octets that the digits spell, and whether they have a fault.
 fn says(alloc: Global, number: u64, offset: u64, digits: &str, refused: bool, line: &str) -> bool {
-    let mut octets = [0u8; 256];
-    let decoded = decode(None, digits.as_bytes(), &mut octets);
+    let (octets, made) = octets_of(digits);
     let mut out = Vec::new(alloc);
     let Ok(dictionary) = Dictionary::base(alloc) else {
         return false;
     };
-    put_json(
-        &mut out,
-        &dictionary,
-        number,
-        offset,
-        &octets[..decoded.made],
-    ) == Ok(refused)
+    put_json(&mut out, &dictionary, number, offset, &octets[..made]) == Ok(refused)
         && out.as_slice() == line.as_bytes()
 }
-
-const TERMINATION: &str = "
-010000a8c0000110000000040000000700000007
-000001074000000c63313b31
-0000010840000011632e6578616d706c65000000
-000001284000000f6578616d706c6500
-0000011b4000000f6578616d706c6500
-000001024000000c00000004
-000001cd4000000b78407900
-000001a04000000c00000003
-0000019f4000000c00000002
-000001274000000c00000001
-000001be40000018
-  000001a1400000100000000000000023";
 
 const TERMINATION_LINE: &str = "{\"number\":1,\"offset\":0,\
 \"abbreviation\":\"CCR\",\"name\":\"Credit-Control-Request\",\"flags\":\"RP--\",\
@@ -73,12 +52,6 @@ fn each_header_field_and_each_avp_has_its_members(rt: HostRuntime) -> Result<(),
     Ok(())
 }
 
-const BAD_SIZE: &str = "
-010000448000011a000000000000000100000002
-0000010840000011632e6578616d706c65000000
-000001284000000f6578616d706c6500
-000001114000000900000000";
-
 const BAD_SIZE_LINE: &str = "{\"number\":2,\"offset\":168,\
 \"abbreviation\":\"DPR\",\"name\":\"Disconnect-Peer-Request\",\"flags\":\"R---\",\
 \"version\":1,\"length\":68,\"command\":282,\"application\":0,\"hop_by_hop\":1,\"end_to_end\":2,\
@@ -92,11 +65,6 @@ const BAD_SIZE_LINE: &str = "{\"number\":2,\"offset\":168,\
 \"fault\":{\"result_code\":5014,\"name\":\"DIAMETER_INVALID_AVP_LENGTH\",\"reason\":\"an AVP has a wrong length\",\
 \"failed\":{\"code\":273,\"vendor\":null,\"name\":\"Disconnect-Cause\",\"place\":56}}}
 ";
-
-const BROKEN_INSIDE: &str = "
-0100002c800001180000000000000001fffffffe
-000001be60000018
-  000001a5400000110000000000000001";
 
 const BROKEN_INSIDE_LINE: &str = "{\"number\":18446744073709551615,\"offset\":18446744073709551615,\
 \"abbreviation\":\"DWR\",\"name\":\"Device-Watchdog-Request\",\"flags\":\"R---\",\
@@ -125,12 +93,6 @@ fn a_wrong_length_is_told_with_its_place(rt: HostRuntime) -> Result<(), Fail> {
     );
     Ok(())
 }
-
-const UNKNOWN: &str = "
-01000038300001180000000000000001000000ff
-0000270fc0000010000028af00000007
-0000270f8000000c00000000
-0000010c20000007";
 
 const UNKNOWN_LINE: &str = "{\"number\":1,\"offset\":0,\
 \"abbreviation\":\"DWA\",\"name\":\"Device-Watchdog-Answer\",\"flags\":\"--ET\",\
@@ -164,7 +126,7 @@ const MISSING_LINE: &str = "{\"number\":1,\"offset\":0,\
 #[test]
 fn what_is_unknown_cut_off_or_missing_is_told(rt: HostRuntime) -> Result<(), Fail> {
     assert!(rt; says(rt.alloc(), 1, 0, UNKNOWN, true, UNKNOWN_LINE));
-    assert!(rt; says(rt.alloc(), 1, 0, "01000038800001", true, CUT_LINE));
+    assert!(rt; says(rt.alloc(), 1, 0, CUT, true, CUT_LINE));
     assert!(rt; says(rt.alloc(), 1, 0, MISSING, true, MISSING_LINE));
     Ok(())
 }
