@@ -18,7 +18,7 @@ meaning (tasks.Walk table events) = Walk table.now (option_map (λ name. name.no
 meaning tasks.Names = Names
 meaning (tasks.Table role) = Table role.now
 meaning (tasks.Draw table) = Draw (option_map (λ name. name.now) table)
-meaning tasks.Nothing = Nothing
+meaning (tasks.Nothing usage) = Nothing
 
 -- a command where nothing is wrong, a text that is asked for, or a refusal where something is wrong
 abbrev pub IsAsked : List Text → Result Asked WordsError → Type 0

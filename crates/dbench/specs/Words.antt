@@ -10,18 +10,25 @@ use Rattle.clap.specs.declared.error.kind.ErrorKind.TheVariants.{DisplayHelp, Di
 use Rattle.bench_device.specs.declared.status.Status.{Status}
 use Rattle.bench_device.specs.declared.status.Status.TheVariants as statuses
 use Rattle.msg_text.specs.declared.manner.Style.{Style}
-use Rattle.msg_text.specs.declared.manner.Style.TheVariants.{Plain, Explained}
+use Rattle.msg_text.specs.declared.manner.Style.TheVariants.{Plain, Explained, Json}
 use Rattle.role_tables.specs.Roles.{table_named}
 use Rattle.dbench.specs.declared.words.NoWords.{NoWords}
 use Rattle.dbench.specs.declared.words.NoWords.TheVariants as no_words
 
--- a flag of `read`
+-- the flags of `read`
 abbrev pub explain_rule : Rule
 explain_rule = record (new_rule (codes "explain")) { long = Some (codes "explain"); action = Some SetTrue }
 
--- `read`, with one FILE at most, and with that flag or without
+abbrev pub json_rule : Rule
+json_rule = record (new_rule (codes "json")) { long = Some (codes "json"); action = Some SetTrue }
+
+-- `read`, with one FILE at most
+abbrev pub read_inputs : App
+read_inputs = with_rule (new_app (codes "read")) (new_rule (codes "FILE"))
+
+-- and with these flags or without
 abbrev pub read_app : App
-read_app = with_rule (with_rule (new_app (codes "read")) (new_rule (codes "FILE"))) explain_rule
+read_app = with_rule (with_rule read_inputs explain_rule) json_rule
 
 -- a flag and an option of `walk`
 abbrev pub names_rule : Rule
@@ -77,10 +84,12 @@ walk_wanted flag role table events = Nothing
 abbrev pub is_given : Option Text → Bool
 is_given value = option_map_or (λ text. bytes_eq text (codes "true")) value false
 
--- the style that `read` prints in, by its flag
-abbrev pub style_of : Bool → Style
-style_of false = Plain
-style_of true = Explained
+-- what `read` asks for: by its flags `explain` and `json`, of which one at most makes sense, and FILE
+abbrev pub read_wanted : (explain json : Bool) → Option Text → Wanted
+read_wanted false false file = Read Plain file
+read_wanted true false file = Read Explained file
+read_wanted false true file = Read Json file
+read_wanted true true file = Nothing
 
 -- what a command asks for, by its name and what stands behind it
 abbrev pub wanted_of : Option (Text × List Row) → Wanted
@@ -89,7 +98,7 @@ wanted_of (Some used) =
     if bytes_eq used.0 (codes "draw") then Draw (first_of (codes "TABLE") used.1)
     else if bytes_eq used.0 (codes "walk")
     then walk_wanted (is_given (first_of (codes "names") used.1)) (first_of (codes "NAME") used.1) (first_of (codes "TABLE") used.1) (first_of (codes "EVENTS") used.1)
-    else Read (style_of (is_given (first_of (codes "explain") used.1))) (first_of (codes "FILE") used.1)
+    else read_wanted (is_given (first_of (codes "explain") used.1)) (is_given (first_of (codes "json") used.1)) (first_of (codes "FILE") used.1)
 
 -- what the words ask for, where they are a command
 unfoldable pub wanted : List Text → Wanted

@@ -10,7 +10,7 @@ ghost use Rattle.dbench.specs.Words.{AreRefused, AskForText, AsksInVain, no_word
 
 use crate::draw::draw;
 use crate::walk::{tell_names, tell_table, walk};
-use crate::words::{Asked, NoWords, Task, WALK_USAGE, WordsError, parse_words};
+use crate::words::{Asked, NoWords, Task, WordsError, parse_words};
 use bench_device::{
     ByteSink, FileSource, MAX_IDLE_WRITES, MAX_READS, Status, tell, tell_not_opened,
 };
@@ -114,7 +114,7 @@ fn run<I: FileSource, O: ByteSink>(
         Task::Names => tell_names(alloc, sink),
         Task::Table(name) => tell_table(name, sink),
         Task::Draw(table) => draw(alloc, table, source, sink),
-        Task::Nothing => tell(sink, WALK_USAGE.as_bytes(), Status::Usage),
+        Task::Nothing(usage) => tell(sink, usage.as_bytes(), Status::Usage),
     }
 }
 

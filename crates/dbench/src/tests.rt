@@ -44,6 +44,16 @@ fn words_ask_for_a_text_or_an_input_or_are_refused(rt: HostRuntime) -> Result<()
             2,
             "Usage: dbench",
         ),
+        (
+            ["dbench", "read", "--json"].as_slice(),
+            1,
+            "{\"stop\":\"bad hex\",\"character\":0,\"reason\":\"each octet wants two hexadecimal digits, and between digits only blanks may stand\"}\n",
+        ),
+        (
+            ["dbench", "read", "--json", "--explain"].as_slice(),
+            2,
+            "wanted at most one of: --explain, --json",
+        ),
         (["dbench", "read", "--fast"].as_slice(), 2, "Usage: dbench"),
         (["dbench", "walk", "--help"].as_slice(), 0, "KIND N=V .."),
         (

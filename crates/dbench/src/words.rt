@@ -3,7 +3,7 @@ ghost use Rattle.std.specs.Prelude.{◌≡◌, IfOk, Some, false, map, option_ma
 ghost use Rattle.clap.specs.Words.{app_of, first_of, found_of, kind_of, rows_of, rule_of, with_rule};
 ghost use Rattle.clap.specs.declared.builder.command.Command.TheViews.{out-Command};
 ghost use Rattle.dbench.specs.declared.words.WordsError.TheVariants.{NoMemory};
-ghost use Rattle.dbench.specs.Words.{dbench_app, draw_app, explain_rule, is_given, names_rule, read_app, style_of, table_rule, walk_app, walk_inputs, walk_wanted, walking_app, wanted_of};
+ghost use Rattle.dbench.specs.Words.{dbench_app, draw_app, explain_rule, is_given, json_rule, names_rule, read_app, read_inputs, read_wanted, table_rule, walk_app, walk_inputs, walk_wanted, walking_app, wanted_of};
 ghost use Rattle.dbench.specs.Asked.{IsAsked, IsRefusal, meaning};
 
 use clap::error::ErrorKind;
@@ -53,8 +53,8 @@ pub(crate) enum Task<'a> {
     Table(&'a str),
     /// `draw`, of the table of this file or of standard input.
     Draw(Option<&'a str>),
-    /// Not one thing.
-    Nothing,
+    /// Not one thing: what is told then.
+    Nothing(&'static str),
 }
 
 /// What the words ask for.
@@ -106,8 +106,11 @@ session, and each AVP in the order of the octets, those of a group indented belo
 it begins, code, name, flags, length and value. A fault is told with its name, what is wrong in words, and which AVP at
 which octet; `bad hex` and `frame fault` with the character or octet of the input. All count from 0.
 
+With --json it says the same as objects of JSON, one in a line; docs/JSON.md lists the keys.
+
   echo 0100001480000118000000000000000100000001 | dbench read
-  dbench read --explain examples/dwr.hex";
+  dbench read --explain examples/dwr.hex
+  dbench read --json examples/dwr.hex | jq .session";
 
 const WALK_ABOUT: &str = "Step a state table over events and print each step";
 
@@ -144,8 +147,17 @@ rows that stay in a state stand in its box, and have one arrow together.
 
 `line N fault C` is the first fault of the table; the line below says what was wanted.";
 
+/// What is told where `read` asks for two styles.
+const READ_USAGE: &str = "\
+wanted at most one of: --explain, --json
+
+Usage: dbench read [--explain | --json] [FILE]
+
+For more information, try '--help'.
+";
+
 /// What is told where `walk` asks for not one thing.
-pub(crate) const WALK_USAGE: &str = "\
+const WALK_USAGE: &str = "\
 wanted one of: a TABLE, --names, --table NAME
 
 Usage: dbench walk TABLE [EVENTS]
@@ -173,8 +185,18 @@ fn explain_flag<'a>(alloc: Global) -> Arg<'a>
         .help("Say in names and words what each message holds, and what is wrong with it")
 }
 
-fn read_command<'a>(alloc: Global) -> Result<Command<'a>, AllocError>
-    ensures app { IfOk result (λ c. app_of c ≡ read_app) }
+fn json_flag<'a>(alloc: Global) -> Arg<'a>
+    ensures rule { rule_of result ≡ json_rule }
+    ensures local { result.global ≡ false }
+{
+    Arg::new(alloc, "json")
+        .long("json")
+        .action(ArgAction::SetTrue)
+        .help("Say the same as one object of JSON in a line for each message")
+}
+
+fn read_inputs<'a>(alloc: Global) -> Result<Command<'a>, AllocError>
+    ensures app { IfOk result (λ c. app_of c ≡ read_inputs) }
     ensures local { IfOk result (λ c. (out-Command c).has_globals ≡ false) }
 {
     let file = Arg::new(alloc, "FILE").help("The file to read; without it, standard input");
@@ -182,8 +204,16 @@ fn read_command<'a>(alloc: Global) -> Result<Command<'a>, AllocError>
         .about(READ_ABOUT)
         .long_about(READ_LONG_ABOUT)
         .after_help(STATUSES)
-        .arg(file)?
-        .arg(explain_flag(alloc))
+        .arg(file)
+}
+
+fn read_command<'a>(alloc: Global) -> Result<Command<'a>, AllocError>
+    ensures app { IfOk result (λ c. app_of c ≡ read_app) }
+    ensures local { IfOk result (λ c. (out-Command c).has_globals ≡ false) }
+{
+    read_inputs(alloc)?
+        .arg(explain_flag(alloc))?
+        .arg(json_flag(alloc))
 }
 
 fn walk_inputs<'a>(alloc: Global) -> Result<Command<'a>, AllocError>
@@ -288,14 +318,15 @@ fn is_given(value: Option<&str>) -> bool
     }
 }
 
-/// The style that `read` prints in, by its flag.
-fn style_of(explain: bool) -> Style
-    ensures { result ≡ style_of explain }
+/// What `read` asks for, by its flags and FILE.
+fn read_task<'a>(explain: bool, json: bool, file: Option<&'a str>) -> Task<'a>
+    ensures { meaning result ≡ read_wanted explain json (option_map (λ text. text.now) file.entry) }
 {
-    if explain {
-        Style::Explained
-    } else {
-        Style::Plain
+    match (explain, json) {
+        (false, false) => Task::Read(Style::Plain, file),
+        (true, false) => Task::Read(Style::Explained, file),
+        (false, true) => Task::Read(Style::Json, file),
+        (true, true) => Task::Nothing(READ_USAGE),
     }
 }
 
@@ -312,7 +343,7 @@ fn walk_task<'a>(
         (true, None, None, None) => Task::Names,
         (false, Some(role), None, None) => Task::Table(role),
         (false, None, Some(table), _) => Task::Walk(table, events),
-        _ => Task::Nothing,
+        _ => Task::Nothing(WALK_USAGE),
     }
 }
 
@@ -341,7 +372,8 @@ fn task_of<'a>(name: &str, found: &ArgMatches<'a>) -> Task<'a>
         )
     } else {
         let explain = is_given(value_of(found, "explain"));
-        Task::Read(style_of(explain), value_of(found, "FILE"))
+        let json = is_given(value_of(found, "json"));
+        read_task(explain, json, value_of(found, "FILE"))
     }
 }
 

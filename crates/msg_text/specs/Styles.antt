@@ -4,6 +4,7 @@ use Rattle.dia_dict.specs.Dictionary.{known}
 use Rattle.dia_frame.specs.declared.fault.FrameFault.{FrameFault}
 use Rattle.dia_frame.specs.declared.fault.FrameFault.TheVariants.{Version, Length, Broken}
 use Rattle.msg_explain.specs.Explained.{Explains}
+use Rattle.msg_json.specs.Lines.{SaysInJson}
 use Rattle.msg_text.specs.Ends.{end_text}
 use Rattle.msg_text.specs.Printed.{Prints, Saying, dictionary}
 use Rattle.msg_text.specs.declared.ends.Refusal.TheVariants as refusals
@@ -11,7 +12,7 @@ use Rattle.msg_text.specs.declared.ends.End.{End}
 use Rattle.msg_text.specs.declared.ends.End.TheVariants.{Whole, Refused, ReadFailed, TooManyReads}
 use Rattle.msg_text.specs.declared.ends.Place.{Place}
 use Rattle.msg_text.specs.declared.manner.Style.{Style}
-use Rattle.msg_text.specs.declared.manner.Style.TheVariants.{Plain, Explained}
+use Rattle.msg_text.specs.declared.manner.Style.TheVariants.{Plain, Explained, Json}
 
 -- plainly: header, AVPs and encoding, or a fault, wherever the message stands
 abbrev pub IsPlain : Saying
@@ -47,12 +48,41 @@ explained_end Whole place = end_text Whole
 explained_end ReadFailed place = end_text ReadFailed
 explained_end TooManyReads place = end_text TooManyReads
 
+-- as an object of JSON; of octets that no length of an AVP or message could tell, only that they are too many
+abbrev pub IsJson : Saying
+IsJson number offset octets text refused =
+    SaysInJson (known dictionary) octets text refused
+    ⊎ ((2 ^ 32 ≤ length octets) × (text ≡ codes "{\"stop\":\"too long\"}\n") × (refused ≡ true))
+
+-- the object of a frame fault, at an octet of the input (RFC 6733 section 3)
+abbrev pub json_fault : FrameFault → ℕ → List ℕ
+json_fault Version octet =
+    codes "{\"stop\":\"frame fault 1\",\"octet\":" ++ decimal octet ++ codes ",\"reason\":\"no message begins here, its first octet would be version 1\"}\n"
+json_fault Length octet =
+    codes "{\"stop\":\"frame fault 2\",\"octet\":" ++ decimal octet
+    ++ codes ",\"reason\":\"the length in this header is below 20, no multiple of 4 or over 4096\"}\n"
+json_fault Broken octet =
+    codes "{\"stop\":\"frame fault 3\",\"octet\":" ++ decimal octet ++ codes ",\"reason\":\"a frame fault came before\"}\n"
+
+-- and the end as one more object, nothing where the input was read whole
+abbrev pub json_end : End → Place → List ℕ
+json_end Whole place = end_text Whole
+json_end (Refused refusals.BadHex) place =
+    codes "{\"stop\":\"bad hex\",\"character\":" ++ decimal place.characters
+    ++ codes ",\"reason\":\"each octet wants two hexadecimal digits, and between digits only blanks may stand\"}\n"
+json_end (Refused (refusals.Frame fault)) place = json_fault fault place.octets
+json_end (Refused refusals.NoMemory) place = codes "{\"stop\":\"no memory\"}\n"
+json_end ReadFailed place = codes "{\"stop\":\"read fault\",\"reason\":\"a read failed\"}\n"
+json_end TooManyReads place = codes "{\"stop\":\"read fault\",\"reason\":\"no end of input after 1048576 reads\"}\n"
+
 -- what is printed of a message, by the style
 abbrev pub says_in : Style → Saying
 says_in Plain = IsPlain
 says_in Explained = IsExplained
+says_in Json = IsJson
 
 -- what is printed at the end, by the style
 abbrev pub end_in : Style → End → Place → List ℕ
 end_in Plain = plain_end
 end_in Explained = explained_end
+end_in Json = json_end

@@ -1,7 +1,7 @@
 //! How reading comes to its end, and what that prints.
-ghost use Rattle.std.specs.Prelude.{◌≡◌};
+ghost use Rattle.std.specs.Prelude.{◌≡◌, ◌++◌, decimal};
 ghost use Rattle.msg_text.specs.declared.ends.Refusal.TheVariants.{NoMemory};
-ghost use Rattle.msg_text.specs.Ends.{end_status, end_text, frame_text, refusal_of};
+ghost use Rattle.msg_text.specs.Ends.{end_status, end_text, frame_text, refusal_of, words_of};
 
 use bench_device::Status;
 use dia_frame::{FeedError, FrameFault};
@@ -62,6 +62,28 @@ pub struct EndWords {
     pub before: &'static [u8],
     pub place: Option<u64>,
     pub after: &'static [u8],
+}
+
+// A number between two texts.
+pub(crate) fn placed(before: &'static [u8], place: u64, after: &'static [u8]) -> EndWords
+    ensures { words_of result ≡ before.now ++ decimal place ++ after.now }
+{
+    EndWords {
+        before,
+        place: Some(place),
+        after,
+    }
+}
+
+// A text without a number.
+pub(crate) fn unplaced(text: &'static [u8]) -> EndWords
+    ensures { words_of result ≡ text.now }
+{
+    EndWords {
+        before: text,
+        place: None,
+        after: b"",
+    }
 }
 
 fn frame_text(fault: FrameFault) -> &'static [u8]

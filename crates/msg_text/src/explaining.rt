@@ -1,10 +1,10 @@
 //! Messages in names, and where reading stopped.
-ghost use Rattle.std.specs.Prelude.{◌≡◌, ◌++◌, List, ℕ, IfOk, decimal};
+ghost use Rattle.std.specs.Prelude.{◌≡◌, ◌++◌, List, ℕ, IfOk};
 ghost use Rattle.msg_text.specs.Ends.{words_of};
 ghost use Rattle.msg_text.specs.Printed.{dictionary};
 ghost use Rattle.msg_text.specs.Styles.{IsExplained, explained_end, frame_words};
 
-use crate::ends::{End, EndWords, Place, Refusal};
+use crate::ends::{End, EndWords, Place, Refusal, placed, unplaced};
 use crate::manner::Manner;
 use dia_dict::Dictionary;
 use dia_frame::FrameFault;
@@ -16,17 +16,6 @@ use std::alloc::{AllocError, Global};
 pub struct Explaining {
     definitions: Dictionary,
     ghost base: { definitions ≡ dictionary },
-}
-
-// A number between two texts.
-fn placed(before: &'static [u8], place: u64, after: &'static [u8]) -> EndWords
-    ensures { words_of result ≡ before.now ++ decimal place ++ after.now }
-{
-    EndWords {
-        before,
-        place: Some(place),
-        after,
-    }
 }
 
 // What is told of a frame fault at this octet.
@@ -85,11 +74,7 @@ impl Manner for Explaining {
                 b": each octet wants two hexadecimal digits, and between digits only blanks may stand\n",
             ),
             End::Refused(Refusal::Frame(fault)) => frame_words(fault, place.octets),
-            other => EndWords {
-                before: other.text(),
-                place: None,
-                after: b"",
-            },
+            other => unplaced(other.text()),
         }
     }
 }

@@ -3,6 +3,7 @@
 
 mod ends;
 mod explaining;
+mod json;
 mod manner;
 mod plain;
 mod read;
@@ -12,6 +13,7 @@ mod show;
 
 pub use ends::{End, EndWords, Place, Refusal};
 pub use explaining::Explaining;
+pub use json::Json;
 pub use manner::{Manner, Style};
 pub use plain::Plain;
 pub use read::read_on;

@@ -43,4 +43,6 @@ pub enum Style {
     Plain,
     /// Names and values, where each part lies, and in words what is wrong.
     Explained,
+    /// An object of JSON, a line each.
+    Json,
 }

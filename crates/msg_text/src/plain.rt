@@ -3,7 +3,7 @@ ghost use Rattle.std.specs.Prelude.{◌≡◌, ◌++◌, List, [], ℕ, IfOk, On
 ghost use Rattle.msg_text.specs.Printed.{CommandText, FaultText, Prints, dictionary};
 ghost use Rattle.msg_text.specs.Styles.{IsPlain, plain_end};
 
-use crate::ends::{End, EndWords, Place};
+use crate::ends::{End, EndWords, Place, unplaced};
 use crate::manner::Manner;
 use crate::show::{put_fault, put_message};
 use dia_avp::{WriteError, write_avp};
@@ -89,10 +89,6 @@ impl Manner for Plain {
     }
 
     fn end_words(end: End, _place: Place) -> EndWords {
-        EndWords {
-            before: end.text(),
-            place: None,
-            after: b"",
-        }
+        unplaced(end.text())
     }
 }

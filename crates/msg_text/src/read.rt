@@ -9,6 +9,7 @@ ghost use Rattle.msg_text.specs.Styles.{end_in, says_in};
 
 use crate::ends::{End, EndWords, Place, Refusal};
 use crate::explaining::Explaining;
+use crate::json::Json;
 use crate::manner::{Manner, Style};
 use crate::plain::Plain;
 use crate::reading::Reading;
@@ -226,5 +227,6 @@ pub fn read_on<I: ByteSource, O: ByteSink>(
     match style {
         Style::Plain => read_in::<Plain, I, O>(alloc, source, sink),
         Style::Explained => read_in::<Explaining, I, O>(alloc, source, sink),
+        Style::Json => read_in::<Json, I, O>(alloc, source, sink),
     }
 }

@@ -1,0 +1,87 @@
+//! Messages as objects of JSON, a line each, and where reading stopped as one more.
+ghost use Rattle.std.specs.Prelude.{◌≡◌, ◌++◌, List, ℕ, IfOk};
+ghost use Rattle.msg_text.specs.Ends.{words_of};
+ghost use Rattle.msg_text.specs.Printed.{dictionary};
+ghost use Rattle.msg_text.specs.Styles.{IsJson, json_end, json_fault};
+
+use crate::ends::{End, EndWords, Place, Refusal, placed, unplaced};
+use crate::manner::Manner;
+use dia_dict::Dictionary;
+use dia_frame::FrameFault;
+use msg_json::put_json;
+use std::alloc::{AllocError, Global};
+
+/// Prints what a message says, as an object of JSON.
+#[derive(Drop)]
+pub struct Json {
+    definitions: Dictionary,
+    ghost base: { definitions ≡ dictionary },
+}
+
+// The object of a frame fault at this octet.
+fn json_fault(fault: FrameFault, octet: u64) -> EndWords
+    ensures { words_of result ≡ json_fault fault octet }
+{
+    match fault {
+        FrameFault::Version => placed(
+            b"{\"stop\":\"frame fault 1\",\"octet\":",
+            octet,
+            b",\"reason\":\"no message begins here, its first octet would be version 1\"}\n",
+        ),
+        FrameFault::Length => placed(
+            b"{\"stop\":\"frame fault 2\",\"octet\":",
+            octet,
+            b",\"reason\":\"the length in this header is below 20, no multiple of 4 or over 4096\"}\n",
+        ),
+        FrameFault::Broken => placed(
+            b"{\"stop\":\"frame fault 3\",\"octet\":",
+            octet,
+            b",\"reason\":\"a frame fault came before\"}\n",
+        ),
+    }
+}
+
+impl Manner for Json {
+    ghost Says = { IsJson };
+
+    ghost end_text = { json_end };
+
+    fn new(alloc: Global) -> Result<Json, AllocError> {
+        Ok(Json {
+            definitions: Dictionary::base(alloc)?,
+        })
+    }
+
+    fn put(
+        &mut self,
+        out: &mut Vec<u8>,
+        number: u64,
+        offset: u64,
+        octets: &[u8],
+    ) -> Result<bool, AllocError> {
+        if octets.len() > u32::MAX as usize {
+            out.extend_from_slice(b"{\"stop\":\"too long\"}\n")?;
+            return Ok(true);
+        }
+        put_json(out, &self.definitions, number, offset, octets)
+    }
+
+    fn end_words(end: End, place: Place) -> EndWords {
+        match end {
+            End::Whole => unplaced(b""),
+            End::Refused(Refusal::BadHex) => placed(
+                b"{\"stop\":\"bad hex\",\"character\":",
+                place.characters,
+                b",\"reason\":\"each octet wants two hexadecimal digits, and between digits only blanks may stand\"}\n",
+            ),
+            End::Refused(Refusal::Frame(fault)) => json_fault(fault, place.octets),
+            End::Refused(Refusal::NoMemory) => unplaced(b"{\"stop\":\"no memory\"}\n"),
+            End::ReadFailed => unplaced(
+                b"{\"stop\":\"read fault\",\"reason\":\"a read failed\"}\n",
+            ),
+            End::TooManyReads => unplaced(
+                b"{\"stop\":\"read fault\",\"reason\":\"no end of input after 1048576 reads\"}\n",
+            ),
+        }
+    }
+}
