@@ -15,13 +15,20 @@ use Rattle.role_tables.specs.Roles.{table_named}
 use Rattle.dbench.specs.declared.words.NoWords.{NoWords}
 use Rattle.dbench.specs.declared.words.NoWords.TheVariants as no_words
 
--- a flag of `read`
+-- the flags of `read`
 abbrev pub explain_rule : Rule
 explain_rule = record (new_rule (codes "explain")) { long = Some (codes "explain"); action = Some SetTrue }
 
--- `read`, with one FILE at most, and with that flag or without
+abbrev pub lines_rule : Rule
+lines_rule = record (new_rule (codes "lines")) { long = Some (codes "lines"); action = Some SetTrue }
+
+-- `read`, with one FILE at most
+abbrev pub read_input : App
+read_input = with_rule (new_app (codes "read")) (new_rule (codes "FILE"))
+
+-- and with each of these flags or without
 abbrev pub read_app : App
-read_app = with_rule (with_rule (new_app (codes "read")) (new_rule (codes "FILE"))) explain_rule
+read_app = with_rule (with_rule read_input explain_rule) lines_rule
 
 -- a flag and an option of `walk`
 abbrev pub names_rule : Rule
@@ -47,10 +54,10 @@ dbench_app =
 unfoldable pub word_faults : List Text → Kinds
 word_faults words = fault_of dbench_app words
 
--- what a command asks for: messages in a style, of this file or of standard input; a walk of a table over events of a file or of
+-- what a command asks for: messages in a style, each line by itself or not, of this file or of standard input; a walk of a table over events of a file or of
 -- standard input; the names that tables may use; the table of a role; or not one thing
 pub data Wanted : Type 0 where
-  Read : Style → Option Text → Wanted
+  Read : Style → Bool → Option Text → Wanted
   Walk : Text → Option Text → Wanted
   Names : Wanted
   Table : Text → Wanted
@@ -74,11 +81,11 @@ style_of true = Explained
 
 -- what a command asks for, by its name and what stands behind it
 abbrev pub wanted_of : Option (Text × List Row) → Wanted
-wanted_of None = Read Plain None
+wanted_of None = Read Plain false None
 wanted_of (Some used) =
     if bytes_eq used.0 (codes "walk")
     then walk_wanted (is_given (first_of (codes "names") used.1)) (first_of (codes "NAME") used.1) (first_of (codes "TABLE") used.1) (first_of (codes "EVENTS") used.1)
-    else Read (style_of (is_given (first_of (codes "explain") used.1))) (first_of (codes "FILE") used.1)
+    else Read (style_of (is_given (first_of (codes "explain") used.1))) (is_given (first_of (codes "lines") used.1)) (first_of (codes "FILE") used.1)
 
 -- what the words ask for, where they are a command
 unfoldable pub wanted : List Text → Wanted

@@ -3,7 +3,7 @@ ghost use Rattle.std.specs.Prelude.{◌≡◌, IfOk, Some, false, map, option_ma
 ghost use Rattle.clap.specs.Words.{app_of, first_of, found_of, kind_of, rows_of, rule_of, with_rule};
 ghost use Rattle.clap.specs.declared.builder.command.Command.TheViews.{out-Command};
 ghost use Rattle.dbench.specs.declared.words.WordsError.TheVariants.{NoMemory};
-ghost use Rattle.dbench.specs.Words.{dbench_app, explain_rule, is_given, names_rule, read_app, style_of, table_rule, walk_app, walk_inputs, walk_wanted, wanted_of};
+ghost use Rattle.dbench.specs.Words.{dbench_app, explain_rule, is_given, lines_rule, names_rule, read_app, read_input, style_of, table_rule, walk_app, walk_inputs, walk_wanted, wanted_of};
 ghost use Rattle.dbench.specs.Asked.{IsAsked, IsRefusal, meaning};
 
 use clap::error::ErrorKind;
@@ -43,8 +43,8 @@ pub(crate) fn given_words<R: Env + AllocGlobal>(rt: &R) -> Result<Vec<String>, N
 /// What a command asks for.
 #[derive(Clone, Copy, Debug)]
 pub(crate) enum Task<'a> {
-    /// `read` in a style, of this file or of standard input.
-    Read(Style, Option<&'a str>),
+    /// `read` in a style, each line by itself or not, of this file or of standard input.
+    Read(Style, bool, Option<&'a str>),
     /// `walk`, of this table, over the events of this file or of standard input.
     Walk(&'a str, Option<&'a str>),
     /// The names that tables may use.
@@ -104,6 +104,9 @@ session, and each AVP in the order of the octets, those of a group indented belo
 it begins, code, name, flags, length and value. A fault is told with its name, what is wrong in words, and which AVP at
 which octet; `bad hex` and `frame fault` with the character or octet of the input. All count from 0.
 
+With --lines each line is read by itself, as an input of its own, so that a bad one doesn't end the rest; its first
+message has the number of the line. `line 3: bad hex` tells the line, counted from 1.
+
   echo 0100001480000118000000000000000100000001 | dbench read
   dbench read --explain examples/dwr.hex";
 
@@ -157,17 +160,34 @@ fn explain_flag<'a>(alloc: Global) -> Arg<'a>
         .help("Say in names and words what each message holds, and what is wrong with it")
 }
 
+fn lines_flag<'a>(alloc: Global) -> Arg<'a>
+    ensures rule { rule_of result ≡ lines_rule }
+    ensures local { result.global ≡ false }
+{
+    Arg::new(alloc, "lines")
+        .long("lines")
+        .action(ArgAction::SetTrue)
+        .help("Read each line by itself, and go on behind one that is refused")
+}
+
+fn read_input<'a>(alloc: Global) -> Result<Command<'a>, AllocError>
+    ensures app { IfOk result (λ c. app_of c ≡ read_input) }
+    ensures local { IfOk result (λ c. (out-Command c).has_globals ≡ false) }
+{
+    let file = Arg::new(alloc, "FILE").help("The file to read; without it, standard input");
+    Command::new(alloc, "read").arg(file)
+}
+
 fn read_command<'a>(alloc: Global) -> Result<Command<'a>, AllocError>
     ensures app { IfOk result (λ c. app_of c ≡ read_app) }
     ensures local { IfOk result (λ c. (out-Command c).has_globals ≡ false) }
 {
-    let file = Arg::new(alloc, "FILE").help("The file to read; without it, standard input");
-    Command::new(alloc, "read")
+    read_input(alloc)?
         .about(READ_ABOUT)
         .long_about(READ_LONG_ABOUT)
         .after_help(STATUSES)
-        .arg(file)?
-        .arg(explain_flag(alloc))
+        .arg(explain_flag(alloc))?
+        .arg(lines_flag(alloc))
 }
 
 fn walk_inputs<'a>(alloc: Global) -> Result<Command<'a>, AllocError>
@@ -304,7 +324,8 @@ fn task_of<'a>(name: &str, found: &ArgMatches<'a>) -> Task<'a>
         )
     } else {
         let explain = is_given(value_of(found, "explain"));
-        Task::Read(style_of(explain), value_of(found, "FILE"))
+        let by_line = is_given(value_of(found, "lines"));
+        Task::Read(style_of(explain), by_line, value_of(found, "FILE"))
     }
 }
 
@@ -321,6 +342,6 @@ pub(crate) fn parse_words<'a, S: AsStr>(
     };
     match matches.subcommand() {
         Some((name, found)) => Ok(Asked::Task(task_of(name, found))),
-        None => Ok(Asked::Task(Task::Read(Style::Plain, None))),
+        None => Ok(Asked::Task(Task::Read(Style::Plain, false, None))),
     }
 }

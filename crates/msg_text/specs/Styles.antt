@@ -1,10 +1,12 @@
 -- In which styles messages are printed, and how reading them ended.
-use Rattle.std.specs.Prelude.{◌≡◌, ◌⊎◌, ◌≤◌, ◌^◌, ◌++◌, ℕ, List, length, true, codes, decimal}
+use Rattle.std.specs.Prelude.{◌≡◌, ◌⊎◌, ◌≤◌, ◌^◌, ◌++◌, ℕ, Bool, List, length, true, false, codes, decimal}
 use Rattle.dia_dict.specs.Dictionary.{known}
 use Rattle.dia_frame.specs.declared.fault.FrameFault.{FrameFault}
 use Rattle.dia_frame.specs.declared.fault.FrameFault.TheVariants.{Version, Length, Broken}
 use Rattle.msg_explain.specs.Explained.{Explains}
 use Rattle.msg_text.specs.Ends.{end_text}
+use Rattle.msg_text.specs.ByLine.{AreLinesOf}
+use Rattle.msg_text.specs.Inputs.{IsPrintedOf, Printing}
 use Rattle.msg_text.specs.Printed.{Prints, Saying, dictionary}
 use Rattle.msg_text.specs.declared.ends.Refusal.TheVariants as refusals
 use Rattle.msg_text.specs.declared.ends.End.{End}
@@ -56,3 +58,8 @@ says_in Explained = IsExplained
 abbrev pub end_in : Style → End → Place → List ℕ
 end_in Plain = plain_end
 end_in Explained = explained_end
+
+-- what is printed of a text, by the style, and by whether each line is read by itself
+abbrev pub printed_in : Style → Bool → Printing
+printed_in style false = IsPrintedOf (says_in style) 0
+printed_in style true = AreLinesOf (says_in style) (end_in style)
