@@ -13,7 +13,7 @@ use Rattle.dbench.specs.declared.words.WordsError.TheVariants as errors
 
 -- what a command asks for
 abbrev pub meaning : Task → Wanted
-meaning (tasks.Read style file) = Read style (option_map (λ name. name.now) file)
+meaning (tasks.Read style by_line file) = Read style by_line (option_map (λ name. name.now) file)
 meaning (tasks.Walk table events) = Walk table.now (option_map (λ name. name.now) events)
 meaning tasks.Names = Names
 meaning (tasks.Table role) = Table role.now

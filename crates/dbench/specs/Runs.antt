@@ -1,5 +1,5 @@
 -- What a run does of what the words ask for.
-use Rattle.std.specs.Prelude.{◌≡◌, ◌⊎◌, ◌<◌, ℕ, List, Option, Some, None, codes}
+use Rattle.std.specs.Prelude.{◌≡◌, ◌⊎◌, ◌<◌, ℕ, Bool, List, Option, Some, None, codes}
 use Rattle.std.specs.Io.KnownBytes.{IsAtEnd}
 use Rattle.bench_device.specs.Devices.{Tells}
 use Rattle.bench_device.specs.Inputs.{IsInput}
@@ -8,7 +8,7 @@ use Rattle.bench_device.specs.declared.status.Status.TheVariants as statuses
 use Rattle.clap.specs.Words.{Text}
 use Rattle.law_text.specs.Sentences.{book_text}
 use Rattle.msg_text.specs.Inputs.{IsReport}
-use Rattle.msg_text.specs.Styles.{end_in, says_in}
+use Rattle.msg_text.specs.Styles.{end_in, printed_in}
 use Rattle.msg_text.specs.declared.manner.Style.{Style}
 use Rattle.role_tables.specs.Roles.{all_laws, table_named}
 use Rattle.tab_draw.specs.Runs.{graph_status, graph_text}
@@ -16,13 +16,13 @@ use Rattle.tab_text.specs.Faults.{first_fault}
 use Rattle.tab_walk.specs.Walks.{IsWalkedOn}
 use Rattle.dbench.specs.Words.{Wanted, Read, Walk, Names, Table, Draw, Nothing}
 
--- Messages of a file or of standard input were read: what was written out is what the text prints in the style. Without a file the text
+-- Messages of a file or of standard input were read: what was written out is what the text prints in the style, each of its lines by itself or not. Without a file the text
 -- is that of the source. It is done only where nothing is left to read, and refused only where something was read.
-pub record ReadsMessages {I O : Type 0} (remaining : I → Option (List ℕ)) (reads : I → ℕ) (contents : O → Option (List ℕ)) (style : Style) (file : Option Text) (source source' : I) (sink sink' : O) (answer : Status) : Type 0 where
+pub record ReadsMessages {I O : Type 0} (remaining : I → Option (List ℕ)) (reads : I → ℕ) (contents : O → Option (List ℕ)) (style : Style) (by_line : Bool) (file : Option Text) (source source' : I) (sink sink' : O) (answer : Status) : Type 0 where
   pub start : I
   pub no_read : reads start ≡ reads source
   pub standard : file ≡ None → start ≡ source
-  pub report : IsReport (says_in style) (end_in style) remaining contents start source' sink sink' answer
+  pub report : IsReport (printed_in style by_line) (end_in style) remaining contents start source' sink sink' answer
   pub whole : answer ≡ statuses.Done → IsAtEnd (remaining source')
   pub some : answer ≡ statuses.Refused → reads source < reads source'
 
@@ -52,8 +52,8 @@ TellsNoMemory contents failures idle old new answer = Tells contents failures id
 
 -- what is done, by what was asked for
 abbrev pub IsMet : {I O : Type 0} → (remaining : I → Option (List ℕ)) → (reads failures : I → ℕ) → (contents : O → Option (List ℕ)) → (write_failures idle : O → ℕ) → Wanted → (source source' : I) → (sink sink' : O) → Status → Type 0
-IsMet remaining reads failures contents write_failures idle (Read style file) source source' sink sink' answer =
-    ReadsMessages remaining reads contents style file source source' sink sink' answer
+IsMet remaining reads failures contents write_failures idle (Read style by_line file) source source' sink sink' answer =
+    ReadsMessages remaining reads contents style by_line file source source' sink sink' answer
 IsMet remaining reads failures contents write_failures idle (Walk table events) source source' sink sink' answer =
     WalksTable remaining reads failures contents write_failures idle source source' sink sink' answer ⊎ TellsNoMemory contents write_failures idle sink sink' answer
 IsMet remaining reads failures contents write_failures idle Names source source' sink sink' answer =

@@ -22,13 +22,16 @@ explain_rule = record (new_rule (codes "explain")) { long = Some (codes "explain
 abbrev pub json_rule : Rule
 json_rule = record (new_rule (codes "json")) { long = Some (codes "json"); action = Some SetTrue }
 
--- `read`, with one FILE at most
-abbrev pub read_inputs : App
-read_inputs = with_rule (new_app (codes "read")) (new_rule (codes "FILE"))
+abbrev pub lines_rule : Rule
+lines_rule = record (new_rule (codes "lines")) { long = Some (codes "lines"); action = Some SetTrue }
 
--- and with these flags or without
+-- `read`, with one FILE at most
+abbrev pub read_input : App
+read_input = with_rule (new_app (codes "read")) (new_rule (codes "FILE"))
+
+-- and with each of these flags or without
 abbrev pub read_app : App
-read_app = with_rule (with_rule read_inputs explain_rule) json_rule
+read_app = with_rule (with_rule (with_rule read_input explain_rule) json_rule) lines_rule
 
 -- a flag and an option of `walk`
 abbrev pub names_rule : Rule
@@ -62,11 +65,11 @@ dbench_app = with_subcommand walking_app draw_app.top
 unfoldable pub word_faults : List Text → Kinds
 word_faults words = fault_of dbench_app words
 
--- what a command asks for: messages in a style, of this file or of standard input; a walk of a table over events of a file or of
--- standard input; the names that tables may use; the table of a role; the graph of a table of a file or of standard input;
--- or not one thing
+-- what a command asks for: messages in a style, each line by itself or not, of this file or of standard input; a walk of a table
+-- over events of a file or of standard input; the names that tables may use; the table of a role; the graph of a table of a file or
+-- of standard input; or not one thing
 pub data Wanted : Type 0 where
-  Read : Style → Option Text → Wanted
+  Read : Style → Bool → Option Text → Wanted
   Walk : Text → Option Text → Wanted
   Names : Wanted
   Table : Text → Wanted
@@ -84,21 +87,21 @@ walk_wanted flag role table events = Nothing
 abbrev pub is_given : Option Text → Bool
 is_given value = option_map_or (λ text. bytes_eq text (codes "true")) value false
 
--- what `read` asks for: by its flags `explain` and `json`, of which one at most makes sense, and FILE
-abbrev pub read_wanted : (explain json : Bool) → Option Text → Wanted
-read_wanted false false file = Read Plain file
-read_wanted true false file = Read Explained file
-read_wanted false true file = Read Json file
-read_wanted true true file = Nothing
+-- what `read` asks for: by its flags `explain` and `json`, of which one at most makes sense, `lines`, and FILE
+abbrev pub read_wanted : (explain json by_line : Bool) → Option Text → Wanted
+read_wanted false false by_line file = Read Plain by_line file
+read_wanted true false by_line file = Read Explained by_line file
+read_wanted false true by_line file = Read Json by_line file
+read_wanted true true by_line file = Nothing
 
 -- what a command asks for, by its name and what stands behind it
 abbrev pub wanted_of : Option (Text × List Row) → Wanted
-wanted_of None = Read Plain None
+wanted_of None = Read Plain false None
 wanted_of (Some used) =
     if bytes_eq used.0 (codes "draw") then Draw (first_of (codes "TABLE") used.1)
     else if bytes_eq used.0 (codes "walk")
     then walk_wanted (is_given (first_of (codes "names") used.1)) (first_of (codes "NAME") used.1) (first_of (codes "TABLE") used.1) (first_of (codes "EVENTS") used.1)
-    else read_wanted (is_given (first_of (codes "explain") used.1)) (is_given (first_of (codes "json") used.1)) (first_of (codes "FILE") used.1)
+    else read_wanted (is_given (first_of (codes "explain") used.1)) (is_given (first_of (codes "json") used.1)) (is_given (first_of (codes "lines") used.1)) (first_of (codes "FILE") used.1)
 
 -- what the words ask for, where they are a command
 unfoldable pub wanted : List Text → Wanted

@@ -1,9 +1,9 @@
 //! One run of the program: from words, an input and an output to a status.
 ghost use Rattle.std.specs.Prelude.{◌≡◌, ◌≢◌, ◌⊎◌, ◌<◌, ◌≤◌, ◌+◌, ◌*◌, ◌-◌, ◌^◌, [], None, map, max, option_map};
 ghost use Rattle.std.specs.Io.KnownBytes.{IsAtEnd};
-ghost use Rattle.bench_device.specs.Devices.{IsRun, Tells};
+ghost use Rattle.bench_device.specs.Devices.{HasWriteCause, IsRun, Tells};
 ghost use Rattle.msg_text.specs.Inputs.{IsReport};
-ghost use Rattle.msg_text.specs.Styles.{end_in, says_in};
+ghost use Rattle.msg_text.specs.Styles.{end_in, printed_in};
 ghost use Rattle.dbench.specs.Asked.{meaning};
 ghost use Rattle.dbench.specs.Runs.{IsMet, ReadsMessages, TellsNoMemory};
 ghost use Rattle.dbench.specs.Words.{AreRefused, AskForText, AsksInVain, no_words_status, no_words_text, wanted, word_faults};
@@ -12,15 +12,44 @@ use crate::draw::draw;
 use crate::walk::{tell_names, tell_table, walk};
 use crate::words::{Asked, NoWords, Task, WordsError, parse_words};
 use bench_device::{
-    ByteSink, FileSource, MAX_IDLE_WRITES, MAX_READS, Status, tell, tell_not_opened,
+    ByteSink, ByteSource, FileSource, MAX_IDLE_WRITES, MAX_READS, Status, tell, tell_not_opened,
 };
-use msg_text::{Style, read_on};
+use msg_text::{Style, read_lines, read_on};
 use std::alloc::Global;
 use std::convert::AsStr;
+
+// Reads messages of what the source gives now.
+fn read_messages<I: ByteSource, O: ByteSink>(
+    alloc: Global,
+    style: Style,
+    by_line: bool,
+    source: &mut I,
+    sink: &mut O,
+) -> Status
+    requires reads { I.reads source.old + MAX_READS < 2 ^ 64 }
+    requires read_failures { I.failures source.old < 2 ^ 64 - 1 }
+    requires idle { O.idle sink.old ≡ 0 }
+    requires write_failures { O.failures sink.old < 2 ^ 64 - 1 }
+    ensures reads { I.reads source.new ≤ I.reads source.old + MAX_READS }
+    ensures row { O.most_idle sink.new ≤ max (O.most_idle sink.old) MAX_IDLE_WRITES }
+    ensures run { IsRun I.reads I.failures O.failures O.idle source.old source.new sink.old sink.new result }
+    ensures report { IsReport (printed_in style by_line) (end_in style) I.remaining O.contents source.old source.new sink.old sink.new result
+        ⊎ (HasWriteCause O.failures O.idle sink.old sink.new × (result ≡ Status.Fault)) }
+    ensures whole { result ≡ Status.Done → IsAtEnd (I.remaining source.new) }
+    ensures refused { result ≡ Status.Refused → I.reads source.old < I.reads source.new }
+    ensures words { result ≢ Status.Usage }
+{
+    if by_line {
+        read_lines(style, alloc, source, sink)
+    } else {
+        read_on(style, alloc, source, sink)
+    }
+}
 
 fn read_file<I: FileSource, O: ByteSink>(
     alloc: Global,
     style: Style,
+    by_line: bool,
     name: &str,
     source: &mut I,
     sink: &mut O,
@@ -39,7 +68,7 @@ fn read_file<I: FileSource, O: ByteSink>(
 
     // What was written out is what the text that was read of the file prints.
     ensures report { result ≢ Status.Fault → (start : I) × (I.reads start ≡ I.reads source.old)
-        × IsReport (says_in style) (end_in style) I.remaining O.contents start source.new sink.old sink.new result }
+        × IsReport (printed_in style by_line) (end_in style) I.remaining O.contents start source.new sink.old sink.new result }
 
     // It is done only where nothing is left to read, and refused only where something was read.
     ensures whole { result ≡ Status.Done → IsAtEnd (I.remaining source.new) }
@@ -47,7 +76,7 @@ fn read_file<I: FileSource, O: ByteSink>(
     ensures words { result ≢ Status.Usage }
 {
     if source.open(name).is_ok() {
-        return read_on(style, alloc, source, sink);
+        return read_messages(alloc, style, by_line, source, sink);
     }
     tell_not_opened(alloc, name, sink)
 }
@@ -69,6 +98,7 @@ pub(crate) fn tell_no_words<O: ByteSink>(why: NoWords, sink: &mut O) -> Status
 fn read<I: FileSource, O: ByteSink>(
     alloc: Global,
     style: Style,
+    by_line: bool,
     file: Option<&str>,
     source: &mut I,
     sink: &mut O,
@@ -81,12 +111,12 @@ fn read<I: FileSource, O: ByteSink>(
     ensures row { O.most_idle sink.new ≤ max (O.most_idle sink.old) MAX_IDLE_WRITES }
     ensures run { IsRun I.reads I.failures O.failures O.idle source.old source.new sink.old sink.new result }
     ensures met { result ≢ Status.Fault
-        → ReadsMessages I.remaining I.reads O.contents style (option_map (λ name. name.now) file.entry) source.old source.new sink.old sink.new result }
+        → ReadsMessages I.remaining I.reads O.contents style by_line (option_map (λ name. name.now) file.entry) source.old source.new sink.old sink.new result }
     ensures words { result ≢ Status.Usage }
 {
     match file {
-        None => read_on(style, alloc, source, sink),
-        Some(name) => read_file(alloc, style, name, source, sink),
+        None => read_messages(alloc, style, by_line, source, sink),
+        Some(name) => read_file(alloc, style, by_line, name, source, sink),
     }
 }
 
@@ -109,7 +139,7 @@ fn run<I: FileSource, O: ByteSink>(
     ensures usage { result ≡ Status.Usage → AsksInVain (meaning task.entry) × (source.new ≡ source.old) }
 {
     match task {
-        Task::Read(style, file) => read(alloc, style, file, source, sink),
+        Task::Read(style, by_line, file) => read(alloc, style, by_line, file, source, sink),
         Task::Walk(table, events) => walk(alloc, table, events, source, sink),
         Task::Names => tell_names(alloc, sink),
         Task::Table(name) => tell_table(name, sink),

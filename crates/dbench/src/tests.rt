@@ -40,6 +40,11 @@ fn words_ask_for_a_text_or_an_input_or_are_refused(rt: HostRuntime) -> Result<()
             "read fault: no/such.hex can't be opened\n",
         ),
         (
+            ["dbench", "read", "--lines"].as_slice(),
+            1,
+            "line 1: bad hex\n",
+        ),
+        (
             ["dbench", "read", "--explain", "--explain"].as_slice(),
             2,
             "Usage: dbench",

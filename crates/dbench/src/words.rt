@@ -3,7 +3,7 @@ ghost use Rattle.std.specs.Prelude.{◌≡◌, IfOk, Some, false, map, option_ma
 ghost use Rattle.clap.specs.Words.{app_of, first_of, found_of, kind_of, rows_of, rule_of, with_rule};
 ghost use Rattle.clap.specs.declared.builder.command.Command.TheViews.{out-Command};
 ghost use Rattle.dbench.specs.declared.words.WordsError.TheVariants.{NoMemory};
-ghost use Rattle.dbench.specs.Words.{dbench_app, draw_app, explain_rule, is_given, json_rule, names_rule, read_app, read_inputs, read_wanted, table_rule, walk_app, walk_inputs, walk_wanted, walking_app, wanted_of};
+ghost use Rattle.dbench.specs.Words.{dbench_app, draw_app, explain_rule, is_given, json_rule, lines_rule, names_rule, read_app, read_input, read_wanted, table_rule, walk_app, walk_inputs, walk_wanted, walking_app, wanted_of};
 ghost use Rattle.dbench.specs.Asked.{IsAsked, IsRefusal, meaning};
 
 use clap::error::ErrorKind;
@@ -43,8 +43,8 @@ pub(crate) fn given_words<R: Env + AllocGlobal>(rt: &R) -> Result<Vec<String>, N
 /// What a command asks for.
 #[derive(Clone, Copy, Debug)]
 pub(crate) enum Task<'a> {
-    /// `read` in a style, of this file or of standard input.
-    Read(Style, Option<&'a str>),
+    /// `read` in a style, each line by itself or not, of this file or of standard input.
+    Read(Style, bool, Option<&'a str>),
     /// `walk`, of this table, over the events of this file or of standard input.
     Walk(&'a str, Option<&'a str>),
     /// The names that tables may use.
@@ -108,6 +108,9 @@ which octet; `bad hex` and `frame fault` with the character or octet of the inpu
 
 With --json it says the same as objects of JSON, one in a line; docs/JSON.md lists the keys.
 
+With --lines each line is read by itself, as an input of its own, so that a bad one doesn't end the rest; its first
+message has the number of the line. `line 3: bad hex` tells the line, counted from 1.
+
   echo 0100001480000118000000000000000100000001 | dbench read
   dbench read --explain examples/dwr.hex
   dbench read --json examples/dwr.hex | jq .session";
@@ -151,7 +154,7 @@ rows that stay in a state stand in its box, and have one arrow together.
 const READ_USAGE: &str = "\
 wanted at most one of: --explain, --json
 
-Usage: dbench read [--explain | --json] [FILE]
+Usage: dbench read [--explain | --json] [--lines] [FILE]
 
 For more information, try '--help'.
 ";
@@ -195,25 +198,35 @@ fn json_flag<'a>(alloc: Global) -> Arg<'a>
         .help("Say the same as one object of JSON in a line for each message")
 }
 
-fn read_inputs<'a>(alloc: Global) -> Result<Command<'a>, AllocError>
-    ensures app { IfOk result (λ c. app_of c ≡ read_inputs) }
+fn lines_flag<'a>(alloc: Global) -> Arg<'a>
+    ensures rule { rule_of result ≡ lines_rule }
+    ensures local { result.global ≡ false }
+{
+    Arg::new(alloc, "lines")
+        .long("lines")
+        .action(ArgAction::SetTrue)
+        .help("Read each line by itself, and go on behind one that is refused")
+}
+
+fn read_input<'a>(alloc: Global) -> Result<Command<'a>, AllocError>
+    ensures app { IfOk result (λ c. app_of c ≡ read_input) }
     ensures local { IfOk result (λ c. (out-Command c).has_globals ≡ false) }
 {
     let file = Arg::new(alloc, "FILE").help("The file to read; without it, standard input");
-    Command::new(alloc, "read")
-        .about(READ_ABOUT)
-        .long_about(READ_LONG_ABOUT)
-        .after_help(STATUSES)
-        .arg(file)
+    Command::new(alloc, "read").arg(file)
 }
 
 fn read_command<'a>(alloc: Global) -> Result<Command<'a>, AllocError>
     ensures app { IfOk result (λ c. app_of c ≡ read_app) }
     ensures local { IfOk result (λ c. (out-Command c).has_globals ≡ false) }
 {
-    read_inputs(alloc)?
+    read_input(alloc)?
+        .about(READ_ABOUT)
+        .long_about(READ_LONG_ABOUT)
+        .after_help(STATUSES)
         .arg(explain_flag(alloc))?
-        .arg(json_flag(alloc))
+        .arg(json_flag(alloc))?
+        .arg(lines_flag(alloc))
 }
 
 fn walk_inputs<'a>(alloc: Global) -> Result<Command<'a>, AllocError>
@@ -319,13 +332,13 @@ fn is_given(value: Option<&str>) -> bool
 }
 
 /// What `read` asks for, by its flags and FILE.
-fn read_task<'a>(explain: bool, json: bool, file: Option<&'a str>) -> Task<'a>
-    ensures { meaning result ≡ read_wanted explain json (option_map (λ text. text.now) file.entry) }
+fn read_task<'a>(explain: bool, json: bool, by_line: bool, file: Option<&'a str>) -> Task<'a>
+    ensures { meaning result ≡ read_wanted explain json by_line (option_map (λ text. text.now) file.entry) }
 {
     match (explain, json) {
-        (false, false) => Task::Read(Style::Plain, file),
-        (true, false) => Task::Read(Style::Explained, file),
-        (false, true) => Task::Read(Style::Json, file),
+        (false, false) => Task::Read(Style::Plain, by_line, file),
+        (true, false) => Task::Read(Style::Explained, by_line, file),
+        (false, true) => Task::Read(Style::Json, by_line, file),
         (true, true) => Task::Nothing(READ_USAGE),
     }
 }
@@ -373,7 +386,8 @@ fn task_of<'a>(name: &str, found: &ArgMatches<'a>) -> Task<'a>
     } else {
         let explain = is_given(value_of(found, "explain"));
         let json = is_given(value_of(found, "json"));
-        read_task(explain, json, value_of(found, "FILE"))
+        let by_line = is_given(value_of(found, "lines"));
+        read_task(explain, json, by_line, value_of(found, "FILE"))
     }
 }
 
@@ -390,6 +404,6 @@ pub(crate) fn parse_words<'a, S: AsStr>(
     };
     match matches.subcommand() {
         Some((name, found)) => Ok(Asked::Task(task_of(name, found))),
-        None => Ok(Asked::Task(Task::Read(Style::Plain, None))),
+        None => Ok(Asked::Task(Task::Read(Style::Plain, false, None))),
     }
 }

@@ -2,3 +2,4 @@ pub mod Puts
 pub mod EndLemmas
 pub mod RunLemmas
 pub mod ReadLemmas
+pub mod ByLineLemmas

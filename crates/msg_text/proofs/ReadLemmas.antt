@@ -3,6 +3,7 @@ use Rattle.std.proofs.Common.{◌≡◌, ◌==◌, ℕ, Bool, true, false, List,
 use Rattle.std.specs.Prelude.{◌||◌, ◌⊎◌, is_some}
 use Rattle.std.proofs.lemmas.List.{append-nil, length-append}
 use Rattle.std.proofs.lemmas.Bool.{eqb-true}
+use Rattle.std.specs.Io.KnownBytes.{IsAtEnd}
 use Rattle.std.proofs.KnownBytes.{Appends-trans, Consumes-nil}
 use Rattle.dia_frame.specs.Frames.{Frames, joined}
 use Rattle.dia_frame.specs.Framer.{Feeds, FramerState, HoldsNext, Shows}
@@ -12,7 +13,7 @@ use Rattle.dia_frame.specs.declared.fault.FeedError.{FeedError}
 use Rattle.dia_frame.specs.declared.fault.FeedError.TheVariants.{Fault, NoMemory}
 use Rattle.bench_text.specs.Digits.{Means}
 use Rattle.msg_text.specs.Ends.{end_status, refusal_of}
-use Rattle.msg_text.specs.Inputs.{FrontText, HaltedText, IsPrintedOf, IsReport, ShortText, WholeText, left_over}
+use Rattle.msg_text.specs.Inputs.{FrontText, HaltedText, IsPrintedOf, IsReport, Printing, ShortText, WholeText, left_over}
 use Rattle.msg_text.specs.Printed.{PrintsAll, Saying}
 use Rattle.msg_text.specs.Readings.{Finishes, Halts, IsPoured, PrintsFront, PrintsWaiting, SoFar, Stands, TakesPiece, TakesText, place_of}
 use Rattle.msg_text.specs.Reports.{Gains, Stays}
@@ -31,11 +32,11 @@ use Rattle.dia_frame.proofs.LawLemmas.{some_frames}
 use Rattle.bench_text.proofs.Meaning.{Means-append, Means-nothing}
 use Rattle.msg_text.proofs.RunLemmas.{later_cause}
 
-or_assoc : (a b c : Bool) → ((a || b) || c) ≡ (a || (b || c))
+pub or_assoc : (a b c : Bool) → ((a || b) || c) ≡ (a || (b || c))
 or_assoc true b c = refl
 or_assoc false b c = refl
 
-or_false : (a : Bool) → (a || false) ≡ a
+pub or_false : (a : Bool) → (a || false) ≡ a
 or_false true = refl
 or_false false = refl
 
@@ -145,20 +146,20 @@ PrintsWaiting-all says f h p r s none =
     }
 
 -- the texts of messages behind those that stand
-Stands-all : (says : Saying) {M : Type 0} (f : FramerState) (p r : Report M) (octets written : List ℕ) (s : Stands says f p octets written None)
+Stands-all : (says : Saying) (first : ℕ) {M : Type 0} (f : FramerState) (p r : Report M) (octets written : List ℕ) (s : Stands says first f p octets written None)
     → (came : List (List ℕ)) (text : List ℕ) (refused : Bool) → PrintsAll says p.messages p.octets came text refused → Gains p r came text refused
-    → PrintsAll says 0 0 (s.messages ++ came) (written ++ r.out.items) r.refused
-Stands-all says f p r octets written s came text refused printed gained =
-    let counted : p.messages ≡ 0 + length s.messages = let same = s.counted in omega arith in
+    → PrintsAll says first 0 (s.messages ++ came) (written ++ r.out.items) r.refused
+Stands-all says first f p r octets written s came text refused printed gained =
+    let counted : p.messages ≡ first + length s.messages = let same = s.counted in omega arith in
     let placed : p.octets ≡ 0 + length (joined s.messages) = let same = s.placed in omega arith in
-    let all = PrintsAll-append says 0 0 p.messages p.octets s.messages came _ text _ refused counted placed s.printed printed in
+    let all = PrintsAll-append says first 0 p.messages p.octets s.messages came _ text _ refused counted placed s.printed printed in
     rw (gained.out, gained.marked, ← append_assoc) all
 
 -- a piece was fed, and the messages that it completed were printed
-pub Stands-more : (says : Saying) {M : Type 0} (f g h : FramerState) (p r : Report M) (octets more written : List ℕ) (fault : Option FrameFault)
-    → (s : Stands says f p octets written None) → Shows g 4096 s.messages (octets ++ more) fault
-    → PrintsWaiting says g h p r → Stands says h r (octets ++ more) written fault
-Stands-more says f g h p r octets more written fault s shows w =
+pub Stands-more : (says : Saying) (first : ℕ) {M : Type 0} (f g h : FramerState) (p r : Report M) (octets more written : List ℕ) (fault : Option FrameFault)
+    → (s : Stands says first f p octets written None) → Shows g 4096 s.messages (octets ++ more) fault
+    → PrintsWaiting says g h p r → Stands says first h r (octets ++ more) written fault
+Stands-more says first f g h p r octets more written fault s shows w =
     let emptied : Shows (record g { waiting = [] }) 4096 (s.messages ++ g.waiting) (octets ++ more) fault =
     record {
       left = shows.left;
@@ -172,31 +173,31 @@ Stands-more says f g h p r octets more written fault s shows w =
       messages = s.messages ++ g.waiting;
       frames = subst (λ (k : FramerState). Shows k 4096 (s.messages ++ g.waiting) (octets ++ more) fault) (sym w.emptied) emptied;
       none_waits = ap (λ (k : FramerState). k.waiting) w.emptied;
-      printed = Stands-all says f p r octets written s g.waiting w.text w.refused w.printed w.gained;
+      printed = Stands-all says first f p r octets written s g.waiting w.text w.refused w.printed w.gained;
       counted = let a = s.counted in let b = w.gained.messages in let c = length-append s.messages g.waiting in omega arith;
       placed = let a = s.placed in let b = w.gained.octets in let c = joined-append s.messages g.waiting in omega arith;
     }
 
 -- some messages more were printed, before memory ran out
-Halts-more : (says : Saying) {M : Type 0} (f : FramerState) (p r : Report M) (octets more written : List ℕ) (s : Stands says f p octets written None)
+Halts-more : (says : Saying) (first : ℕ) {M : Type 0} (f : FramerState) (p r : Report M) (octets more written : List ℕ) (s : Stands says first f p octets written None)
     → (front others : List (List ℕ)) (rest text : List ℕ) (refused : Bool) → Frames (octets ++ more) 4096 (s.messages ++ (front ++ others)) rest
-    → PrintsAll says p.messages p.octets front text refused → Gains p r front text refused → Halts says s.messages r (octets ++ more) written
-Halts-more says f p r octets more written s front others rest text refused frames printed gained =
+    → PrintsAll says p.messages p.octets front text refused → Gains p r front text refused → Halts says first s.messages r (octets ++ more) written
+Halts-more says first f p r octets more written s front others rest text refused frames printed gained =
     record {
       more = front;
       others = others;
       rest = rest;
       frames = rw append_assoc frames;
-      printed = Stands-all says f p r octets written s front text refused printed gained;
+      printed = Stands-all says first f p r octets written s front text refused printed gained;
     }
 
 -- likewise, where the piece was not taken
-Halts-idle : (says : Saying) {M : Type 0} (f : FramerState) (p r : Report M) (octets more written : List ℕ) (s : Stands says f p octets written None)
-    → (text : List ℕ) (refused : Bool) → PrintsAll says p.messages p.octets [] text refused → Gains p r [] text refused → Halts says s.messages r (octets ++ more) written
-Halts-idle says f p r octets more written s text refused printed gained =
+Halts-idle : (says : Saying) (first : ℕ) {M : Type 0} (f : FramerState) (p r : Report M) (octets more written : List ℕ) (s : Stands says first f p octets written None)
+    → (text : List ℕ) (refused : Bool) → PrintsAll says p.messages p.octets [] text refused → Gains p r [] text refused → Halts says first s.messages r (octets ++ more) written
+Halts-idle says first f p r octets more written s text refused printed gained =
     let before : Frames octets 4096 s.messages s.frames.left = rw (s.none_waits, append-nil) at s.frames.frames in
     let next = some_frames (s.frames.left ++ more) 4096 in
-    Halts-more says f p r octets more written s [] next.messages next.rest text refused
+    Halts-more says first f p r octets more written s [] next.messages next.rest text refused
     (frames-append 4096 octets more s.frames.left next.rest s.messages next.messages before next.frames) printed gained
 
 -- no message waits of those that were printed
@@ -205,43 +206,43 @@ no_front [] back none = refl
 no_front (m ∷ front) back none = absurd cc
 
 -- a Framer that shows no fault is sound
-Stands-sound : (says : Saying) {M : Type 0} (f : FramerState) (p : Report M) (octets written : List ℕ) → Stands says f p octets written None → f.broken ≡ false
-Stands-sound says f p octets written s = s.frames.broken
+Stands-sound : (says : Saying) (first : ℕ) {M : Type 0} (f : FramerState) (p : Report M) (octets written : List ℕ) → Stands says first f p octets written None → f.broken ≡ false
+Stands-sound says first f p octets written s = s.frames.broken
 
 -- a piece was refused: its fault is what the octets show now, or memory ran out
-pub TakesPiece-refused : (says : Saying) {M : Type 0} (f g h : FramerState) (p r : Report M) (octets more written : List ℕ) (error : FeedError)
-    → (s : Stands says f p octets written None) → Feeds f more (Err error) g → HoldsNext g 4096 s.messages (octets ++ more) (Err error)
-    → PrintsWaiting says g h p r → TakesPiece (Err (refusal_of error)) (Stands says h r (octets ++ more) written) (Halts says s.messages r (octets ++ more) written)
-TakesPiece-refused says f g h p r octets more written (Fault Version) s feeds next w = Stands-more says f g h p r octets more written (Some Version) s next w
-TakesPiece-refused says f g h p r octets more written (Fault Length) s feeds next w = Stands-more says f g h p r octets more written (Some Length) s next w
-TakesPiece-refused says f g h p r octets more written (Fault Broken) s feeds next w =
-    let sound = Stands-sound says f p octets written s in
+pub TakesPiece-refused : (says : Saying) (first : ℕ) {M : Type 0} (f g h : FramerState) (p r : Report M) (octets more written : List ℕ) (error : FeedError)
+    → (s : Stands says first f p octets written None) → Feeds f more (Err error) g → HoldsNext g 4096 s.messages (octets ++ more) (Err error)
+    → PrintsWaiting says g h p r → TakesPiece (Err (refusal_of error)) (Stands says first h r (octets ++ more) written) (Halts says first s.messages r (octets ++ more) written)
+TakesPiece-refused says first f g h p r octets more written (Fault Version) s feeds next w = Stands-more says first f g h p r octets more written (Some Version) s next w
+TakesPiece-refused says first f g h p r octets more written (Fault Length) s feeds next w = Stands-more says first f g h p r octets more written (Some Length) s next w
+TakesPiece-refused says first f g h p r octets more written (Fault Broken) s feeds next w =
+    let sound = Stands-sound says first f p octets written s in
     let broken = feeds.0 in
     absurd (cc)
-TakesPiece-refused says f g h p r octets more written NoMemory s feeds next w =
+TakesPiece-refused says first f g h p r octets more written NoMemory s feeds next w =
     let none : g.waiting ≡ [] = ap (λ (k : FramerState). k.waiting) feeds.1 ∙ s.none_waits in
-    Halts-idle says f p r octets more written s w.text w.refused (rw none at w.printed) (rw none at w.gained)
+    Halts-idle says first f p r octets more written s w.text w.refused (rw none at w.printed) (rw none at w.gained)
 
-Halts-shown : (says : Saying) {M : Type 0} (f g : FramerState) (p r : Report M) (octets more written : List ℕ) (fault : Option FrameFault) (s : Stands says f p octets written None)
-    → Shows g 4096 s.messages (octets ++ more) fault → PrintsFront says g p r → Halts says s.messages r (octets ++ more) written
-Halts-shown says f g p r octets more written fault s shows w =
-    Halts-more says f p r octets more written s w.front w.back shows.left w.text w.refused (rw w.waiting at shows.frames) w.printed w.gained
+Halts-shown : (says : Saying) (first : ℕ) {M : Type 0} (f g : FramerState) (p r : Report M) (octets more written : List ℕ) (fault : Option FrameFault) (s : Stands says first f p octets written None)
+    → Shows g 4096 s.messages (octets ++ more) fault → PrintsFront says g p r → Halts says first s.messages r (octets ++ more) written
+Halts-shown says first f g p r octets more written fault s shows w =
+    Halts-more says first f p r octets more written s w.front w.back shows.left w.text w.refused (rw w.waiting at shows.frames) w.printed w.gained
 
 -- memory ran out for the lines of a message of the piece
-pub Halts-printing : (says : Saying) {M : Type 0} (f g : FramerState) (p r : Report M) (octets more written : List ℕ) (fed : Result ℕ FeedError)
-    → (s : Stands says f p octets written None) → Feeds f more fed g → HoldsNext g 4096 s.messages (octets ++ more) fed
-    → PrintsFront says g p r → Halts says s.messages r (octets ++ more) written
-Halts-printing says f g p r octets more written (Ok count) s feeds next w = Halts-shown says f g p r octets more written None s next w
-Halts-printing says f g p r octets more written (Err (Fault Version)) s feeds next w = Halts-shown says f g p r octets more written (Some Version) s next w
-Halts-printing says f g p r octets more written (Err (Fault Length)) s feeds next w = Halts-shown says f g p r octets more written (Some Length) s next w
-Halts-printing says f g p r octets more written (Err (Fault Broken)) s feeds next w =
-    let sound = Stands-sound says f p octets written s in
+pub Halts-printing : (says : Saying) (first : ℕ) {M : Type 0} (f g : FramerState) (p r : Report M) (octets more written : List ℕ) (fed : Result ℕ FeedError)
+    → (s : Stands says first f p octets written None) → Feeds f more fed g → HoldsNext g 4096 s.messages (octets ++ more) fed
+    → PrintsFront says g p r → Halts says first s.messages r (octets ++ more) written
+Halts-printing says first f g p r octets more written (Ok count) s feeds next w = Halts-shown says first f g p r octets more written None s next w
+Halts-printing says first f g p r octets more written (Err (Fault Version)) s feeds next w = Halts-shown says first f g p r octets more written (Some Version) s next w
+Halts-printing says first f g p r octets more written (Err (Fault Length)) s feeds next w = Halts-shown says first f g p r octets more written (Some Length) s next w
+Halts-printing says first f g p r octets more written (Err (Fault Broken)) s feeds next w =
+    let sound = Stands-sound says first f p octets written s in
     let broken = feeds.0 in
     absurd (cc)
-Halts-printing says f g p r octets more written (Err NoMemory) s feeds next w =
+Halts-printing says first f g p r octets more written (Err NoMemory) s feeds next w =
     let none : [] ≡ w.front ++ w.back = sym s.none_waits ∙ sym (ap (λ (k : FramerState). k.waiting) feeds.1) ∙ w.waiting in
     let empty = no_front w.front w.back none in
-    Halts-idle says f p r octets more written s w.text w.refused (rw empty at w.printed) (rw empty at w.gained)
+    Halts-idle says first f p r octets more written s w.text w.refused (rw empty at w.printed) (rw empty at w.gained)
 
 -- memory ran out for the next message that waited
 pub PrintsFront-stays : (says : Saying) {M : Type 0} (f g h : FramerState) (p q r : Report M) (m : List ℕ)
@@ -264,10 +265,10 @@ PrintsFront-stays says f g h p q r m s next stays = record {
 }
 
 -- more text was decoded, and its octets were taken
-pub SoFar-more : (says : Saying) {M : Type 0} (old new : Reading M) (before used more made written : List ℕ) (half : Option ℕ) (fault : Option FrameFault)
-    → (s : SoFar says old (before ++ used) written None) → Means old.half more made half → new.half ≡ half → new.characters ≡ old.characters + length more
-    → Stands says new.framer new.report (s.octets ++ made) written fault → SoFar says new (before ++ (used ++ more)) written fault
-SoFar-more says old new before used more made written half fault s meaning same count stands = record {
+pub SoFar-more : (says : Saying) (first : ℕ) {M : Type 0} (old new : Reading M) (before used more made written : List ℕ) (half : Option ℕ) (fault : Option FrameFault)
+    → (s : SoFar says first old (before ++ used) written None) → Means old.half more made half → new.half ≡ half → new.characters ≡ old.characters + length more
+    → Stands says first new.framer new.report (s.octets ++ made) written fault → SoFar says first new (before ++ (used ++ more)) written fault
+SoFar-more says first old new before used more made written half fault s meaning same count stands = record {
   octets = s.octets ++ made;
   meaning = rw (same, ← append_assoc before used more) (Means-append None old.half half (before ++ used) more s.octets made s.meaning meaning);
   stands = stands;
@@ -280,21 +281,21 @@ SoFar-more says old new before used more made written half fault s meaning same 
 }
 
 -- all of a text is used
-pub SoFar-whole : (says : Saying) {M : Type 0} (reading : Reading M) (before used rest text written : List ℕ) → (length rest == 0) ≡ true → text ≡ used ++ rest
-    → SoFar says reading (before ++ used) written None → SoFar says reading (before ++ text) written None
-SoFar-whole says reading before used [] text written none joined so_far = rw (joined, append-nil) so_far
-SoFar-whole says reading before used (x ∷ xs) text written none joined so_far = let some = eqb-true _ _ none in absurd (omega arith)
+pub SoFar-whole : (says : Saying) (first : ℕ) {M : Type 0} (reading : Reading M) (before used rest text written : List ℕ) → (length rest == 0) ≡ true → text ≡ used ++ rest
+    → SoFar says first reading (before ++ used) written None → SoFar says first reading (before ++ text) written None
+SoFar-whole says first reading before used [] text written none joined so_far = rw (joined, append-nil) so_far
+SoFar-whole says first reading before used (x ∷ xs) text written none joined so_far = let some = eqb-true _ _ none in absurd (omega arith)
 
 -- a piece was refused: its text was taken up to a frame fault, or memory ran out
-pub TakesText-refused : (says : Saying) {M : Type 0} (old new : Reading M) (before used more back made written text : List ℕ) (half : Option ℕ) (answer : Result (Unit {0}) Refusal) (error same_error : Refusal)
+pub TakesText-refused : (says : Saying) (first : ℕ) {M : Type 0} (old new : Reading M) (before used more back made written text : List ℕ) (half : Option ℕ) (answer : Result (Unit {0}) Refusal) (error same_error : Refusal)
     → answer ≡ Err same_error → same_error ≡ error → text ≡ (used ++ more) ++ back
-    → (s : SoFar says old (before ++ used) written None) → Means old.half more made half → new.half ≡ half → new.characters ≡ old.characters + length more
-    → TakesPiece (Err error) (Stands says new.framer new.report (s.octets ++ made) written) (Halts says s.stands.messages new.report (s.octets ++ made) written)
-    → TakesText says answer new before text written
-TakesText-refused says old new before used more back made written text half answer refusals.BadHex y is same same_text s meaning kept count taken = absurd taken
-TakesText-refused says old new before used more back made written text half answer (refusals.Frame fault) y is same same_text s meaning kept count taken =
-    rw (is, same) (used ++ more, back, same_text, SoFar-more says old new before used more made written half (Some fault) s meaning kept count taken)
-TakesText-refused says old new before used more back made written text half answer refusals.NoMemory y is same same_text s meaning kept count taken =
+    → (s : SoFar says first old (before ++ used) written None) → Means old.half more made half → new.half ≡ half → new.characters ≡ old.characters + length more
+    → TakesPiece (Err error) (Stands says first new.framer new.report (s.octets ++ made) written) (Halts says first s.stands.messages new.report (s.octets ++ made) written)
+    → TakesText says first answer new before text written
+TakesText-refused says first old new before used more back made written text half answer refusals.BadHex y is same same_text s meaning kept count taken = absurd taken
+TakesText-refused says first old new before used more back made written text half answer (refusals.Frame fault) y is same same_text s meaning kept count taken =
+    rw (is, same) (used ++ more, back, same_text, SoFar-more says first old new before used more made written half (Some fault) s meaning kept count taken)
+TakesText-refused says first old new before used more back made written text half answer refusals.NoMemory y is same same_text s meaning kept count taken =
     rw (is, same) (
       used ++ more,
       back,
@@ -312,11 +313,11 @@ TakesText-refused says old new before used more back made written text half answ
     )
 
 -- the end of a text is its last part, or a bad character or an odd digit, as `finish` says
-pub IsPrintedOf-refused : (says : Saying) {M : Type 0} (new : Reading M) (text written : List ℕ) (why : Refusal) → Finishes says (Err why) new text written
-    → IsPrintedOf says (Unit {0}) text (written ++ new.report.out.items) (Refused why) new.report.refused (place_of new)
-IsPrintedOf-refused says new text written refusals.BadHex finished = inl (tt, finished)
-IsPrintedOf-refused says new text written (refusals.Frame fault) finished = absurd finished
-IsPrintedOf-refused says new text written refusals.NoMemory finished = record { front = text; back = []; joined = sym (append-nil text); near = omega arith; before = finished }
+pub IsPrintedOf-refused : (says : Saying) (first : ℕ) {M : Type 0} (new : Reading M) (text written : List ℕ) (why : Refusal) → Finishes says first (Err why) new text written
+    → IsPrintedOf says first (Unit {0}) text (written ++ new.report.out.items) (Refused why) new.report.refused (place_of new)
+IsPrintedOf-refused says first new text written refusals.BadHex finished = inl (tt, finished)
+IsPrintedOf-refused says first new text written (refusals.Frame fault) finished = absurd finished
+IsPrintedOf-refused says first new text written refusals.NoMemory finished = record { front = text; back = []; joined = sym (append-nil text); near = omega arith; before = finished }
 
 left_over-some : (xs : List ℕ) → (length xs == 0) ≡ false → left_over xs ≡ xs ∷ []
 left_over-some [] some = absurd (cc)
@@ -327,14 +328,14 @@ none_of None none = refl
 none_of (Some x) none = absurd (cc)
 
 -- the rest is printed as one message more
-pub WholeText-left : (says : Saying) {M : Type 0} (old : Reading M) (report : Report M) (text written lines : List ℕ) (fault : Bool)
-    → SoFar says old text written None → is_some old.half ≡ false → (length old.framer.rest == 0) ≡ false
+pub WholeText-left : (says : Saying) (first : ℕ) {M : Type 0} (old : Reading M) (report : Report M) (text written lines : List ℕ) (fault : Bool)
+    → SoFar says first old text written None → is_some old.half ≡ false → (length old.framer.rest == 0) ≡ false
     → says (old.report.messages + 1) old.report.octets old.framer.rest lines fault → Gains old.report report (old.framer.rest ∷ []) lines fault
-    → WholeText says text (written ++ report.out.items) report.refused
-WholeText-left says old report text written lines fault so_far even some printed gained =
+    → WholeText says first text (written ++ report.out.items) report.refused
+WholeText-left says first old report text written lines fault so_far even some printed gained =
     let s = so_far.stands in
     let last = PrintsAll-one says old.report.messages old.report.octets old.framer.rest lines fault printed in
-    let all = Stands-all says old.framer old.report report so_far.octets written s (old.framer.rest ∷ []) lines fault last gained in
+    let all = Stands-all says first old.framer old.report report so_far.octets written s (old.framer.rest ∷ []) lines fault last gained in
     record {
       octets = so_far.octets;
       messages = s.messages;
@@ -346,9 +347,9 @@ WholeText-left says old report text written lines fault so_far even some printed
     }
 
 -- what is known of a text so far is what is printed of its front
-pub FrontText-so_far : (says : Saying) {M : Type 0} (reading : Reading M) (text written : List ℕ) (fault : Option FrameFault) → SoFar says reading text written fault
-    → FrontText says text reading.half fault (written ++ reading.report.out.items) (place_of reading)
-FrontText-so_far says reading text written fault so_far =
+pub FrontText-so_far : (says : Saying) (first : ℕ) {M : Type 0} (reading : Reading M) (text written : List ℕ) (fault : Option FrameFault) → SoFar says first reading text written fault
+    → FrontText says first text reading.half fault (written ++ reading.report.out.items) (place_of reading)
+FrontText-so_far says first reading text written fault so_far =
     let s = so_far.stands in
     record {
       octets = so_far.octets;
@@ -364,9 +365,9 @@ FrontText-so_far says reading text written fault so_far =
     }
 
 -- memory ran out for the last message of a text
-pub ShortText-stays : (says : Saying) {M : Type 0} (reading : Reading M) (report : Report M) (text written : List ℕ) → SoFar says reading text written None → Stays reading.report report
-    → ShortText says text (written ++ report.out.items) report.refused
-ShortText-stays says reading report text written so_far stays =
+pub ShortText-stays : (says : Saying) (first : ℕ) {M : Type 0} (reading : Reading M) (report : Report M) (text written : List ℕ) → SoFar says first reading text written None → Stays reading.report report
+    → ShortText says first text (written ++ report.out.items) report.refused
+ShortText-stays says first reading report text written so_far stays =
     let s = so_far.stands in
     record {
       half = reading.half;
@@ -380,9 +381,9 @@ ShortText-stays says reading report text written so_far stays =
     }
 
 -- by an answer that is want of memory
-pub Finishes-halted : (says : Saying) {M : Type 0} (new : Reading M) (text written : List ℕ) (answer : Result (Unit {0}) Refusal) (error : Refusal) → answer ≡ Err error → error ≡ refusals.NoMemory
-    → ShortText says text (written ++ new.report.out.items) new.report.refused → Finishes says answer new text written
-Finishes-halted says new text written answer error is same short = rw (is, same) short
+pub Finishes-halted : (says : Saying) (first : ℕ) {M : Type 0} (new : Reading M) (text written : List ℕ) (answer : Result (Unit {0}) Refusal) (error : Refusal) → answer ≡ Err error → error ≡ refusals.NoMemory
+    → ShortText says first text (written ++ new.report.out.items) new.report.refused → Finishes says first answer new text written
+Finishes-halted says first new text written answer error is same short = rw (is, same) short
 
 pub TakesPiece-halted : (Stood : Option FrameFault → Type 0) (Halted : Type 0) (answer : Result (Unit {0}) Refusal) (error : Refusal) → answer ≡ Err error → error ≡ refusals.NoMemory
     → Halted → TakesPiece answer Stood Halted
@@ -395,25 +396,25 @@ front_is_no_longer (suc n) [] = omega arith
 front_is_no_longer (suc n) (x ∷ xs) = let shorter = front_is_no_longer n xs in omega arith
 
 -- a text that was refused is printed up to its bad character, its frame fault, or where memory ran out
-pub IsPrintedOf-taken : (says : Saying) {M : Type 0} (P : Type 0) (new : Reading M) (before text written : List ℕ) (why : Refusal) → length text ≤ 65536 → TakesText says (Err why) new before text written
-    → IsPrintedOf says P (before ++ text) (written ++ new.report.out.items) (Refused why) new.report.refused (place_of new)
-IsPrintedOf-taken says P new before text written refusals.BadHex few taken = inr (record {
+pub IsPrintedOf-taken : (says : Saying) (first : ℕ) {M : Type 0} (P : Type 0) (new : Reading M) (before text written : List ℕ) (why : Refusal) → length text ≤ 65536 → TakesText says first (Err why) new before text written
+    → IsPrintedOf says first P (before ++ text) (written ++ new.report.out.items) (Refused why) new.report.refused (place_of new)
+IsPrintedOf-taken says first P new before text written refusals.BadHex few taken = inr (record {
   front = before ++ taken.0;
   bad = taken.1;
   back = taken.2;
   half = new.half;
   joined = rw (taken.3, append_assoc) refl;
   is_bad = taken.4;
-  before = FrontText-so_far says new (before ++ taken.0) written None taken.5;
+  before = FrontText-so_far says first new (before ++ taken.0) written None taken.5;
 })
-IsPrintedOf-taken says P new before text written (refusals.Frame fault) few taken = record {
+IsPrintedOf-taken says first P new before text written (refusals.Frame fault) few taken = record {
   front = before ++ taken.0;
   back = taken.1;
   half = new.half;
   joined = rw (taken.2, append_assoc) refl;
-  before = FrontText-so_far says new (before ++ taken.0) written (Some fault) taken.3;
+  before = FrontText-so_far says first new (before ++ taken.0) written (Some fault) taken.3;
 }
-IsPrintedOf-taken says P new before text written refusals.NoMemory few taken = record {
+IsPrintedOf-taken says first P new before text written refusals.NoMemory few taken = record {
   front = before ++ taken.0;
   back = taken.1;
   joined = rw (taken.2, append_assoc) refl;
@@ -422,19 +423,19 @@ IsPrintedOf-taken says P new before text written refusals.NoMemory few taken = r
 }
 
 -- an end that was found where nothing is left to read
-pub IsPrintedOf-at_end : (says : Saying) (P : Type 0) (text lines : List ℕ) (end : End) (refused : Bool) (place : Place) → P → IsPrintedOf says (Unit {0}) text lines end refused place
-    → IsPrintedOf says P text lines end refused place
-IsPrintedOf-at_end says P text lines Whole refused place at_end printed = (at_end, printed.1)
-IsPrintedOf-at_end says P text lines (Refused refusals.BadHex) refused place at_end (inl odd) = inl (at_end, odd.1)
-IsPrintedOf-at_end says P text lines (Refused refusals.BadHex) refused place at_end (inr bad) = inr bad
-IsPrintedOf-at_end says P text lines (Refused (refusals.Frame fault)) refused place at_end printed = printed
-IsPrintedOf-at_end says P text lines (Refused refusals.NoMemory) refused place at_end printed = printed
-IsPrintedOf-at_end says P text lines ReadFailed refused place at_end printed = printed
-IsPrintedOf-at_end says P text lines TooManyReads refused place at_end printed = printed
+pub IsPrintedOf-at_end : (says : Saying) (first : ℕ) (P : Type 0) (text lines : List ℕ) (end : End) (refused : Bool) (place : Place) → P → IsPrintedOf says first (Unit {0}) text lines end refused place
+    → IsPrintedOf says first P text lines end refused place
+IsPrintedOf-at_end says first P text lines Whole refused place at_end printed = (at_end, printed.1)
+IsPrintedOf-at_end says first P text lines (Refused refusals.BadHex) refused place at_end (inl odd) = inl (at_end, odd.1)
+IsPrintedOf-at_end says first P text lines (Refused refusals.BadHex) refused place at_end (inr bad) = inr bad
+IsPrintedOf-at_end says first P text lines (Refused (refusals.Frame fault)) refused place at_end printed = printed
+IsPrintedOf-at_end says first P text lines (Refused refusals.NoMemory) refused place at_end printed = printed
+IsPrintedOf-at_end says first P text lines ReadFailed refused place at_end printed = printed
+IsPrintedOf-at_end says first P text lines TooManyReads refused place at_end printed = printed
 
 -- nothing is printed of no text
-HaltedText-none : (says : Saying) → HaltedText says [] [] false
-HaltedText-none says =
+pub HaltedText-none : (says : Saying) (first : ℕ) → HaltedText says first [] [] false
+HaltedText-none says first =
     let frames = some_frames [] 4096 in
     record {
       front = [];
@@ -454,37 +455,38 @@ HaltedText-none says =
     }
 
 -- nothing was read, and only want of memory was told
-pub IsReport-none : (says : Saying) (end_text : End → Place → List ℕ) {I O : Type 0} (remaining : I → Option (List ℕ)) (contents : O → Option (List ℕ)) (failures idle : O → ℕ) (source : I) (sink sink' : O) (place : Place) (status : Status)
+pub IsReport-none : (prints : Printing) (end_text : End → Place → List ℕ) {I O : Type 0} (remaining : I → Option (List ℕ)) (contents : O → Option (List ℕ)) (failures idle : O → ℕ) (source : I) (sink sink' : O) (place : Place) (status : Status)
+    → prints (IsAtEnd (remaining source)) [] [] (Refused refusals.NoMemory) false place
     → Tells contents failures idle sink sink' ([] ++ end_text (Refused refusals.NoMemory) place) statuses.NoMemory status
-    → IsReport says end_text remaining contents source source sink sink' status ⊎ (HasWriteCause failures idle sink sink' × (status ≡ statuses.Fault))
-IsReport-none says end_text remaining contents failures idle source sink sink' place status (inl taken) = inl (record {
+    → IsReport prints end_text remaining contents source source sink sink' status ⊎ (HasWriteCause failures idle sink sink' × (status ≡ statuses.Fault))
+IsReport-none prints end_text remaining contents failures idle source sink sink' place status nothing (inl taken) = inl (record {
   text = [];
   lines = [];
   end = Refused refusals.NoMemory;
   refused = false;
   place = place;
   read = Consumes-nil (remaining source);
-  printed = HaltedText-none says;
+  printed = nothing;
   written = taken.0.appended;
   is_status = taken.1;
 })
-IsReport-none says end_text remaining contents failures idle source sink sink' place status (inr fault) = inr fault
+IsReport-none prints end_text remaining contents failures idle source sink sink' place status nothing (inr fault) = inr fault
 
 -- reading ended so, and the last lines and the end were written out or not
-pub IsReport-closed : (says : Saying) (end_text : End → Place → List ℕ) {I O M : Type 0} (remaining : I → Option (List ℕ)) (contents : O → Option (List ℕ)) (failures idle : O → ℕ) (source source' : I) (sink between sink' : O) (reading : Reading M) (end : End) (status : Status)
-    → IsPoured says remaining contents source source' sink between reading end → failures between ≡ failures sink
-    → Tells contents failures idle between sink' (reading.report.out.items ++ end_text end (place_of reading)) (end_status end reading.report.refused) status
-    → IsReport says end_text remaining contents source source' sink sink' status ⊎ (HasWriteCause failures idle sink sink' × (status ≡ statuses.Fault))
-IsReport-closed says end_text remaining contents failures idle source source' sink between sink' reading end status poured same (inl taken) = inl (record {
+pub IsReport-closed : (prints : Printing) (end_text : End → Place → List ℕ) {I O : Type 0} (remaining : I → Option (List ℕ)) (contents : O → Option (List ℕ)) (failures idle : O → ℕ) (source source' : I) (sink between sink' : O) (kept : List ℕ) (refused : Bool) (place : Place) (end : End) (status : Status)
+    → IsPoured prints remaining contents source source' sink between kept refused place end → failures between ≡ failures sink
+    → Tells contents failures idle between sink' (kept ++ end_text end place) (end_status end refused) status
+    → IsReport prints end_text remaining contents source source' sink sink' status ⊎ (HasWriteCause failures idle sink sink' × (status ≡ statuses.Fault))
+IsReport-closed prints end_text remaining contents failures idle source source' sink between sink' kept refused place end status poured same (inl taken) = inl (record {
   text = poured.text;
-  lines = poured.written ++ reading.report.out.items;
+  lines = poured.written ++ kept;
   end = end;
-  refused = reading.report.refused;
-  place = place_of reading;
+  refused = refused;
+  place = place;
   read = poured.read;
   printed = poured.printed;
-  written = rw append_assoc (Appends-trans (contents sink) (contents between) (contents sink') poured.written (reading.report.out.items ++ end_text end (place_of reading)) poured.taken taken.0.appended);
+  written = rw append_assoc (Appends-trans (contents sink) (contents between) (contents sink') poured.written (kept ++ end_text end place) poured.taken taken.0.appended);
   is_status = taken.1;
 })
-IsReport-closed says end_text remaining contents failures idle source source' sink between sink' reading end status poured same (inr fault) =
+IsReport-closed prints end_text remaining contents failures idle source source' sink between sink' kept refused place end status poured same (inr fault) =
     inr (later_cause failures idle sink between sink' same fault.0, fault.1)

@@ -1,7 +1,9 @@
 pub mod Lines
 pub mod Ends
 pub mod Printed
-pub mod Styles
 pub mod Reports
 pub mod Inputs
 pub mod Readings
+pub mod ByLine
+pub mod ByLineSoFar
+pub mod Styles

@@ -1,11 +1,13 @@
 -- In which styles messages are printed, and how reading them ended.
-use Rattle.std.specs.Prelude.{◌≡◌, ◌⊎◌, ◌≤◌, ◌^◌, ◌++◌, ℕ, List, length, true, codes, decimal}
+use Rattle.std.specs.Prelude.{◌≡◌, ◌⊎◌, ◌≤◌, ◌^◌, ◌++◌, ℕ, Bool, List, [], length, drop, true, false, codes, decimal}
 use Rattle.dia_dict.specs.Dictionary.{known}
 use Rattle.dia_frame.specs.declared.fault.FrameFault.{FrameFault}
 use Rattle.dia_frame.specs.declared.fault.FrameFault.TheVariants.{Version, Length, Broken}
 use Rattle.msg_explain.specs.Explained.{Explains}
 use Rattle.msg_json.specs.Lines.{SaysInJson}
 use Rattle.msg_text.specs.Ends.{end_text}
+use Rattle.msg_text.specs.ByLine.{AreLinesOf, line_end}
+use Rattle.msg_text.specs.Inputs.{IsPrintedOf, Printing}
 use Rattle.msg_text.specs.Printed.{Prints, Saying, dictionary}
 use Rattle.msg_text.specs.declared.ends.Refusal.TheVariants as refusals
 use Rattle.msg_text.specs.declared.ends.End.{End}
@@ -75,6 +77,23 @@ json_end (Refused refusals.NoMemory) place = codes "{\"stop\":\"no memory\"}\n"
 json_end ReadFailed place = codes "{\"stop\":\"read fault\",\"reason\":\"a read failed\"}\n"
 json_end TooManyReads place = codes "{\"stop\":\"read fault\",\"reason\":\"no end of input after 1048576 reads\"}\n"
 
+-- the end of a line that is read by itself: plainly and in names behind the line's number
+abbrev pub plain_line : ℕ → End → Place → List ℕ
+plain_line number end place = line_end number end (plain_end end place)
+
+abbrev pub explained_line : ℕ → End → Place → List ℕ
+explained_line number end place = line_end number end (explained_end end place)
+
+-- and as an object that has the line's number, too
+abbrev pub json_line_end : ℕ → End → List ℕ → List ℕ
+json_line_end number Whole object = []
+json_line_end number (Refused why) object = codes "{\"line\":" ++ decimal number ++ codes "," ++ drop 1 object
+json_line_end number ReadFailed object = []
+json_line_end number TooManyReads object = []
+
+abbrev pub json_line : ℕ → End → Place → List ℕ
+json_line number end place = json_line_end number end (json_end end place)
+
 -- what is printed of a message, by the style
 abbrev pub says_in : Style → Saying
 says_in Plain = IsPlain
@@ -86,3 +105,14 @@ abbrev pub end_in : Style → End → Place → List ℕ
 end_in Plain = plain_end
 end_in Explained = explained_end
 end_in Json = json_end
+
+-- what is told of the end of a line, by the style
+abbrev pub line_in : Style → ℕ → End → Place → List ℕ
+line_in Plain = plain_line
+line_in Explained = explained_line
+line_in Json = json_line
+
+-- what is printed of a text, by the style, and by whether each line is read by itself
+abbrev pub printed_in : Style → Bool → Printing
+printed_in style false = IsPrintedOf (says_in style) 0
+printed_in style true = AreLinesOf (says_in style) (line_in style)

@@ -2,9 +2,10 @@
 ghost use Rattle.std.specs.Prelude.{◌≡◌, ◌++◌, List, ℕ, IfOk};
 ghost use Rattle.msg_text.specs.Ends.{words_of};
 ghost use Rattle.msg_text.specs.Printed.{dictionary};
-ghost use Rattle.msg_text.specs.Styles.{IsExplained, explained_end, frame_words};
+ghost use Rattle.msg_text.specs.Styles.{IsExplained, explained_end, explained_line, frame_words};
 
 use crate::ends::{End, EndWords, Place, Refusal, placed, unplaced};
+use crate::line_ends::put_line_words;
 use crate::manner::Manner;
 use dia_dict::Dictionary;
 use dia_frame::FrameFault;
@@ -46,6 +47,8 @@ impl Manner for Explaining {
 
     ghost end_text = { explained_end };
 
+    ghost line_text = { explained_line };
+
     fn new(alloc: Global) -> Result<Explaining, AllocError> {
         Ok(Explaining {
             definitions: Dictionary::base(alloc)?,
@@ -76,5 +79,14 @@ impl Manner for Explaining {
             End::Refused(Refusal::Frame(fault)) => frame_words(fault, place.octets),
             other => unplaced(other.text()),
         }
+    }
+
+    fn put_line_end(
+        out: &mut Vec<u8>,
+        number: u64,
+        end: End,
+        place: Place,
+    ) -> Result<(), AllocError> {
+        put_line_words(out, number, end, &Explaining::end_words(end, place))
     }
 }

@@ -1,11 +1,13 @@
 //! Messages as objects of JSON, a line each, and where reading stopped as one more.
-ghost use Rattle.std.specs.Prelude.{◌≡◌, ◌++◌, List, ℕ, IfOk};
+ghost use Rattle.std.specs.Prelude.{◌≡◌, ◌++◌, List, ℕ, IfOk, OnOk, drop};
 ghost use Rattle.msg_text.specs.Ends.{words_of};
 ghost use Rattle.msg_text.specs.Printed.{dictionary};
-ghost use Rattle.msg_text.specs.Styles.{IsJson, json_end, json_fault};
+ghost use Rattle.msg_text.specs.Styles.{IsJson, json_end, json_fault, json_line, json_line_end};
 
 use crate::ends::{End, EndWords, Place, Refusal, placed, unplaced};
+use crate::line_ends::put_words;
 use crate::manner::Manner;
+use bench_text::put_number;
 use dia_dict::Dictionary;
 use dia_frame::FrameFault;
 use msg_json::put_json;
@@ -41,10 +43,43 @@ fn json_fault(fault: FrameFault, octet: u64) -> EndWords
     }
 }
 
+// Puts what the end prints by itself, without its first character.
+fn put_tail(out: &mut Vec<u8>, words: &EndWords) -> Result<(), AllocError>
+    ensures { OnOk result (out.new.items ≡ out.old.items ++ drop 1 (words_of words.now)) }
+{
+    let mut text = Vec::new(*out.allocator());
+    put_words(&mut text, words)?;
+    match text.as_slice() {
+        [] => Ok(()),
+        [_, tail @ ..] => out.extend_from_slice(tail),
+    }
+}
+
+// Puts the object of a line's end: the number of the line, and then what the end's own object has.
+fn put_json_line(
+    out: &mut Vec<u8>,
+    number: u64,
+    end: End,
+    words: &EndWords,
+) -> Result<(), AllocError>
+    ensures { OnOk result (out.new.items ≡ out.old.items ++ json_line_end number end (words_of words.now)) }
+{
+    match end {
+        End::Refused(_) => {
+            put_number(out, b"{\"line\":", number)?;
+            out.extend_from_slice(b",")?;
+            put_tail(out, words)
+        }
+        End::Whole | End::ReadFailed | End::TooManyReads => Ok(()),
+    }
+}
+
 impl Manner for Json {
     ghost Says = { IsJson };
 
     ghost end_text = { json_end };
+
+    ghost line_text = { json_line };
 
     fn new(alloc: Global) -> Result<Json, AllocError> {
         Ok(Json {
@@ -83,5 +118,14 @@ impl Manner for Json {
                 b"{\"stop\":\"read fault\",\"reason\":\"no end of input after 1048576 reads\"}\n",
             ),
         }
+    }
+
+    fn put_line_end(
+        out: &mut Vec<u8>,
+        number: u64,
+        end: End,
+        place: Place,
+    ) -> Result<(), AllocError> {
+        put_json_line(out, number, end, &Json::end_words(end, place))
     }
 }

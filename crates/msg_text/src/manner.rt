@@ -1,5 +1,5 @@
 //! In which manner messages are printed.
-ghost use Rattle.std.specs.Prelude.{◌≡◌, ◌++◌, ℕ, List, Bool, IfOk};
+ghost use Rattle.std.specs.Prelude.{◌≡◌, ◌++◌, ℕ, List, Bool, IfOk, OnOk};
 ghost use Rattle.msg_text.specs.Ends.{words_of};
 
 use crate::ends::{End, EndWords, Place};
@@ -16,6 +16,9 @@ pub trait Manner: Drop {
 
     /// What is printed of how reading ended, by how far the input was read then.
     ghost end_text: { End → Place → List ℕ };
+
+    /// What is told of the end of a line that is read by itself, by its number.
+    ghost line_text: { ℕ → End → Place → List ℕ };
 
     /// Ready to print.
     fn new(alloc: Global) -> Result<Self, AllocError>;
@@ -34,6 +37,15 @@ pub trait Manner: Drop {
     /// What is printed of how reading ended.
     fn end_words(end: End, place: Place) -> EndWords
         ensures { words_of result ≡ end_text end place };
+
+    /// Puts what is told of the end of a line.
+    fn put_line_end(
+        out: &mut Vec<u8>,
+        number: u64,
+        end: End,
+        place: Place,
+    ) -> Result<(), AllocError>
+        ensures { OnOk result (out.new.items ≡ out.old.items ++ line_text number end place) };
 }
 
 /// The styles of what is printed.

@@ -1,9 +1,10 @@
 //! Messages as plain lines: a header, AVPs and the encoding, or a fault.
 ghost use Rattle.std.specs.Prelude.{◌≡◌, ◌++◌, List, [], ℕ, IfOk, OnOk};
 ghost use Rattle.msg_text.specs.Printed.{CommandText, FaultText, Prints, dictionary};
-ghost use Rattle.msg_text.specs.Styles.{IsPlain, plain_end};
+ghost use Rattle.msg_text.specs.Styles.{IsPlain, plain_end, plain_line};
 
 use crate::ends::{End, EndWords, Place, unplaced};
+use crate::line_ends::put_line_words;
 use crate::manner::Manner;
 use crate::show::{put_fault, put_message};
 use dia_avp::{WriteError, write_avp};
@@ -70,6 +71,8 @@ impl Manner for Plain {
 
     ghost end_text = { plain_end };
 
+    ghost line_text = { plain_line };
+
     fn new(alloc: Global) -> Result<Plain, AllocError> {
         Ok(Plain {
             alloc,
@@ -90,5 +93,14 @@ impl Manner for Plain {
 
     fn end_words(end: End, _place: Place) -> EndWords {
         unplaced(end.text())
+    }
+
+    fn put_line_end(
+        out: &mut Vec<u8>,
+        number: u64,
+        end: End,
+        place: Place,
+    ) -> Result<(), AllocError> {
+        put_line_words(out, number, end, &Plain::end_words(end, place))
     }
 }

@@ -1,11 +1,11 @@
 //! `read`: messages from hexadecimal digits, printed as they come.
-ghost use Rattle.std.specs.Prelude.{◌≡◌, ◌≢◌, ◌⊎◌, ◌<◌, ◌≤◌, ◌+◌, ◌-◌, ◌^◌, ◌++◌, [], None, max, length, IfOk, OnOk, OnErr};
+ghost use Rattle.std.specs.Prelude.{false, ◌≡◌, ◌≢◌, ◌⊎◌, ◌<◌, ◌≤◌, ◌+◌, ◌-◌, ◌^◌, ◌++◌, [], None, max, length, IfOk, OnOk, OnErr};
 ghost use Rattle.std.specs.Io.KnownBytes.{IsAtEnd};
 ghost use Rattle.bench_device.specs.Devices.{HasWriteCause, IsRun, TakesWhole, Tells};
 ghost use Rattle.msg_text.specs.Ends.{EndsBy, end_status, place_text, words_of};
-ghost use Rattle.msg_text.specs.Inputs.{IsReport};
+ghost use Rattle.msg_text.specs.Inputs.{IsPrintedOf, IsReport};
 ghost use Rattle.msg_text.specs.Readings.{IsPoured, SoFar, place_of};
-ghost use Rattle.msg_text.specs.Styles.{end_in, says_in};
+ghost use Rattle.msg_text.specs.Styles.{end_in, printed_in};
 
 use crate::ends::{End, EndWords, Place, Refusal};
 use crate::explaining::Explaining;
@@ -19,7 +19,7 @@ use bench_device::{
 use std::alloc::Global;
 
 /// How many characters are read at once.
-const TEXT: usize = 65_536;
+pub(crate) const TEXT: usize = 65_536;
 
 // Reads to the end of the input, and writes out the text of what each read completes.
 fn pour<M: Manner, I: ByteSource, O: ByteSink>(
@@ -30,13 +30,14 @@ fn pour<M: Manner, I: ByteSource, O: ByteSink>(
 ) -> Result<End, WriteFault>
     requires room { 0 < length text.old }
     requires few { length text.old ≤ TEXT }
-    requires start { SoFar M.Says reading.old [] [] None }
+    requires start { SoFar M.Says 0 reading.old [] [] None }
     requires reads { I.reads source.old + MAX_READS < 2 ^ 64 }
     requires read_failures { I.failures source.old < 2 ^ 64 - 1 }
     requires idle { O.idle sink.old ≡ 0 }
     requires write_failures { O.failures sink.old < 2 ^ 64 - 1 }
     ensures end { IfOk result (EndsBy I.remaining I.reads I.failures source.old source.new) }
-    ensures report { IfOk result (IsPoured M.Says I.remaining O.contents source.old source.new sink.old sink.new reading.new) }
+    ensures report { IfOk result (IsPoured (IsPrintedOf M.Says 0) I.remaining O.contents source.old source.new sink.old sink.new
+        reading.new.report.out.items reading.new.report.refused (place_of reading.new)) }
     ensures some { OnOk result (I.reads source.old < I.reads source.new) }
     ensures sound { OnOk result ((O.failures sink.new ≡ O.failures sink.old) × (O.idle sink.new ≡ 0)) }
     ensures cause { OnErr result (HasWriteCause O.failures O.idle sink.old sink.new
@@ -116,7 +117,7 @@ fn write_words<O: ByteSink>(sink: &mut O, text: &[u8], words: &EndWords) -> Resu
 }
 
 // Writes out a text, and what the end prints.
-fn tell_end<M: Manner, O: ByteSink>(
+pub(crate) fn tell_end<M: Manner, O: ByteSink>(
     sink: &mut O,
     text: &[u8],
     end: End,
@@ -153,7 +154,7 @@ fn close<M: Manner, O: ByteSink>(reading: &Reading<M>, end: End, sink: &mut O) -
 }
 
 // Nothing was read, since there was no memory to begin with.
-fn tell_no_memory<M: Manner, O: ByteSink>(sink: &mut O) -> Status
+pub(crate) fn tell_no_memory<M: Manner, O: ByteSink>(sink: &mut O) -> Status
     requires idle { O.idle sink.old ≡ 0 }
     requires write_failures { O.failures sink.old < 2 ^ 64 - 1 }
     ensures told { Tells O.contents O.failures O.idle sink.old sink.new ([] ++ M.end_text (End.Refused Refusal.NoMemory) (record { octets = 0; characters = 0 }))
@@ -180,7 +181,7 @@ fn read_in<M: Manner, I: ByteSource, O: ByteSink>(
     ensures reads { I.reads source.new ≤ I.reads source.old + MAX_READS }
     ensures row { O.most_idle sink.new ≤ max (O.most_idle sink.old) MAX_IDLE_WRITES }
     ensures run { IsRun I.reads I.failures O.failures O.idle source.old source.new sink.old sink.new result }
-    ensures report { IsReport M.Says M.end_text I.remaining O.contents source.old source.new sink.old sink.new result
+    ensures report { IsReport (IsPrintedOf M.Says 0) M.end_text I.remaining O.contents source.old source.new sink.old sink.new result
         ⊎ (HasWriteCause O.failures O.idle sink.old sink.new × (result ≡ Status.Fault)) }
     ensures whole { result ≡ Status.Done → IsAtEnd (I.remaining source.new) }
     ensures refused { result ≡ Status.Refused → I.reads source.old < I.reads source.new }
@@ -216,7 +217,7 @@ pub fn read_on<I: ByteSource, O: ByteSink>(
     ensures run { IsRun I.reads I.failures O.failures O.idle source.old source.new sink.old sink.new result }
 
     // What was written out is what the text that was read prints: its messages in order, and then its end.
-    ensures report { IsReport (says_in style) (end_in style) I.remaining O.contents source.old source.new sink.old sink.new result
+    ensures report { IsReport (printed_in style false) (end_in style) I.remaining O.contents source.old source.new sink.old sink.new result
         ⊎ (HasWriteCause O.failures O.idle sink.old sink.new × (result ≡ Status.Fault)) }
 
     // It is done only where nothing is left to read, and refused only where something was read.

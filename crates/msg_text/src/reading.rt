@@ -31,7 +31,8 @@ impl<M: Manner> Reading<M> {
 
     /// Nothing is read yet.
     pub(crate) fn new(alloc: Global) -> Result<Reading<M>, AllocError>
-        ensures { IfOk result (λ reading. SoFar M.Says reading [] [] None) }
+        ensures start { IfOk result (λ reading. SoFar M.Says 0 reading [] [] None) }
+        ensures characters { IfOk result (λ reading. reading.characters ≡ 0) }
     {
         Ok(Reading {
             framer: Framer::new(alloc, PIECE),
@@ -39,6 +40,17 @@ impl<M: Manner> Reading<M> {
             characters: 0,
             half: None,
         })
+    }
+
+    /// Begins anew behind so many messages.
+    pub(crate) fn restart(&mut self, alloc: Global, messages: u64)
+        ensures start { SoFar M.Says messages self.new [] [] None }
+        ensures characters { self.new.characters ≡ 0 }
+    {
+        self.framer = Framer::new(alloc, PIECE);
+        self.report.restart(messages);
+        self.characters = 0;
+        self.half = None;
     }
 
     /// What is to be written out.
@@ -68,8 +80,8 @@ impl<M: Manner> Reading<M> {
     /// Forgets what was written out.
     pub(crate) fn clear(&mut self)
         ensures characters { self.new.characters ≡ self.old.characters }
-        ensures so_far { (text written : List ℕ) → SoFar M.Says self.old text written None
-            → SoFar M.Says self.new text (written ++ self.old.report.out.items) None }
+        ensures so_far { (first : ℕ) (text written : List ℕ) → SoFar M.Says first self.old text written None
+            → SoFar M.Says first self.new text (written ++ self.old.report.out.items) None }
     {
         self.report.clear();
     }
@@ -89,9 +101,9 @@ impl<M: Manner> Reading<M> {
     // The messages that a piece completes are printed, also where the octets behind them show a fault.
     fn take_piece(&mut self, piece: &[u8]) -> Result<(), Refusal>
         ensures kept { (self.new.half ≡ self.old.half) × (self.new.characters ≡ self.old.characters) }
-        ensures stands { (octets written : List ℕ) (before : Stands M.Says self.old.framer self.old.report octets written None)
-            → TakesPiece result (Stands M.Says self.new.framer self.new.report (octets ++ piece.now) written)
-            (Halts M.Says before.messages self.new.report (octets ++ piece.now) written) }
+        ensures stands { (first : ℕ) (octets written : List ℕ) (before : Stands M.Says first self.old.framer self.old.report octets written None)
+            → TakesPiece result (Stands M.Says first self.new.framer self.new.report (octets ++ piece.now) written)
+            (Halts M.Says first before.messages self.new.report (octets ++ piece.now) written) }
     {
         let fed = self.framer.feed(piece);
         self.print_waiting()?;
@@ -105,8 +117,8 @@ impl<M: Manner> Reading<M> {
     pub(crate) fn take_text(&mut self, text: &[u8]) -> Result<(), Refusal>
         requires room { self.old.characters + length text.now < 2 ^ 64 }
         ensures characters { self.new.characters ≤ self.old.characters + length text.now }
-        ensures taken { (before written : List ℕ) → SoFar M.Says self.old before written None
-            → TakesText M.Says result self.new before text.now written }
+        ensures taken { (first : ℕ) (before written : List ℕ) → SoFar M.Says first self.old before written None
+            → TakesText M.Says first result self.new before text.now written }
     {
         let mut rest = text;
         'pieces: while !rest.is_empty() {
@@ -126,8 +138,8 @@ impl<M: Manner> Reading<M> {
     /// Ends with the input: a digit that is left over is bad, and octets that are left over are a message.
     pub(crate) fn end(&mut self) -> End
         ensures last { IsLast result }
-        ensures printed { (text written : List ℕ) → SoFar M.Says self.old text written None
-            → IsPrintedOf M.Says (Unit {0}) text (written ++ self.new.report.out.items) result self.new.report.refused (place_of self.new) }
+        ensures printed { (first : ℕ) (text written : List ℕ) → SoFar M.Says first self.old text written None
+            → IsPrintedOf M.Says first (Unit {0}) text (written ++ self.new.report.out.items) result self.new.report.refused (place_of self.new) }
     {
         match self.finish() {
             Ok(()) => End::Whole,
@@ -136,7 +148,7 @@ impl<M: Manner> Reading<M> {
     }
 
     fn finish(&mut self) -> Result<(), Refusal>
-        ensures { (text written : List ℕ) → SoFar M.Says self.old text written None → Finishes M.Says result self.new text written }
+        ensures { (first : ℕ) (text written : List ℕ) → SoFar M.Says first self.old text written None → Finishes M.Says first result self.new text written }
     {
         if self.half.is_some() {
             return Err(Refusal::BadHex);

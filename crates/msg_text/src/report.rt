@@ -20,7 +20,7 @@ pub struct Report<M> {
 }
 
 // A count and so many more. Of no input that is read the counts need more than 64 bits.
-fn counted(count: u64, more: usize) -> Result<u64, AllocError>
+pub(crate) fn counted(count: u64, more: usize) -> Result<u64, AllocError>
     ensures { IfOk result (λ sum. sum ≡ count + more) }
 {
     match count.checked_add(more as u64) {
@@ -61,6 +61,18 @@ impl<M: Manner> Report<M> {
         ensures counts { (self.new.messages ≡ self.old.messages) × (self.new.octets ≡ self.old.octets) }
     {
         self.out.clear();
+    }
+
+    /// Begins anew behind so many messages.
+    pub(crate) fn restart(&mut self, messages: u64)
+        ensures out { self.new.out.items ≡ [] }
+        ensures refused { self.new.refused ≡ false }
+        ensures counts { (self.new.messages ≡ messages) × (self.new.octets ≡ 0) }
+    {
+        self.out.clear();
+        self.refused = false;
+        self.messages = messages;
+        self.octets = 0;
     }
 
     /// Whether a fault was printed.

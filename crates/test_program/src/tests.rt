@@ -3,5 +3,6 @@ mod commands;
 mod explained;
 mod faults;
 mod inputs;
+mod lines;
 mod messages;
 mod streams;

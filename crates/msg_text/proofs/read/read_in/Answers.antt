@@ -1,7 +1,8 @@
 use Rattle.std.proofs.Common.{inr, ◌≤◌, ◌+◌, refl, arith}
 use Rattle.bench_device.specs.declared.status.Status.TheVariants.{NoMemory}
 use Rattle.msg_text.proofs.RunLemmas.{IsRun-closed, IsRun-told, IsRun-write, done-closed, usage-closed}
-use Rattle.msg_text.proofs.ReadLemmas.{IsReport-closed, IsReport-none}
+use Rattle.msg_text.proofs.ReadLemmas.{HaltedText-none, IsReport-closed, IsReport-none}
+use Rattle.msg_text.specs.Inputs.{IsPrintedOf}
 use Rattle.msg_text.proofs.read.read_in.Goals as goal
 
 -- there was no memory to begin with
@@ -35,11 +36,11 @@ returns-clause-run g c =
 -- what was read and what was written out
 pub returns-in_default-clause-report : goal.returns-in_default-clause-report
 returns-in_default-clause-report g c =
-    IsReport-none g.M.Manner.Says g.M.Manner.end_text g.I.ByteSource.remaining g.O.ByteSink.contents g.O.ByteSink.failures g.O.ByteSink.idle _ _ _ _ _ c.tell_no_memory.ensures.told
+    IsReport-none (IsPrintedOf g.M.Manner.Says 0) g.M.Manner.end_text g.I.ByteSource.remaining g.O.ByteSink.contents g.O.ByteSink.failures g.O.ByteSink.idle _ _ _ _ _ (HaltedText-none g.M.Manner.Says 0) c.tell_no_memory.ensures.told
 
 pub returns-in-Ok-clause-report : goal.returns-in-Ok-clause-report
 returns-in-Ok-clause-report g c =
-    IsReport-closed g.M.Manner.Says g.M.Manner.end_text g.I.ByteSource.remaining g.O.ByteSink.contents g.O.ByteSink.failures g.O.ByteSink.idle _ _ _ _ _ _ c.in-Ok.end _
+    IsReport-closed (IsPrintedOf g.M.Manner.Says 0) g.M.Manner.end_text g.I.ByteSource.remaining g.O.ByteSink.contents g.O.ByteSink.failures g.O.ByteSink.idle _ _ _ _ _ _ _ _ c.in-Ok.end _
     c.in-Ok.ensures.report c.in-Ok.ensures.sound.0 c.close.ensures.closes
 
 pub returns-clause-report : goal.returns-clause-report

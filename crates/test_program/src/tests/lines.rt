@@ -1,0 +1,71 @@
+//! What `read_lines` prints: each line by itself, and what is told of a bad one. The expected texts are written by hand.
+use bench_device::{Counting, Status};
+use msg_text::{Style, read_lines};
+use std::alloc::Global;
+use std::test::Fail;
+
+/// A message whose command isn't read, which makes one line in each style.
+const SHORT: &str = "0100001480000119000000000000000100000001";
+
+/// Lines, what is printed of them plainly, and the status.
+const PLAIN: &[(&str, &str, Status)] = &[
+    ("", "", Status::Done),
+    ("\n \r\n\t\n", "", Status::Done),
+    ("*", "fault 3001\n", Status::Refused),
+    ("*\n*\n", "fault 3001\nfault 3001\n", Status::Refused),
+    ("zz\n*\n", "line 1: bad hex\nfault 3001\n", Status::Refused),
+    (
+        "\n*0\n*",
+        "fault 3001\nline 2: bad hex\nfault 3001\n",
+        Status::Refused,
+    ),
+    (
+        "02 *\n*x",
+        "line 1: frame fault 1\nfault 3001\nline 2: bad hex\n",
+        Status::Refused,
+    ),
+    (
+        "0100\n01000010 zz\n\n7",
+        "fault 5015\nline 2: frame fault 2\nline 4: bad hex\n",
+        Status::Refused,
+    ),
+];
+
+/// Whether this is printed of lines, and this is the status.
+fn prints(alloc: Global, style: Style, input: &str, wanted: &str, status: Status) -> bool {
+    let mut source = Counting::new(input.as_bytes());
+    let mut sink = Counting::new(Vec::new(alloc));
+    read_lines(style, alloc, &mut source, &mut sink) == status
+        && sink.device.as_slice() == wanted.as_bytes()
+}
+
+#[test]
+fn each_line_is_printed_by_itself(rt: HostRuntime) -> Result<(), Fail> {
+    for (lines, wanted, status) in PLAIN {
+        let input = super::streams::filled(rt.alloc(), lines, SHORT, 1)?;
+        let is_printed = prints(rt.alloc(), Style::Plain, input.as_str(), wanted, *status);
+        assert!(rt; is_printed, "of {lines}");
+    }
+    Ok(())
+}
+
+/// The second of two lines in names.
+const NAMED: &str = "\
+line 1: bad hex at character 3: each octet wants two hexadecimal digits, and between digits only blanks may stand
+message 2 at octet 0: unknown command R---, version 1, length 20, command 281, application 0, hop-by-hop 1, end-to-end 1
+fault 3001 DIAMETER_COMMAND_UNSUPPORTED in message 2 at octet 0: no command with this code and flag R is read here
+";
+
+#[test]
+fn a_message_has_the_number_of_its_line(rt: HostRuntime) -> Result<(), Fail> {
+    let input = format!(in rt.alloc(); "01 x\n{SHORT}\n")?;
+    let named = prints(
+        rt.alloc(),
+        Style::Explained,
+        input.as_str(),
+        NAMED,
+        Status::Refused,
+    );
+    assert!(rt; named);
+    Ok(())
+}
