@@ -1,18 +1,24 @@
 //! Requests of credit control charged by a server's node, from octets to octets. Values were worked out by hand from RFC 8506 and
 //! the definition of the account book.
 
-use crate::charging_step::{Roles, Server};
-use crate::role::Role;
-use acct_totals::{Booked, Op, Outcome, Totals};
+use crate::charging_octets::wrong_octets;
+use crate::charging_step::Server;
+use crate::roles::Roles;
+use crate::session_steps::calls_of;
+use DeedCode::{Charge, Debit, Refund, Release, Reserve};
+use acct_totals::{Booked, Op, Outcome};
 use base_codes::{DeedCode, session_fact};
 use base_list::Octets;
 use charge_facts::answer_facts;
 use charge_message::request_message;
 use deed_message::Names;
 use dia_msg::{Identity, write_message};
+use role_tables::all_laws;
 use std::alloc::Global;
 use std::test::Fail;
-use tab_law::{Deed, PLACES};
+use tab_call::{Ask, Calls, Do, Registry, StoredAct, StoredGuard};
+use tab_law::{Deed, PLACES, Scene, high, holds};
+use tab_role::TakesRoles;
 
 /// A session, the CC-Request-Type and CC-Request-Number of its request, and the facts of the request and of its answer that are not
 /// said by these.
@@ -28,14 +34,6 @@ const ACCOUNT: u64 = 100;
 
 /// The machine's number of the client that sends the requests.
 const CLIENT: u64 = 1;
-
-/// The roles of a node.
-fn roles(alloc: Global) -> Result<Roles, Fail> {
-    Ok(Roles {
-        peer: Role::of_peer(alloc)?,
-        server: Role::of_server(alloc)?,
-    })
-}
 
 /// All places, 0 but for these.
 fn places(told: &[(usize, u64)]) -> [u64; PLACES] {
@@ -99,7 +97,7 @@ fn request_octets(alloc: Global, session: &[u8], deed: &Deed) -> Result<Vec<u8>,
 /// Whether a row's request is answered as it says.
 fn is_answered(
     alloc: Global,
-    roles: &Roles,
+    roles: &Roles<'_>,
     server: &mut Server,
     session: &[u8],
     asked: &Deed,
@@ -115,7 +113,7 @@ fn is_answered(
 /// How many rows from the first are answered as they say.
 fn answered_rows(
     alloc: Global,
-    roles: &Roles,
+    roles: &Roles<'_>,
     server: &mut Server,
     rows: &[Row],
 ) -> Result<usize, Fail> {
@@ -130,66 +128,98 @@ fn answered_rows(
     Ok(rows.len())
 }
 
-/// The totals of an account.
-fn totals(given: u64, reserved: u64, debited: u64, unpaid: u128) -> Option<Totals> {
-    Some(Totals {
-        given,
-        reserved,
-        debited,
-        unpaid,
-    })
-}
+/// What is reserved, debited and unpaid of an account.
+type Sums = (u64, u64, u128);
 
-fn done(op: Op, amount: u64, unpaid: u64) -> Booked {
-    Booked {
-        op,
-        outcome: Outcome::Done { amount, unpaid },
+/// An operation and its outcome, both done: the deed's code, session, group, the number that is told, the units that were moved and
+/// those that could not be paid.
+type Entry = (DeedCode, u64, u64, u64, u64, u64);
+
+/// What is tried: what it is, what the account is given, requests; then the sums, the journal and the states of sessions, by the
+/// numbers of these in their table.
+type Case = (
+    &'static str,
+    u64,
+    &'static [Row],
+    Sums,
+    &'static [Entry],
+    &'static [(&'static str, u8)],
+);
+
+/// Whether so much of the account is reserved, debited and unpaid.
+fn has_sums(server: &Server, sums: Sums) -> bool {
+    match server.page.totals(ACCOUNT) {
+        Some(totals) => (totals.reserved, totals.debited, totals.unpaid) == sums,
+        None => false,
     }
 }
 
-fn reserve(session: u64, group: u64, amount: u64) -> Booked {
+/// The operation of an entry.
+fn op_of(entry: Entry) -> Op {
     let account = ACCOUNT;
-    let op = Op::Reserve {
-        account,
-        session,
-        group,
-        amount,
-    };
-    done(op, amount, 0)
+    let (code, session, group, number, _, _) = entry;
+    match code {
+        DeedCode::Reserve => Op::Reserve {
+            account,
+            session,
+            group,
+            amount: number,
+        },
+        DeedCode::Debit => Op::Debit {
+            account,
+            session,
+            group,
+            used: number,
+        },
+        DeedCode::Charge => Op::Charge {
+            account,
+            amount: number,
+        },
+        DeedCode::Refund => Op::Refund {
+            account,
+            amount: number,
+        },
+        _ => Op::Release { account, session },
+    }
 }
 
-fn debit(session: u64, group: u64, used: u64, unpaid: u64) -> Booked {
-    let account = ACCOUNT;
-    let op = Op::Debit {
-        account,
-        session,
-        group,
-        used,
-    };
-    done(op, used.saturating_sub(unpaid), unpaid)
+/// Whether an entry of the journal is as told.
+fn is_entry(booked: &Booked, entry: Entry) -> bool {
+    let (_, _, _, _, amount, unpaid) = entry;
+    booked.op == op_of(entry) && booked.outcome == Outcome::Done { amount, unpaid }
 }
 
-fn release(session: u64, amount: u64) -> Booked {
-    let account = ACCOUNT;
-    done(Op::Release { account, session }, amount, 0)
+/// Whether these are the journal.
+fn has_booked(server: &Server, entries: &[Entry]) -> bool {
+    let journal = server.page.journal();
+    journal.len() == entries.len()
+        && journal
+            .iter()
+            .zip(entries)
+            .all(|(booked, entry)| is_entry(booked, *entry))
 }
 
-/// The state of a session's machine, by its number in the table.
-fn state_of(server: &Server, session: &str) -> Option<u8> {
-    Some(server.machine(session.as_bytes())?.state)
+/// Whether the machines of sessions are in these states.
+fn has_states(server: &Server, states: &[(&'static str, u8)]) -> bool {
+    states.iter().all(|(session, state)| {
+        match server.machine(session.as_bytes()) {
+            Some(machine) => machine.state == *state,
+            None => false,
+        }
+    })
 }
 
 /// A node with one account, to which its peer is connected.
-fn connected(alloc: Global, roles: &Roles, given: u64) -> Result<Server, Fail> {
+fn connected(alloc: Global, roles: &Roles<'_>, given: u64) -> Result<Server, Fail> {
     let mut server = Server::new(alloc, &[(ACCOUNT, given)])?;
     server.connect(roles);
     Ok(server)
 }
 
 /// The numbers of the states Idle and Open.
-const IDLE: Option<u8> = Some(0);
+const IDLE: u8 = 0;
 
-const OPEN: Option<u8> = Some(1);
+const OPEN: u8 = 1;
 
 /// Two sessions share 100 units; one uses more than it was granted. Its last update comes once more, and an update of a session that
 /// was never seen.
@@ -211,26 +241,6 @@ const SHARED: [Row; 5] = [
     ("n;1", (2, 1), &[(8, 70), (9, 10), (10, 3)], &[(12, 5002)]),
 ];
 
-#[test]
-fn two_sessions_share_an_account(rt: HostRuntime) -> Result<(), Fail> {
-    let alloc = rt.alloc();
-    let roles = roles(alloc)?;
-    let mut server = connected(alloc, &roles, 100)?;
-    assert!(rt; answered_rows(alloc, &roles, &mut server, &SHARED)? == 5);
-    assert!(rt; server.page.totals(ACCOUNT) == totals(100, 40, 60, 10));
-    let booked = [
-        reserve(1, 0, 60),
-        reserve(2, 0, 40),
-        debit(1, 0, 70, 10),
-        release(1, 0),
-    ];
-    assert!(rt; server.page.journal() == &booked[..]);
-    assert!(rt; state_of(&server, "a;1") == IDLE);
-    assert!(rt; state_of(&server, "b;1") == OPEN);
-    assert!(rt; state_of(&server, "n;1") == IDLE);
-    Ok(())
-}
-
 /// A session is granted units twice and ends.
 const WHOLE: [Row; 3] = [
     (
@@ -247,25 +257,6 @@ const WHOLE: [Row; 3] = [
     ),
     ("a;1", (3, 2), &[(8, 30), (10, 3)], &[(12, 2001)]),
 ];
-
-#[test]
-fn a_session_pays_what_it_used_and_ends(rt: HostRuntime) -> Result<(), Fail> {
-    let alloc = rt.alloc();
-    let roles = roles(alloc)?;
-    let mut server = connected(alloc, &roles, 100)?;
-    assert!(rt; answered_rows(alloc, &roles, &mut server, &WHOLE)? == 3);
-    assert!(rt; server.page.totals(ACCOUNT) == totals(100, 0, 80, 0));
-    let booked = [
-        reserve(1, 0, 60),
-        debit(1, 0, 50, 0),
-        reserve(1, 0, 50),
-        debit(1, 0, 30, 0),
-        release(1, 0),
-    ];
-    assert!(rt; server.page.journal() == &booked[..]);
-    assert!(rt; state_of(&server, "a;1") == IDLE);
-    Ok(())
-}
 
 /// What an account may be given at most.
 const MOST: u64 = 0x4000_0000_0000_0000;
@@ -286,25 +277,6 @@ const WIDEST: [Row; 4] = [
     ("c;1", (1, 0), &[(7, 999), (9, 1), (10, 3)], &[(12, 5030)]),
 ];
 
-#[test]
-fn the_widest_amounts_are_charged(rt: HostRuntime) -> Result<(), Fail> {
-    let alloc = rt.alloc();
-    let roles = roles(alloc)?;
-    let mut server = connected(alloc, &roles, MOST)?;
-    assert!(rt; answered_rows(alloc, &roles, &mut server, &WIDEST)? == 4);
-    let unpaid = 13_835_058_055_282_163_711;
-    assert!(rt; server.page.totals(ACCOUNT) == totals(MOST, 0, MOST, u128::from(unpaid)));
-    let booked = [
-        reserve(1, 0, 1),
-        debit(1, 0, GREATEST, unpaid),
-        reserve(1, 0, 0),
-    ];
-    assert!(rt; server.page.journal() == &booked[..]);
-    assert!(rt; state_of(&server, "a;1") == OPEN);
-    assert!(rt; state_of(&server, "b;1") == IDLE);
-    Ok(())
-}
-
 /// A one-time event: 30 of 100 are debited.
 const DEBITED: Row = (
     "e;1",
@@ -314,7 +286,8 @@ const DEBITED: Row = (
 );
 
 /// Then 80 are not there, 50 are given back, 100 are there; a price is not told, and more than there is isn't debited.
-const EVENTS: [Row; 5] = [
+const EVENTS: [Row; 6] = [
+    DEBITED,
     (
         "e;2",
         (4, 0),
@@ -336,38 +309,6 @@ const EVENTS: [Row; 5] = [
         &[(12, 4012)],
     ),
 ];
-
-#[test]
-fn one_time_events_are_charged(rt: HostRuntime) -> Result<(), Fail> {
-    let alloc = rt.alloc();
-    let roles = roles(alloc)?;
-    let mut server = connected(alloc, &roles, 100)?;
-    assert!(rt; answered_rows(alloc, &roles, &mut server, &[DEBITED])? == 1);
-    assert!(rt; server.page.totals(ACCOUNT) == totals(100, 0, 30, 0));
-    assert!(rt; answered_rows(alloc, &roles, &mut server, &EVENTS)? == 5);
-    assert!(rt; server.page.totals(ACCOUNT) == totals(100, 0, 0, 0));
-    let account = ACCOUNT;
-    let booked = [
-        done(
-            Op::Charge {
-                account,
-                amount: 30,
-            },
-            30,
-            0,
-        ),
-        done(
-            Op::Refund {
-                account,
-                amount: 50,
-            },
-            30,
-            0,
-        ),
-    ];
-    assert!(rt; server.page.journal() == &booked[..]);
-    Ok(())
-}
 
 /// Two services ask for 70 octets of Rating-Group 1 and 50 of 2, of 100.
 const TWO_ASK: Row = (
@@ -424,34 +365,6 @@ const ONE_IS_REFUSED: Row = (
     ],
 );
 
-#[test]
-fn two_services_are_charged_and_their_time_is_over(rt: HostRuntime) -> Result<(), Fail> {
-    let alloc = rt.alloc();
-    let roles = roles(alloc)?;
-    let mut server = connected(alloc, &roles, 100)?;
-    assert!(rt; answered_rows(alloc, &roles, &mut server, &[TWO_ASK])? == 1);
-    assert!(rt; server.page.totals(ACCOUNT) == totals(100, 100, 0, 0));
-    assert!(rt; answered_rows(alloc, &roles, &mut server, &[ONE_IS_REFUSED])? == 1);
-    assert!(rt; server.page.totals(ACCOUNT) == totals(100, 10, 80, 10));
-    assert!(rt; state_of(&server, "g;1") == OPEN);
-    server.fire(&roles, b"g;1")?;
-    assert!(rt; server.page.totals(ACCOUNT) == totals(100, 0, 80, 10));
-    assert!(rt; state_of(&server, "g;1") == IDLE);
-    let booked = [
-        debit(1, 3, 0, 0),
-        reserve(1, 3, 70),
-        debit(1, 4, 0, 0),
-        reserve(1, 4, 30),
-        debit(1, 3, 80, 10),
-        reserve(1, 3, 0),
-        debit(1, 4, 10, 0),
-        reserve(1, 4, 10),
-        release(1, 10),
-    ];
-    assert!(rt; server.page.journal() == &booked[..]);
-    Ok(())
-}
-
 /// Both used all that they were granted, and want 10 each.
 const BOTH_ARE_REFUSED: Row = (
     "g;1",
@@ -470,19 +383,6 @@ const BOTH_ARE_REFUSED: Row = (
     &[(12, 4012)],
 );
 
-#[test]
-fn a_session_ends_where_all_its_services_are_refused(rt: HostRuntime) -> Result<(), Fail> {
-    let alloc = rt.alloc();
-    let roles = roles(alloc)?;
-    let mut server = connected(alloc, &roles, 100)?;
-    assert!(rt; answered_rows(alloc, &roles, &mut server, &[TWO_ASK, BOTH_ARE_REFUSED])? == 2);
-    assert!(rt; server.page.totals(ACCOUNT) == totals(100, 0, 100, 0));
-    let booked = [debit(1, 3, 70, 0), debit(1, 4, 30, 0), release(1, 0)];
-    assert!(rt; server.page.journal().get(4..) == Some(&booked[..]));
-    assert!(rt; state_of(&server, "g;1") == IDLE);
-    Ok(())
-}
-
 /// The session ends, and tells of one of its services.
 const ONE_IS_TOLD: Row = (
     "g;1",
@@ -490,19 +390,6 @@ const ONE_IS_TOLD: Row = (
     &[(16, 1), (17, 3), (18, 40), (20, 2)],
     &[(12, 2001)],
 );
-
-#[test]
-fn what_is_reserved_for_other_services_is_released_at_the_end(rt: HostRuntime) -> Result<(), Fail> {
-    let alloc = rt.alloc();
-    let roles = roles(alloc)?;
-    let mut server = connected(alloc, &roles, 100)?;
-    assert!(rt; answered_rows(alloc, &roles, &mut server, &[TWO_ASK, ONE_IS_TOLD])? == 2);
-    assert!(rt; server.page.totals(ACCOUNT) == totals(100, 0, 40, 0));
-    let booked = [debit(1, 3, 40, 0), release(1, 30)];
-    assert!(rt; server.page.journal().get(4..) == Some(&booked[..]));
-    assert!(rt; state_of(&server, "g;1") == IDLE);
-    Ok(())
-}
 
 /// A service without Rating-Group and one of the greatest, with the widest amounts.
 const WIDE_SERVICES: [Row; 2] = [
@@ -558,33 +445,174 @@ const WIDE_SERVICES: [Row; 2] = [
     ),
 ];
 
-#[test]
-fn the_widest_amounts_of_services_are_charged(rt: HostRuntime) -> Result<(), Fail> {
-    let alloc = rt.alloc();
-    let roles = roles(alloc)?;
-    let mut server = connected(alloc, &roles, MOST)?;
-    assert!(rt; answered_rows(alloc, &roles, &mut server, &WIDE_SERVICES)? == 2);
-    assert!(rt; server.page.totals(ACCOUNT) == totals(MOST, 5, 2, 18_446_744_073_709_551_614));
-    let booked = [
-        debit(1, 1, GREATEST, GREATEST - 1),
-        reserve(1, 1, 0),
-        debit(1, 0x1_0000_0001, 1, 0),
-        reserve(1, 0x1_0000_0001, 5),
-    ];
-    assert!(rt; server.page.journal().get(4..) == Some(&booked[..]));
-    Ok(())
-}
-
-#[test]
-fn the_longest_session_is_charged(rt: HostRuntime) -> Result<(), Fail> {
-    let alloc = rt.alloc();
-    let roles = roles(alloc)?;
-    let mut server = connected(alloc, &roles, 100)?;
+fn the_longest_session_is_charged(alloc: Global, roles: &Roles<'_>) -> Result<bool, Fail> {
+    let mut server = connected(alloc, roles, 100)?;
     let session = [b'a'; 255];
     let (_, request, asked, told) = DEBITED;
     let (asked, facts) = (asking(request, asked), answered(request, told));
-    assert!(rt; is_answered(alloc, &roles, &mut server, &session, &asked, &facts)?);
-    assert!(rt; server.machine(&session).is_some());
-    assert!(rt; server.page.totals(ACCOUNT) == totals(100, 0, 30, 0));
+    let is_answered = is_answered(alloc, roles, &mut server, &session, &asked, &facts)?;
+    Ok(is_answered && server.machine(&session).is_some() && has_sums(&server, (0, 30, 0)))
+}
+
+/// All of them. A Debit that ends a session is followed by a Release.
+const CASES: [Case; 8] = [
+    (
+        "an account that is shared",
+        100,
+        &SHARED,
+        (40, 60, 10),
+        &[
+            (Reserve, 1, 0, 60, 60, 0),
+            (Reserve, 2, 0, 40, 40, 0),
+            (Debit, 1, 0, 70, 60, 10),
+            (Release, 1, 0, 0, 0, 0),
+        ],
+        &[("a;1", IDLE), ("b;1", OPEN), ("n;1", IDLE)],
+    ),
+    (
+        "a whole session",
+        100,
+        &WHOLE,
+        (0, 80, 0),
+        &[
+            (Reserve, 1, 0, 60, 60, 0),
+            (Debit, 1, 0, 50, 50, 0),
+            (Reserve, 1, 0, 50, 50, 0),
+            (Debit, 1, 0, 30, 30, 0),
+            (Release, 1, 0, 0, 0, 0),
+        ],
+        &[("a;1", IDLE)],
+    ),
+    (
+        "the widest amounts",
+        MOST,
+        &WIDEST,
+        (0, MOST, 13_835_058_055_282_163_711),
+        &[
+            (Reserve, 1, 0, 1, 1, 0),
+            (Debit, 1, 0, GREATEST, MOST, 13_835_058_055_282_163_711),
+            (Reserve, 1, 0, 0, 0, 0),
+        ],
+        &[("a;1", OPEN), ("b;1", IDLE)],
+    ),
+    (
+        "one-time events",
+        100,
+        &EVENTS,
+        (0, 0, 0),
+        &[(Charge, 1, 0, 30, 30, 0), (Refund, 3, 0, 50, 30, 0)],
+        &[("e;1", IDLE), ("e;6", IDLE)],
+    ),
+    (
+        "two services",
+        100,
+        &[TWO_ASK, ONE_IS_REFUSED],
+        (10, 80, 10),
+        &[
+            (Debit, 1, 3, 0, 0, 0),
+            (Reserve, 1, 3, 70, 70, 0),
+            (Debit, 1, 4, 0, 0, 0),
+            (Reserve, 1, 4, 30, 30, 0),
+            (Debit, 1, 3, 80, 70, 10),
+            (Reserve, 1, 3, 0, 0, 0),
+            (Debit, 1, 4, 10, 10, 0),
+            (Reserve, 1, 4, 10, 10, 0),
+        ],
+        &[("g;1", OPEN)],
+    ),
+    (
+        "all services are refused",
+        100,
+        &[TWO_ASK, BOTH_ARE_REFUSED],
+        (0, 100, 0),
+        &[
+            (Debit, 1, 3, 0, 0, 0),
+            (Reserve, 1, 3, 70, 70, 0),
+            (Debit, 1, 4, 0, 0, 0),
+            (Reserve, 1, 4, 30, 30, 0),
+            (Debit, 1, 3, 70, 70, 0),
+            (Debit, 1, 4, 30, 30, 0),
+            (Release, 1, 0, 0, 0, 0),
+        ],
+        &[("g;1", IDLE)],
+    ),
+    (
+        "one service is told",
+        100,
+        &[TWO_ASK, ONE_IS_TOLD],
+        (0, 40, 0),
+        &[
+            (Debit, 1, 3, 0, 0, 0),
+            (Reserve, 1, 3, 70, 70, 0),
+            (Debit, 1, 4, 0, 0, 0),
+            (Reserve, 1, 4, 30, 30, 0),
+            (Debit, 1, 3, 40, 40, 0),
+            (Release, 1, 0, 0, 30, 0),
+        ],
+        &[("g;1", IDLE)],
+    ),
+    (
+        "the widest services",
+        MOST,
+        &WIDE_SERVICES,
+        (5, 2, 18_446_744_073_709_551_614),
+        &[
+            (Debit, 1, 1, 0, 0, 0),
+            (Reserve, 1, 1, 1, 1, 0),
+            (Debit, 1, 0x1_0000_0001, 0, 0, 0),
+            (Reserve, 1, 0x1_0000_0001, MOST - 1, MOST - 1, 0),
+            (Debit, 1, 1, GREATEST, 1, GREATEST - 1),
+            (Reserve, 1, 1, 0, 0, 0),
+            (Debit, 1, 0x1_0000_0001, 1, 1, 0),
+            (Reserve, 1, 0x1_0000_0001, 5, 5, 0),
+        ],
+        &[("w;1", OPEN)],
+    ),
+];
+
+/// Whether a case goes as it says.
+fn is_charged(alloc: Global, roles: &Roles<'_>, case: Case) -> Result<bool, Fail> {
+    let (_, given, rows, sums, entries, states) = case;
+    let mut server = connected(alloc, roles, given)?;
+    let count = answered_rows(alloc, roles, &mut server, rows)?;
+    Ok(
+        count == rows.len()
+            && has_sums(&server, sums)
+            && has_booked(&server, entries)
+            && has_states(&server, states),
+    )
+}
+
+/// The first case that goes wrong.
+fn wrong_case(alloc: Global, roles: &Roles<'_>) -> Result<Option<&'static str>, Fail> {
+    for case in CASES {
+        if !is_charged(alloc, roles, case)? {
+            return Ok(Some(case.0));
+        }
+    }
+    if !the_longest_session_is_charged(alloc, roles)? {
+        return Ok(Some("the longest session"));
+    }
+    Ok(None)
+}
+
+/// What goes wrong over these callbacks.
+fn wrong_over(alloc: Global, registry: &Registry) -> Result<Option<&'static str>, Fail> {
+    let roles = Roles::new(alloc, registry)?;
+    match wrong_case(alloc, &roles)? {
+        Some(name) => Ok(Some(name)),
+        None => wrong_octets(alloc, &roles),
+    }
+}
+
+#[test]
+fn requests_are_charged(rt: HostRuntime) -> Result<(), Fail> {
+    let alloc = rt.alloc();
+    let laws = all_laws(alloc)?;
+    let mut registry = Registry::new(alloc);
+    let calls = calls_of!(alloc, laws, high);
+    registry.register(&laws, calls)?;
+    let wrong = wrong_over(alloc, &registry)?;
+    assert!(rt; wrong.is_none(), "{wrong:?}");
     Ok(())
 }

@@ -1,8 +1,8 @@
 //! Requests of credit control and their answers by a server's node, octet by octet, typed by hand from RFC 6733 and RFC 8506.
 
-use crate::charging_step::{Roles, Server};
-use crate::role::Role;
-use acct_totals::Totals;
+use crate::charging_step::Server;
+use crate::roles::Roles;
+use acct_totals::{Op, Outcome, Totals};
 use std::alloc::Global;
 use std::test::Fail;
 
@@ -49,23 +49,16 @@ fn joined(alloc: Global, parts: &[&str]) -> Result<Vec<u8>, Fail> {
 }
 
 /// A node with account 100 of 100, to which its peer is connected.
-fn connected(alloc: Global, roles: &Roles) -> Result<Server, Fail> {
+fn connected(alloc: Global, roles: &Roles<'_>) -> Result<Server, Fail> {
     let mut server = Server::new(alloc, &[(100, 100)])?;
     server.connect(roles);
     Ok(server)
 }
 
-fn roles(alloc: Global) -> Result<Roles, Fail> {
-    Ok(Roles {
-        peer: Role::of_peer(alloc)?,
-        server: Role::of_server(alloc)?,
-    })
-}
-
 /// Whether a request is answered by these octets.
 fn answers(
     alloc: Global,
-    roles: &Roles,
+    roles: &Roles<'_>,
     server: &mut Server,
     request: &[&str],
     answer: &[&str],
@@ -88,6 +81,18 @@ fn has(server: &Server, reserved: u64, debited: u64, unpaid: u128) -> bool {
     server.page.totals(100) == Some(totals)
 }
 
+/// Whether the last entry of the journal is a Release of so much by the first session.
+fn has_released(server: &Server, amount: u64) -> bool {
+    let op = Op::Release {
+        account: 100,
+        session: 1,
+    };
+    match server.page.journal().last() {
+        Some(booked) => booked.op == op && booked.outcome == Outcome::Done { amount, unpaid: 0 },
+        None => false,
+    }
+}
+
 /// Whether the session c1;1 is open with these registers, by place, and all others 0.
 fn is_open_with(server: &Server, told: &[(usize, u64)]) -> bool {
     let Some(machine) = server.machine(b"c1;1") else {
@@ -102,10 +107,7 @@ fn is_open_with(server: &Server, told: &[(usize, u64)]) -> bool {
     machine.state == 1 && machine.regs == wanted
 }
 
-#[test]
-fn sixty_units_are_granted(rt: HostRuntime) -> Result<(), Fail> {
-    let alloc = rt.alloc();
-    let roles = roles(alloc)?;
+fn sixty_units_are_granted(alloc: Global, roles: &Roles<'_>) -> Result<bool, Fail> {
     let mut server = connected(alloc, &roles)?;
     let request = [
         "010000bcc0000110000000040000000700000007",
@@ -115,7 +117,7 @@ fn sixty_units_are_granted(rt: HostRuntime) -> Result<(), Fail> {
         SUBSCRIBER,
         SIXTY,
     ];
-    assert!(rt; answers(alloc, &roles, &mut server, &request, &GRANTED)?);
+    let is_granted = answers(alloc, roles, &mut server, &request, &GRANTED)?;
     let registers = [
         (0, 100),
         (1, 1),
@@ -126,9 +128,7 @@ fn sixty_units_are_granted(rt: HostRuntime) -> Result<(), Fail> {
         (14, 1),
         (15, 1),
     ];
-    assert!(rt; is_open_with(&server, &registers));
-    assert!(rt; has(&server, 60, 0, 0));
-    Ok(())
+    Ok(is_granted && is_open_with(&server, &registers) && has(&server, 60, 0, 0))
 }
 
 /// The same request with AVP 9999, without flag M.
@@ -142,14 +142,13 @@ const UNKNOWN: [&str; 7] = [
     "0000270f0000000c00000001",
 ];
 
-#[test]
-fn an_unknown_avp_without_flag_m_is_let_pass(rt: HostRuntime) -> Result<(), Fail> {
-    let alloc = rt.alloc();
-    let roles = roles(alloc)?;
+fn an_unknown_avp_without_flag_m_is_let_pass(
+    alloc: Global,
+    roles: &Roles<'_>,
+) -> Result<bool, Fail> {
     let mut server = connected(alloc, &roles)?;
-    assert!(rt; answers(alloc, &roles, &mut server, &UNKNOWN, &GRANTED)?);
-    assert!(rt; has(&server, 60, 0, 0));
-    Ok(())
+    let is_granted = answers(alloc, roles, &mut server, &UNKNOWN, &GRANTED)?;
+    Ok(is_granted && has(&server, 60, 0, 0))
 }
 
 /// Faulty requests and their answers: AVP 9999 with flag M, no Service-Context-Id, and an amount that is longer than its group.
@@ -247,21 +246,21 @@ const NOT_SERVED: [&str; 3] = [
     "0000010c4000000c00001394",
 ];
 
-#[test]
-fn faulty_requests_are_refused_and_nothing_is_booked(rt: HostRuntime) -> Result<(), Fail> {
-    let alloc = rt.alloc();
-    let roles = roles(alloc)?;
+fn faulty_requests_are_refused_and_nothing_is_booked(
+    alloc: Global,
+    roles: &Roles<'_>,
+) -> Result<bool, Fail> {
     let mut server = connected(alloc, &roles)?;
-    for (place, (request, answer)) in FAULTY.iter().enumerate() {
-        assert!(rt;
-            answers(alloc, &roles, &mut server, request, answer)?,
-            "{place}"
-        );
+    for (request, answer) in &FAULTY {
+        if !answers(alloc, roles, &mut server, request, answer)? {
+            return Ok(false);
+        }
     }
-    assert!(rt; has(&server, 0, 0, 0));
-    assert!(rt; server.page.journal().is_empty());
-    assert!(rt; server.machine(b"c1;1").is_none());
-    Ok(())
+    Ok(
+        has(&server, 0, 0, 0)
+            && server.page.journal().is_empty()
+            && server.machine(b"c1;1").is_none(),
+    )
 }
 
 /// Services that ask: 70 octets of Rating-Group 1, 50 of 2.
@@ -309,10 +308,7 @@ const ONE_GRANTED: [&str; 7] = [
     "000001b04000000c000000020000010c4000000c000007d1",
 ];
 
-#[test]
-fn two_services_are_served(rt: HostRuntime) -> Result<(), Fail> {
-    let alloc = rt.alloc();
-    let roles = roles(alloc)?;
+fn two_services_are_served(alloc: Global, roles: &Roles<'_>) -> Result<bool, Fail> {
     let mut server = connected(alloc, &roles)?;
     let request = [
         "010000fcc0000110000000040000000700000007",
@@ -323,11 +319,36 @@ fn two_services_are_served(rt: HostRuntime) -> Result<(), Fail> {
         SEVENTY,
         FIFTY,
     ];
-    assert!(rt; answers(alloc, &roles, &mut server, &request, &BOTH_GRANTED)?);
-    assert!(rt; has(&server, 100, 0, 0));
-    assert!(rt; answers(alloc, &roles, &mut server, &BOTH_USED, &ONE_GRANTED)?);
-    assert!(rt; has(&server, 10, 80, 10));
-    server.fire(&roles, b"c1;1")?;
-    assert!(rt; has(&server, 0, 80, 10));
-    Ok(())
+    let are_granted = answers(alloc, roles, &mut server, &request, &BOTH_GRANTED)?;
+    let are_reserved = has(&server, 100, 0, 0);
+    let is_granted = answers(alloc, roles, &mut server, &BOTH_USED, &ONE_GRANTED)?;
+    let is_paid = has(&server, 10, 80, 10);
+    server.fire(roles, b"c1;1")?;
+    let is_over = has(&server, 0, 80, 10) && has_released(&server, 10);
+    Ok(are_granted && are_reserved && is_granted && is_paid && is_over)
+}
+
+/// The first case that goes wrong.
+pub fn wrong_octets(alloc: Global, roles: &Roles<'_>) -> Result<Option<&'static str>, Fail> {
+    let cases = [
+        (
+            "octets of sixty units",
+            sixty_units_are_granted(alloc, roles)?,
+        ),
+        (
+            "an unknown AVP",
+            an_unknown_avp_without_flag_m_is_let_pass(alloc, roles)?,
+        ),
+        (
+            "faulty requests",
+            faulty_requests_are_refused_and_nothing_is_booked(alloc, roles)?,
+        ),
+        ("octets of services", two_services_are_served(alloc, roles)?),
+    ];
+    for (name, is_right) in cases {
+        if !is_right {
+            return Ok(Some(name));
+        }
+    }
+    Ok(None)
 }

@@ -1,7 +1,7 @@
 //! What a credit-control server does with a message, joined of public calls: from a request's octets by way of its peer's machine,
 //! its session's machine and the account book to the answer's octets (RFC 8506 sections 3, 5 and 6).
 
-use crate::role::Role;
+use crate::roles::Roles;
 use acct_book::{Op, OpenError, Page};
 use base_codes::{DeedCode, HEADER_LEN, avp_code, peer_fact, peer_register, session_register};
 use base_list::Octets;
@@ -27,13 +27,6 @@ const DEFAULT_UNITS: u64 = 500;
 
 /// The line of the peer's connection.
 const LINE: u64 = 1;
-
-/// The roles of a server's node.
-#[derive(Drop)]
-pub struct Roles {
-    pub peer: Role,
-    pub server: Role,
-}
 
 /// A server's node: one peer, whose machine has number 0, its sessions, whose machines are numbered from 1, and a page of the
 /// account book. It keeps room for the operations and for the step of one request.
@@ -78,7 +71,7 @@ fn deed_of(deeds: &[Deed], code: DeedCode) -> Option<Deed> {
 }
 
 /// The Session-Id of a Credit-Control-Request.
-fn session_of(request: &Command) -> Option<&[u8]> {
+pub fn session_of(request: &Command) -> Option<&[u8]> {
     match request {
         Command::Ccr(request) => Some(request.session_id.value.as_bytes()),
         _ => None,
@@ -100,7 +93,8 @@ fn put_ops(ops: &mut Vec<Op>, deeds: &[Deed], want: &Want) -> Result<(), AllocEr
 fn page_of(alloc: Global, accounts: &[(u64, u64)]) -> Result<Page, OpenError> {
     let mut page = Page::new(alloc);
     for (id, given) in accounts {
-        if *id >= 1 {
+        let (number, pages) = page.number();
+        if *id >= 1 && pages >= 1 && *id % pages == number {
             page.open_account(*id, *given)?;
         }
     }
@@ -130,22 +124,18 @@ impl Server {
     /// Steps the peer's machine, and gives its first deed of a code.
     fn step_peer(
         &mut self,
-        roles: &Roles,
+        roles: &Roles<'_>,
         kind: PeerKind,
         facts: &[u64; PLACES],
         code: DeedCode,
     ) -> Option<Deed> {
-        let event = Event {
-            kind: kind.place(),
-            facts: *facts,
-        };
-        roles.peer.step_into(&self.peer, &event, &mut self.room);
+        roles.step_peer(&self.peer, kind, facts, &mut self.room);
         self.peer = self.room.after;
         deed_of(self.room.deeds.as_slice(), code)
     }
 
     /// The peer connects (RFC 6733 section 5.3): whether its request is answered.
-    pub fn connect(&mut self, roles: &Roles) -> bool {
+    pub fn connect(&mut self, roles: &Roles<'_>) -> bool {
         let mut facts = [0; PLACES];
         facts[peer_fact::LINE] = LINE;
         self.step_peer(roles, PeerKind::RConnCer, &facts, DeedCode::SndCea)
@@ -157,16 +147,27 @@ impl Server {
         read_message(self.alloc, &self.dictionary, octets)
     }
 
-    /// The event that a request is for its session, as the peer's machine hands it on.
-    pub fn event_of(&mut self, roles: &Roles, request: &Command) -> Option<Event> {
-        let event = server_event(request, DEFAULT_UNITS)?;
-        let mut facts = event.facts;
-        facts[peer_fact::PEER] = self.peer.regs[peer_register::MACHINE];
+    /// The event that a request is: it came from the peer on its line.
+    pub fn event_of(&self, request: &Command) -> Option<Event> {
+        let Event { kind, mut facts } = server_event(request, DEFAULT_UNITS)?;
+        let regs = self.peer.regs;
+        facts[peer_fact::PEER] = regs[peer_register::MACHINE];
         facts[peer_fact::LINE] = LINE;
-        let deed = self.step_peer(roles, PeerKind::RRcvMessage, &facts, DeedCode::ToSession)?;
+        Some(Event { kind, facts })
+    }
+
+    /// The event of a request as the peer's machine hands it on to the session.
+    pub fn handed_on(&mut self, roles: &Roles<'_>, event: &Event) -> Option<Event> {
+        let deed = self.step_peer(
+            roles,
+            PeerKind::RRcvMessage,
+            &event.facts,
+            DeedCode::ToSession,
+        )?;
+        let facts = deed.a;
         Some(Event {
             kind: event.kind,
-            facts: deed.a,
+            facts,
         })
     }
 
@@ -204,9 +205,9 @@ impl Server {
     }
 
     /// Steps the machine of a session.
-    pub fn step(&mut self, roles: &Roles, place: usize, event: &Event) {
+    pub fn step(&mut self, roles: &Roles<'_>, place: usize, event: &Event) {
         if let Some(machine) = self.sessions.get_mut(place) {
-            roles.server.step_into(machine, event, &mut self.room);
+            roles.step_server(machine, event, &mut self.room);
             *machine = self.room.after;
         }
     }
@@ -219,7 +220,7 @@ impl Server {
     }
 
     /// The deed that sends what the last step has for the peer, as the peer's machine hands it on.
-    pub fn sending(&mut self, roles: &Roles) -> Option<Deed> {
+    pub fn sending(&mut self, roles: &Roles<'_>) -> Option<Deed> {
         let deed = deed_of(self.room.deeds.as_slice(), DeedCode::ToPeer)?;
         self.step_peer(roles, PeerKind::SendMessage, &deed.a, DeedCode::SndMsg)
     }
@@ -240,7 +241,7 @@ impl Server {
     }
 
     /// Quotes, steps and books an event of a session.
-    fn charge(&mut self, roles: &Roles, place: usize, mut event: Event) -> Result<(), Fail> {
+    fn charge(&mut self, roles: &Roles<'_>, place: usize, mut event: Event) -> Result<(), Fail> {
         if let Some(want) = self.quote(place, &mut event) {
             self.step(roles, place, &event);
             self.book(&want)?;
@@ -249,11 +250,19 @@ impl Server {
     }
 
     /// Writes the answer to a request.
-    fn answer(&mut self, roles: &Roles, request: &Command, out: &mut Vec<u8>) -> Result<(), Fail> {
+    fn answer(
+        &mut self,
+        roles: &Roles<'_>,
+        request: &Command,
+        out: &mut Vec<u8>,
+    ) -> Result<(), Fail> {
         let Some(name) = session_of(request) else {
             return Ok(());
         };
-        let Some(event) = self.event_of(roles, request) else {
+        let Some(event) = self.event_of(request) else {
+            return Ok(());
+        };
+        let Some(event) = self.handed_on(roles, &event) else {
             return Ok(());
         };
         let place = self.session(name)?;
@@ -282,7 +291,12 @@ impl Server {
     }
 
     /// Appends the octets of the answer to those of a message; nothing where it gets none.
-    pub fn serve(&mut self, roles: &Roles, octets: &[u8], out: &mut Vec<u8>) -> Result<(), Fail> {
+    pub fn serve(
+        &mut self,
+        roles: &Roles<'_>,
+        octets: &[u8],
+        out: &mut Vec<u8>,
+    ) -> Result<(), Fail> {
         match self.read(octets) {
             Ok(request) => self.answer(roles, &request, out),
             Err(MsgError::Fault(fault)) => self.refuse(octets, &fault, out),
@@ -291,7 +305,7 @@ impl Server {
     }
 
     /// The timer of a session fires (RFC 8506 section 13).
-    pub fn fire(&mut self, roles: &Roles, name: &[u8]) -> Result<(), Fail> {
+    pub fn fire(&mut self, roles: &Roles<'_>, name: &[u8]) -> Result<(), Fail> {
         let place = self.session(name)?;
         let event = Event {
             kind: ServerKind::Tcc.place(),

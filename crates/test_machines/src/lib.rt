@@ -8,9 +8,9 @@ mod charging_octets;
 #[cfg(test)]
 mod charging_step;
 mod peer_steps;
-#[cfg(test)]
-mod role;
 mod role_table;
+#[cfg(test)]
+mod roles;
 #[cfg(test)]
 mod server_needs;
 mod session_steps;
