@@ -1,0 +1,321 @@
+//! What a credit-control server does with a message, joined of public calls: from a request's octets by way of its peer's machine,
+//! its session's machine and the account book to the answer's octets (RFC 8506 sections 3, 5 and 6).
+
+use crate::roles::Roles;
+use acct_book::{Op, OpenError, Page};
+use base_codes::{DeedCode, HEADER_LEN, avp_code, peer_fact, peer_register, session_register};
+use base_list::Octets;
+use charge_event::server_event;
+use charge_message::answer_message;
+use deed_message::Names;
+use dia_avp::first_avp;
+use dia_command::header_of;
+use dia_dict::Dictionary;
+use dia_msg::{Command, Identity, MsgError, MsgFault, error_answer, read_message, write_message};
+use peer_rules::PeerKind;
+use server_book::{Quotes, fill_quotes, op_of};
+use server_rules::ServerKind;
+use server_wants::{Asked, Want, needs};
+use sess_dir::Directory;
+use std::alloc::{AllocError, Global};
+use std::test::Fail;
+use tab_law::{Deed, PLACES};
+use tab_step::{Event, MachineState, Stepped};
+
+/// The octets that a Requested-Service-Unit without an amount asks for.
+const DEFAULT_UNITS: u64 = 500;
+
+/// The line of the peer's connection.
+const LINE: u64 = 1;
+
+/// A server's node: one peer, whose machine has number 0, its sessions, whose machines are numbered from 1, and a page of the
+/// account book. It keeps room for the operations and for the step of one request.
+#[derive(Drop)]
+pub struct Server {
+    alloc: Global,
+    dictionary: Dictionary,
+    identity: Identity,
+    peer: MachineState,
+    names: Directory,
+    sessions: Vec<MachineState>,
+    pub page: Page,
+    ops: Vec<Op>,
+    room: Stepped,
+}
+
+/// A machine of this number in the first state of its table.
+fn start(number: u64) -> MachineState {
+    let mut regs = [0; PLACES];
+    regs[session_register::MACHINE] = number;
+    MachineState { state: 0, regs }
+}
+
+/// The Session-Id of a faulty message, where it stands first (RFC 6733 section 8.8).
+fn session_in(octets: &[u8]) -> Option<&str> {
+    let (avp, _) = first_avp(octets.get(HEADER_LEN..)?).ok()?;
+    if avp.code == avp_code::SESSION_ID && avp.vendor.is_none() {
+        avp.as_text().ok()
+    } else {
+        None
+    }
+}
+
+/// The first deed of this code.
+fn deed_of(deeds: &[Deed], code: DeedCode) -> Option<Deed> {
+    for deed in deeds {
+        if deed.code == code.number() {
+            return Some(*deed);
+        }
+    }
+    None
+}
+
+/// The Session-Id of a Credit-Control-Request.
+pub fn session_of(request: &Command) -> Option<&[u8]> {
+    match request {
+        Command::Ccr(request) => Some(request.session_id.value.as_bytes()),
+        _ => None,
+    }
+}
+
+/// The operations that deeds ask of the account book.
+fn put_ops(ops: &mut Vec<Op>, deeds: &[Deed], want: &Want) -> Result<(), AllocError> {
+    ops.clear();
+    for deed in deeds {
+        if let Some(op) = op_of(deed, want) {
+            ops.push(op)?;
+        }
+    }
+    Ok(())
+}
+
+/// A page on which these accounts are open, each with what it is given.
+fn page_of(alloc: Global, accounts: &[(u64, u64)]) -> Result<Page, OpenError> {
+    let mut page = Page::new(alloc);
+    for (id, given) in accounts {
+        let (number, pages) = page.number();
+        if *id >= 1 && pages >= 1 && *id % pages == number {
+            page.open_account(*id, *given)?;
+        }
+    }
+    Ok(page)
+}
+
+impl Server {
+    /// The node s.example with these accounts, without sessions. Its peer has not connected yet.
+    pub fn new(alloc: Global, accounts: &[(u64, u64)]) -> Result<Server, Fail> {
+        Ok(Server {
+            alloc,
+            dictionary: Dictionary::base(alloc)?,
+            identity: Identity {
+                host: Octets::from_slice(alloc, b"s.example")?,
+                realm: Octets::from_slice(alloc, b"example")?,
+                address: [192, 0, 2, 1],
+            },
+            peer: start(0),
+            names: Directory::new(alloc),
+            sessions: Vec::new(alloc),
+            page: page_of(alloc, accounts)?,
+            ops: Vec::new(alloc),
+            room: Stepped::new(),
+        })
+    }
+
+    /// Steps the peer's machine, and gives its first deed of a code.
+    fn step_peer(
+        &mut self,
+        roles: &Roles<'_>,
+        kind: PeerKind,
+        facts: &[u64; PLACES],
+        code: DeedCode,
+    ) -> Option<Deed> {
+        roles.step_peer(&self.peer, kind, facts, &mut self.room);
+        self.peer = self.room.after;
+        deed_of(self.room.deeds.as_slice(), code)
+    }
+
+    /// The peer connects (RFC 6733 section 5.3): whether its request is answered.
+    pub fn connect(&mut self, roles: &Roles<'_>) -> bool {
+        let mut facts = [0; PLACES];
+        facts[peer_fact::LINE] = LINE;
+        self.step_peer(roles, PeerKind::RConnCer, &facts, DeedCode::SndCea)
+            .is_some()
+    }
+
+    /// The message's octets as a command.
+    pub fn read(&self, octets: &[u8]) -> Result<Command, MsgError> {
+        read_message(self.alloc, &self.dictionary, octets)
+    }
+
+    /// The event that a request is: it came from the peer on its line.
+    pub fn event_of(&self, request: &Command) -> Option<Event> {
+        let Event { kind, mut facts } = server_event(request, DEFAULT_UNITS)?;
+        let regs = self.peer.regs;
+        facts[peer_fact::PEER] = regs[peer_register::MACHINE];
+        facts[peer_fact::LINE] = LINE;
+        Some(Event { kind, facts })
+    }
+
+    /// The event of a request as the peer's machine hands it on to the session.
+    pub fn handed_on(&mut self, roles: &Roles<'_>, event: &Event) -> Option<Event> {
+        let deed = self.step_peer(
+            roles,
+            PeerKind::RRcvMessage,
+            &event.facts,
+            DeedCode::ToSession,
+        )?;
+        let facts = deed.a;
+        Some(Event {
+            kind: event.kind,
+            facts,
+        })
+    }
+
+    /// Adds a session's machine.
+    fn add_machine(&mut self) -> Result<(), AllocError> {
+        let number = self.sessions.len() as u64;
+        self.sessions.push(start(number + 1))?;
+        Ok(())
+    }
+
+    /// The place of a session, which has a machine from now on.
+    pub fn session(&mut self, name: &[u8]) -> Result<usize, Fail> {
+        let place = self.names.find_or_add(name)?;
+        if place == self.sessions.len() {
+            self.add_machine()?;
+        }
+        Ok(place)
+    }
+
+    /// Fills what the account book would answer into the facts of an event.
+    pub fn quote(&self, place: usize, event: &mut Event) -> Option<Want> {
+        let want = needs(event, self.sessions.get(place)?)?;
+        let (account, session) = (want.account, want.session);
+        let quotes = match want.asked {
+            Asked::One(slot) => Quotes::One(
+                self.page
+                    .quote(account, session, slot.group, slot.used, slot.want),
+            ),
+            Asked::Several(slots) => {
+                Quotes::Several(self.page.quote_groups(account, session, &slots))
+            }
+        };
+        fill_quotes(&mut event.facts, &quotes);
+        Some(want)
+    }
+
+    /// Steps the machine of a session.
+    pub fn step(&mut self, roles: &Roles<'_>, place: usize, event: &Event) {
+        if let Some(machine) = self.sessions.get_mut(place) {
+            roles.step_server(machine, event, &mut self.room);
+            *machine = self.room.after;
+        }
+    }
+
+    /// Books the deeds of the last step, all or none.
+    pub fn book(&mut self, want: &Want) -> Result<(), Fail> {
+        put_ops(&mut self.ops, self.room.deeds.as_slice(), want)?;
+        self.page.apply_all(self.ops.as_slice())?;
+        Ok(())
+    }
+
+    /// The deed that sends what the last step has for the peer, as the peer's machine hands it on.
+    pub fn sending(&mut self, roles: &Roles<'_>) -> Option<Deed> {
+        let deed = deed_of(self.room.deeds.as_slice(), DeedCode::ToPeer)?;
+        self.step_peer(roles, PeerKind::SendMessage, &deed.a, DeedCode::SndMsg)
+    }
+
+    /// Writes the answer of a session that a deed sends.
+    pub fn write(&self, place: usize, deed: &Deed, out: &mut Vec<u8>) -> Result<(), Fail> {
+        let Some(session) = self.names.name(place) else {
+            return Ok(());
+        };
+        let names = Names {
+            identity: &self.identity,
+            session,
+        };
+        if let Some(answer) = answer_message(self.alloc, deed, &names)? {
+            write_message(&answer, out)?;
+        }
+        Ok(())
+    }
+
+    /// Quotes, steps and books an event of a session.
+    fn charge(&mut self, roles: &Roles<'_>, place: usize, mut event: Event) -> Result<(), Fail> {
+        if let Some(want) = self.quote(place, &mut event) {
+            self.step(roles, place, &event);
+            self.book(&want)?;
+        }
+        Ok(())
+    }
+
+    /// Writes the answer to a request.
+    fn answer(
+        &mut self,
+        roles: &Roles<'_>,
+        request: &Command,
+        out: &mut Vec<u8>,
+    ) -> Result<(), Fail> {
+        let Some(name) = session_of(request) else {
+            return Ok(());
+        };
+        let Some(event) = self.event_of(request) else {
+            return Ok(());
+        };
+        let Some(event) = self.handed_on(roles, &event) else {
+            return Ok(());
+        };
+        let place = self.session(name)?;
+        self.charge(roles, place, event)?;
+        if let Some(deed) = self.sending(roles) {
+            self.write(place, &deed, out)?;
+        }
+        Ok(())
+    }
+
+    /// Writes the answer to a faulty message, as a line does by itself.
+    fn refuse(&self, octets: &[u8], fault: &MsgFault, out: &mut Vec<u8>) -> Result<(), Fail> {
+        if octets.len() < HEADER_LEN {
+            return Ok(());
+        }
+        let header = header_of(octets);
+        let answer = error_answer(
+            self.alloc,
+            &self.identity,
+            &header,
+            session_in(octets),
+            fault,
+        )?;
+        write_message(&answer, out)?;
+        Ok(())
+    }
+
+    /// Appends the octets of the answer to those of a message; nothing where it gets none.
+    pub fn serve(
+        &mut self,
+        roles: &Roles<'_>,
+        octets: &[u8],
+        out: &mut Vec<u8>,
+    ) -> Result<(), Fail> {
+        match self.read(octets) {
+            Ok(request) => self.answer(roles, &request, out),
+            Err(MsgError::Fault(fault)) => self.refuse(octets, &fault, out),
+            Err(error) => Err(Fail::from(error)),
+        }
+    }
+
+    /// The timer of a session fires (RFC 8506 section 13).
+    pub fn fire(&mut self, roles: &Roles<'_>, name: &[u8]) -> Result<(), Fail> {
+        let place = self.session(name)?;
+        let event = Event {
+            kind: ServerKind::Tcc.place(),
+            facts: [0; PLACES],
+        };
+        self.charge(roles, place, event)
+    }
+
+    /// The machine of a session.
+    pub fn machine(&self, name: &[u8]) -> Option<&MachineState> {
+        self.sessions.get(self.names.find(name)?)
+    }
+}
