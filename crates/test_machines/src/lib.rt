@@ -1,16 +1,8 @@
 //! The tests of the shipped machines, over public calls: their tables, and what they do on lists of events.
 #![tactic(auto)]
 
-#[cfg(test)]
-mod charging;
-#[cfg(test)]
-mod charging_octets;
-#[cfg(test)]
-mod charging_step;
 mod peer_steps;
 mod role_table;
-#[cfg(test)]
-mod roles;
 #[cfg(test)]
 mod server_needs;
 mod session_steps;

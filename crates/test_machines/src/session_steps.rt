@@ -44,9 +44,6 @@ macro_rules! calls_of {
     }};
 }
 
-#[cfg(test)]
-pub(crate) use calls_of;
-
 /// The answer that a law permits with 1 unit granted, if it permits one, else with as many as it permits.
 pub fn grants_one(law: &ActLaw, scene: &Scene) -> Acted
     ensures { Permits law.now scene.now result.regs result.deeds }

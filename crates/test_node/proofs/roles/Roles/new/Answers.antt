@@ -1,6 +1,6 @@
 use Rattle.std.proofs.Common.{◌≡◌, subst}
 use Rattle.tab_step.specs.Bind.{IsBoundTo}
-use Rattle.test_machines.proofs.roles.Roles.new.Goals as goal
+use Rattle.test_node.proofs.roles.Roles.new.Goals as goal
 
 -- src/roles.rt:66:9
 pub invariant_of-result : goal.invariant_of-result

@@ -4,7 +4,6 @@
 use crate::charging_octets::wrong_octets;
 use crate::charging_step::Server;
 use crate::roles::Roles;
-use crate::session_steps::calls_of;
 use DeedCode::{Charge, Debit, Refund, Release, Reserve};
 use acct_totals::{Booked, Op, Outcome};
 use base_codes::{DeedCode, session_fact};
@@ -610,8 +609,21 @@ fn requests_are_charged(rt: HostRuntime) -> Result<(), Fail> {
     let alloc = rt.alloc();
     let laws = all_laws(alloc)?;
     let mut registry = Registry::new(alloc);
-    let calls = calls_of!(alloc, laws, high);
-    registry.register(&laws, calls)?;
+    let mut guards = Vec::new(alloc);
+    for place in 0..laws.guards().len() {
+        let law = &laws.guards().at(place).value;
+        let own = law.copy(alloc)?;
+        let ask: Ask = Box::new(alloc, move |scene: &Scene| holds(&own, scene))?;
+        guards.push(StoredGuard::new(law.copy(alloc)?, ask))?;
+    }
+    let mut acts = Vec::new(alloc);
+    for place in 0..laws.acts().len() {
+        let law = &laws.acts().at(place).value;
+        let own = law.copy(alloc)?;
+        let act: Do = Box::new(alloc, move |scene: &Scene| high(&own, scene))?;
+        acts.push(StoredAct::new(law.copy(alloc)?, act))?;
+    }
+    registry.register(&laws, Calls { guards, acts })?;
     let wrong = wrong_over(alloc, &registry)?;
     assert!(rt; wrong.is_none(), "{wrong:?}");
     Ok(())

@@ -2,7 +2,7 @@
 
 ghost use Rattle.std.specs.Prelude.{IfOk};
 ghost use Rattle.tab_step.specs.Bind.{IsBoundTo};
-ghost use Rattle.test_machines.specs.Binding.{IsBoundTo-prop};
+ghost use Rattle.test_node.specs.Binding.{IsBoundTo-prop};
 
 use peer_rules::PeerKind;
 use role_tables::{PEER_TABLE, SERVER_TABLE};
