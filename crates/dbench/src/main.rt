@@ -1,23 +1,11 @@
 //! A test bench for Diameter online charging: the program.
-//!
-//! | File | What it does |
-//! |---|---|
-//! | `words` | what the words on the command line ask for |
-//! | `draw` | the runs of `draw`
-//! | `walk` | the runs of `walk`, over callbacks that are made here |
-//! | `run` | one run, from words, an input and an output to a status |
 #![tactic(auto)]
 
-mod draw;
-mod run;
-mod walk;
-mod words;
-
 use bench_device::{Counting, Inputs};
-use run::{main_on, tell_no_words};
+use bench_run::{main_on, tell_no_words};
+use bench_words::given_words;
 use std::io;
 use std::process::ExitCode;
-use words::given_words;
 
 fn main(rt: HostRuntime) -> ExitCode {
     let mut source = Counting::new(Inputs::new(&rt, rt.stdin()));
@@ -28,6 +16,3 @@ fn main(rt: HostRuntime) -> ExitCode {
     };
     ExitCode::from(status.code())
 }
-
-#[cfg(test)]
-mod tests;

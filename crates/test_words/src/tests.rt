@@ -3,3 +3,4 @@ mod draws;
 mod inputs;
 mod roles;
 mod walks;
+mod words;

@@ -7,46 +7,24 @@ use Rattle.clap.specs.Simple.{on_top}
 use Rattle.clap.specs.declared.builder.action.ArgAction.TheVariants.{SetTrue}
 use Rattle.clap.specs.declared.error.kind.ErrorKind.{ErrorKind}
 use Rattle.clap.specs.declared.error.kind.ErrorKind.TheVariants.{DisplayHelp, DisplayVersion}
-use Rattle.bench_device.specs.declared.status.Status.{Status}
-use Rattle.bench_device.specs.declared.status.Status.TheVariants as statuses
 use Rattle.msg_text.specs.declared.manner.Style.{Style}
 use Rattle.msg_text.specs.declared.manner.Style.TheVariants.{Plain, Explained, Json}
-use Rattle.role_tables.specs.Roles.{table_named}
-use Rattle.dbench.specs.declared.words.NoWords.{NoWords}
-use Rattle.dbench.specs.declared.words.NoWords.TheVariants as no_words
 
--- the flags of `read`
-abbrev pub explain_rule : Rule
-explain_rule = record (new_rule (codes "explain")) { long = Some (codes "explain"); action = Some SetTrue }
+-- a flag, whose name is also its identifier
+abbrev pub flag_rule : Text → Rule
+flag_rule name = record (new_rule name) { long = Some name; action = Some SetTrue }
 
-abbrev pub json_rule : Rule
-json_rule = record (new_rule (codes "json")) { long = Some (codes "json"); action = Some SetTrue }
+-- an option with a value
+abbrev pub option_rule : (id name : Text) → Rule
+option_rule id name = record (new_rule id) { long = Some name }
 
-abbrev pub lines_rule : Rule
-lines_rule = record (new_rule (codes "lines")) { long = Some (codes "lines"); action = Some SetTrue }
-
--- `read`, with one FILE at most
-abbrev pub read_input : App
-read_input = with_rule (new_app (codes "read")) (new_rule (codes "FILE"))
-
--- and with each of these flags or without
+-- `read`, with one FILE at most, and with each of these flags or without
 abbrev pub read_app : App
-read_app = with_rule (with_rule (with_rule read_input explain_rule) json_rule) lines_rule
+read_app = with_rule (with_rule (with_rule (with_rule (new_app (codes "read")) (new_rule (codes "FILE"))) (flag_rule (codes "explain"))) (flag_rule (codes "json"))) (flag_rule (codes "lines"))
 
--- a flag and an option of `walk`
-abbrev pub names_rule : Rule
-names_rule = record (new_rule (codes "names")) { long = Some (codes "names"); action = Some SetTrue }
-
-abbrev pub table_rule : Rule
-table_rule = record (new_rule (codes "NAME")) { long = Some (codes "table") }
-
--- TABLE and EVENTS of `walk`
-abbrev pub walk_inputs : App
-walk_inputs = with_rule (with_rule (new_app (codes "walk")) (new_rule (codes "TABLE"))) (new_rule (codes "EVENTS"))
-
--- `walk`, with these, or `--names`, or `--table NAME`
+-- `walk`, with TABLE and EVENTS, or `--names`, or `--table NAME`
 abbrev pub walk_app : App
-walk_app = with_rule (with_rule walk_inputs names_rule) table_rule
+walk_app = with_rule (with_rule (with_rule (with_rule (new_app (codes "walk")) (new_rule (codes "TABLE"))) (new_rule (codes "EVENTS"))) (flag_rule (codes "names"))) (option_rule (codes "NAME") (codes "table"))
 
 -- `draw`, with one TABLE at most
 abbrev pub draw_app : App
@@ -117,19 +95,3 @@ pub record AreRefused (words : List Text) : Type 0 where
   pub among : IsAmong kind (word_faults words)
   pub no_help : kind ≢ DisplayHelp
   pub no_version : kind ≢ DisplayVersion
-
--- a command that asks for not one thing, or for the table of a role that isn't there
-abbrev pub AsksInVain : Wanted → Type 0
-AsksInVain Nothing = Unit {0}
-AsksInVain (Table role) = table_named role ≡ None
-AsksInVain other = ⊥
-
--- what is told where there are no words
-abbrev pub no_words_text : NoWords → List ℕ
-no_words_text no_words.NoMemory = codes "no memory\n"
-no_words_text no_words.NotText = codes "a word isn't UTF-8\n"
-
--- and the status then
-abbrev pub no_words_status : NoWords → Status
-no_words_status no_words.NoMemory = statuses.NoMemory
-no_words_status no_words.NotText = statuses.Usage

@@ -1,7 +1,7 @@
 use Rattle.std.proofs.Common.{◌∙◌}
 use Rattle.clap.specs.Words.{found_of}
 use Rattle.clap.proofs.WalkLemmas.{first_value-rows}
-use Rattle.dbench.proofs.words.value_of.Goals as goal
+use Rattle.bench_words.proofs.words.value_of.Goals as goal
 
 -- the first value of an argument stands in the rows
 pub returns : goal.returns

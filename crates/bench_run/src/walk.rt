@@ -1,7 +1,7 @@
 //! `walk`: a table stepped over events, by callbacks that answer by the laws of all roles; the names that tables may use.
 ghost use Rattle.std.specs.Prelude.{◌≡◌, ◌≢◌, ◌⊎◌, ◌<◌, ◌≤◌, ◌+◌, ◌*◌, ◌-◌, ◌^◌, max, IfOk, OnErr};
 ghost use Rattle.bench_device.specs.Devices.{HasWriteCause, IsRun, Tells};
-ghost use Rattle.dbench.specs.Runs.{TellsNoMemory, TellsTable, WalksTable};
+ghost use Rattle.bench_run.specs.Runs.{TellsNoMemory, TellsTable, WalksTable};
 ghost use Rattle.law_text.specs.Sentences.{book_text};
 ghost use Rattle.role_tables.specs.Roles.{all_laws, table_named};
 ghost use Rattle.tab_walk.specs.Walks.{IsWalkedOn};

@@ -1,6 +1,6 @@
 //! What words ask for, over a reader and a writer in memory.
-use crate::run::main_on;
 use bench_device::{Counting, Inputs};
+use bench_run::main_on;
 use role_tables::PEER_TABLE;
 use std::test::Fail;
 

@@ -3,13 +3,13 @@ use Rattle.std.specs.Prelude.{◌≡◌, ◌≢◌, ◌⊎◌, List, [], option_
 use Rattle.clap.specs.Words.{Text}
 use Rattle.clap.specs.declared.error.kind.ErrorKind.{ErrorKind}
 use Rattle.clap.specs.declared.error.kind.ErrorKind.TheVariants.{DisplayHelp, DisplayVersion, OutOfMemory}
-use Rattle.dbench.specs.Words.{AreRefused, AskForText, Wanted, Read, Walk, Names, Table, Draw, Nothing, wanted, word_faults}
-use Rattle.dbench.specs.declared.words.Task.{Task}
-use Rattle.dbench.specs.declared.words.Task.TheVariants as tasks
-use Rattle.dbench.specs.declared.words.Asked.{Asked}
-use Rattle.dbench.specs.declared.words.Asked.TheVariants as asked
-use Rattle.dbench.specs.declared.words.WordsError.{WordsError}
-use Rattle.dbench.specs.declared.words.WordsError.TheVariants as errors
+use Rattle.bench_words.specs.Words.{AreRefused, AskForText, Wanted, Read, Walk, Names, Table, Draw, Nothing, wanted, word_faults}
+use Rattle.bench_words.specs.declared.words.Task.{Task}
+use Rattle.bench_words.specs.declared.words.Task.TheVariants as tasks
+use Rattle.bench_words.specs.declared.words.Asked.{Asked}
+use Rattle.bench_words.specs.declared.words.Asked.TheVariants as asked
+use Rattle.bench_words.specs.declared.words.WordsError.{WordsError}
+use Rattle.bench_words.specs.declared.words.WordsError.TheVariants as errors
 
 -- what a command asks for
 abbrev pub meaning : Task → Wanted

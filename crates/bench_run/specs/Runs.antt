@@ -5,7 +5,6 @@ use Rattle.bench_device.specs.Devices.{Tells}
 use Rattle.bench_device.specs.Inputs.{IsInput}
 use Rattle.bench_device.specs.declared.status.Status.{Status}
 use Rattle.bench_device.specs.declared.status.Status.TheVariants as statuses
-use Rattle.clap.specs.Words.{Text}
 use Rattle.law_text.specs.Sentences.{book_text}
 use Rattle.msg_text.specs.Inputs.{IsReport}
 use Rattle.msg_text.specs.Styles.{end_in, printed_in}
@@ -14,11 +13,11 @@ use Rattle.role_tables.specs.Roles.{all_laws, table_named}
 use Rattle.tab_draw.specs.Runs.{graph_status, graph_text}
 use Rattle.tab_text.specs.Faults.{first_fault}
 use Rattle.tab_walk.specs.Walks.{IsWalkedOn}
-use Rattle.dbench.specs.Words.{Wanted, Read, Walk, Names, Table, Draw, Nothing}
+use Rattle.bench_words.specs.Words.{Wanted, Read, Walk, Names, Table, Draw, Nothing}
 
 -- Messages of a file or of standard input were read: what was written out is what the text prints in the style, each of its lines by itself or not. Without a file the text
 -- is that of the source. It is done only where nothing is left to read, and refused only where something was read.
-pub record ReadsMessages {I O : Type 0} (remaining : I → Option (List ℕ)) (reads : I → ℕ) (contents : O → Option (List ℕ)) (style : Style) (by_line : Bool) (file : Option Text) (source source' : I) (sink sink' : O) (answer : Status) : Type 0 where
+pub record ReadsMessages {I O : Type 0} (remaining : I → Option (List ℕ)) (reads : I → ℕ) (contents : O → Option (List ℕ)) (style : Style) (by_line : Bool) (file : Option (List ℕ)) (source source' : I) (sink sink' : O) (answer : Status) : Type 0 where
   pub start : I
   pub no_read : reads start ≡ reads source
   pub standard : file ≡ None → start ≡ source

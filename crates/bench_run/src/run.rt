@@ -4,16 +4,17 @@ ghost use Rattle.std.specs.Io.KnownBytes.{IsAtEnd};
 ghost use Rattle.bench_device.specs.Devices.{HasWriteCause, IsRun, Tells};
 ghost use Rattle.msg_text.specs.Inputs.{IsReport};
 ghost use Rattle.msg_text.specs.Styles.{end_in, printed_in};
-ghost use Rattle.dbench.specs.Asked.{meaning};
-ghost use Rattle.dbench.specs.Runs.{IsMet, ReadsMessages, TellsNoMemory};
-ghost use Rattle.dbench.specs.Words.{AreRefused, AskForText, AsksInVain, no_words_status, no_words_text, wanted, word_faults};
+ghost use Rattle.bench_words.specs.Asked.{meaning};
+ghost use Rattle.bench_run.specs.Runs.{IsMet, ReadsMessages, TellsNoMemory};
+ghost use Rattle.bench_words.specs.Words.{AreRefused, AskForText, wanted, word_faults};
+ghost use Rattle.bench_run.specs.Ends.{AsksInVain, no_words_status, no_words_text};
 
 use crate::draw::draw;
 use crate::walk::{tell_names, tell_table, walk};
-use crate::words::{Asked, NoWords, Task, WordsError, parse_words};
 use bench_device::{
     ByteSink, ByteSource, FileSource, MAX_IDLE_WRITES, MAX_READS, Status, tell, tell_not_opened,
 };
+use bench_words::{Asked, NoWords, Task, WordsError, parse_words};
 use msg_text::{Style, read_lines, read_on};
 use std::alloc::Global;
 use std::convert::AsStr;
@@ -82,7 +83,7 @@ fn read_file<I: FileSource, O: ByteSink>(
 }
 
 /// Tells why there are no words: memory ran out, or they aren't understood since one of them isn't UTF-8.
-pub(crate) fn tell_no_words<O: ByteSink>(why: NoWords, sink: &mut O) -> Status
+pub fn tell_no_words<O: ByteSink>(why: NoWords, sink: &mut O) -> Status
     requires idle { O.idle sink.old ≡ 0 }
     requires failures { O.failures sink.old < 2 ^ 64 - 1 }
     ensures told { Tells O.contents O.failures O.idle sink.old sink.new (no_words_text why) (no_words_status why) result }

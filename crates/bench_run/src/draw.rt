@@ -1,7 +1,7 @@
 //! `draw`: a table as a graph.
 ghost use Rattle.std.specs.Prelude.{◌≡◌, ◌≢◌, ◌⊎◌, ◌<◌, ◌≤◌, ◌+◌, ◌-◌, ◌^◌, max};
 ghost use Rattle.bench_device.specs.Devices.{IsRun};
-ghost use Rattle.dbench.specs.Runs.{DrawsTable, TellsNoMemory};
+ghost use Rattle.bench_run.specs.Runs.{DrawsTable, TellsNoMemory};
 
 use bench_device::{
     ByteSink, FileSource, MAX_IDLE_WRITES, MAX_READS, Status, read_input, tell_unread,

@@ -7,12 +7,12 @@ use Rattle.clap.specs.declared.parser.matches.ArgMatches.TheViews.{out-ArgMatche
 use Rattle.clap.specs.declared.error.Error.{Error}
 use Rattle.clap.specs.declared.error.kind.ErrorKind.{ErrorKind}
 use Rattle.clap.proofs.OnLiterals.{clap_on_literals}
-use Rattle.dbench.specs.Words.{dbench_app, wanted, wanted_of, word_faults}
-use Rattle.dbench.specs.Asked.{IsAsked, IsRefusal}
-use Rattle.dbench.specs.declared.words.Asked.{Asked}
-use Rattle.dbench.specs.declared.words.Asked.TheVariants as asked
-use Rattle.dbench.specs.declared.words.WordsError.{WordsError}
-use Rattle.dbench.specs.declared.words.WordsError.TheVariants as errors
+use Rattle.bench_words.specs.Words.{dbench_app, wanted, wanted_of, word_faults}
+use Rattle.bench_words.specs.Asked.{IsAsked, IsRefusal}
+use Rattle.bench_words.specs.declared.words.Asked.{Asked}
+use Rattle.bench_words.specs.declared.words.Asked.TheVariants as asked
+use Rattle.bench_words.specs.declared.words.WordsError.{WordsError}
+use Rattle.bench_words.specs.declared.words.WordsError.TheVariants as errors
 
 -- the command line is of the kind that `clap` tells all about
 pub is_known : is_simple_and_free dbench_app ≡ true

@@ -1,8 +1,8 @@
 use Rattle.std.proofs.Common.{◌≡◌, List, map, ap, sym, ◌∙◌}
 use Rattle.clap.specs.Words.{App, Text, app_of, is_simple, is_simple_and_free, subcommand_of, subcommand_rows_of}
-use Rattle.dbench.specs.Words.{dbench_app, wanted_of}
-use Rattle.dbench.proofs.WordLemmas.{HasKind-of, IsAsked-error, faults-none, is_known, is_known_simple, used-is, wanted-used}
-use Rattle.dbench.proofs.words.parse_words.Goals as goal
+use Rattle.bench_words.specs.Words.{dbench_app, wanted_of}
+use Rattle.bench_words.proofs.WordLemmas.{HasKind-of, IsAsked-error, faults-none, is_known, is_known_simple, used-is, wanted-used}
+use Rattle.bench_words.proofs.words.parse_words.Goals as goal
 
 -- the error is of a kind that the words have
 pub returns-in-Err : goal.returns-in-Err

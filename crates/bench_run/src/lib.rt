@@ -1,0 +1,14 @@
+//! A run of the program: from words, an input and an output to a status.
+//!
+//! | File | What it does |
+//! |---|---|
+//! | `run` | what the words ask for, done; messages of a file or of standard input |
+//! | `walk` | the runs of `walk`, over callbacks that are made here |
+//! | `draw` | the runs of `draw` |
+#![tactic(auto)]
+
+mod draw;
+mod run;
+mod walk;
+
+pub use run::{main_on, tell_no_words};

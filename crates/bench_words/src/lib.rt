@@ -1,0 +1,14 @@
+//! The words on the command line, and what they ask for.
+//!
+//! | File | What it does |
+//! |---|---|
+//! | `texts` | help and usage |
+//! | `commands` | the words that are understood, for `clap` |
+//! | `words` | what given words ask for |
+#![tactic(auto)]
+
+mod commands;
+mod texts;
+mod words;
+
+pub use words::{Asked, NoWords, Task, WordsError, given_words, parse_words};
