@@ -5,8 +5,10 @@
 //! | `run` | what the words ask for, done; messages of a file or of standard input |
 //! | `walk` | the runs of `walk`, over callbacks that are made here |
 //! | `draw` | the runs of `draw` |
+//! | `asm` | the runs of `asm` |
 #![tactic(auto)]
 
+mod asm;
 mod draw;
 mod run;
 mod walk;

@@ -9,6 +9,7 @@ ghost use Rattle.bench_run.specs.Runs.{IsMet, ReadsMessages, TellsNoMemory};
 ghost use Rattle.bench_words.specs.Words.{AreRefused, AskForText, wanted, word_faults};
 ghost use Rattle.bench_run.specs.Ends.{AsksInVain, no_words_status, no_words_text};
 
+use crate::asm::assemble;
 use crate::draw::draw;
 use crate::walk::{tell_names, tell_table, walk};
 use bench_device::{
@@ -145,6 +146,7 @@ fn run<I: FileSource, O: ByteSink>(
         Task::Names => tell_names(alloc, sink),
         Task::Table(name) => tell_table(name, sink),
         Task::Draw(table) => draw(alloc, table, source, sink),
+        Task::Assemble(table) => assemble(alloc, table, source, sink),
         Task::Nothing(usage) => tell(sink, usage.as_bytes(), Status::Usage),
     }
 }

@@ -54,7 +54,7 @@ fn walk_by<O: ByteSink>(
     Ok(walk_on(alloc, table, &registry, events, sink))
 }
 
-fn tell_no_memory<O: ByteSink>(sink: &mut O) -> Status
+pub(crate) fn tell_no_memory<O: ByteSink>(sink: &mut O) -> Status
     requires idle { O.idle sink.old ≡ 0 }
     requires failures { O.failures sink.old < 2 ^ 64 - 1 }
     ensures told { TellsNoMemory O.contents O.failures O.idle sink.old sink.new result }

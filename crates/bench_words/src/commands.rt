@@ -2,11 +2,11 @@
 ghost use Rattle.std.specs.Prelude.{◌≡◌, IfOk, false};
 ghost use Rattle.clap.specs.Words.{app_of, new_app, new_rule, rule_of, with_rule};
 ghost use Rattle.clap.specs.declared.builder.command.Command.TheViews.{out-Command};
-ghost use Rattle.bench_words.specs.Words.{dbench_app, draw_app, flag_rule, option_rule, read_app, walk_app, walking_app};
+ghost use Rattle.bench_words.specs.Words.{dbench_app, asm_app, draw_app, flag_rule, option_rule, read_app, walk_app, walking_app};
 
 use crate::texts::{
-    ABOUT, DRAW_ABOUT, DRAW_LONG_ABOUT, READ_ABOUT, READ_LONG_ABOUT, STATUSES, WALK_ABOUT,
-    WALK_LONG_ABOUT,
+    ABOUT, ASM_ABOUT, ASM_LONG_ABOUT, DRAW_ABOUT, DRAW_LONG_ABOUT, READ_ABOUT, READ_LONG_ABOUT,
+    STATUSES, WALK_ABOUT, WALK_LONG_ABOUT,
 };
 use clap::{Arg, ArgAction, Command};
 use std::alloc::{AllocError, Global};
@@ -129,6 +129,18 @@ fn draw_command<'a>(alloc: Global) -> Result<Command<'a>, AllocError>
     with(bare(alloc, "draw", DRAW_ABOUT, DRAW_LONG_ABOUT), table)
 }
 
+fn asm_command<'a>(alloc: Global) -> Result<Command<'a>, AllocError>
+    ensures app { IfOk result (λ c. app_of c ≡ asm_app) }
+    ensures local { IfOk result (λ c. (out-Command c).has_globals ≡ false) }
+{
+    let table = value(
+        alloc,
+        "TABLE",
+        "The file of the table; without it, standard input",
+    );
+    with(bare(alloc, "asm", ASM_ABOUT, ASM_LONG_ABOUT), table)
+}
+
 fn walking_command<'a>(alloc: Global) -> Result<Command<'a>, AllocError>
     ensures { IfOk result (λ c. app_of c ≡ walking_app) }
 {
@@ -145,5 +157,7 @@ fn walking_command<'a>(alloc: Global) -> Result<Command<'a>, AllocError>
 pub(crate) fn command<'a>(alloc: Global) -> Result<Command<'a>, AllocError>
     ensures { IfOk result (λ c. app_of c ≡ dbench_app) }
 {
-    walking_command(alloc)?.subcommand(draw_command(alloc)?)
+    walking_command(alloc)?
+        .subcommand(draw_command(alloc)?)?
+        .subcommand(asm_command(alloc)?)
 }

@@ -61,6 +61,20 @@ rows that stay in a state stand in its box, and have one arrow together.
 
 `line N fault C` is the first fault of the table; the line below says what was wanted.";
 
+pub(crate) const ASM_ABOUT: &str = "Assemble a state table to an image";
+
+pub(crate) const ASM_LONG_ABOUT: &str = "\
+Assemble a state table to an image, and print it in hexadecimal.
+
+Reads TABLE, whose columns are State, Event, Action and Next. The image (format 2) holds for each state and kind of events
+the code of its rows alone, so a step costs the rows of one state and kind and not those of the table.
+
+  dbench asm peer.tbl > peer.img
+  dbench walk --table client | dbench asm
+
+`line N fault C` is the first fault of the table, `unbound NAME` a name of the table that `walk --names` doesn't list; the
+line below says what was wanted.";
+
 /// What is told where `read` asks for two styles.
 pub(crate) const READ_USAGE: &str = "\
 wanted at most one of: --explain, --json

@@ -54,6 +54,8 @@ pub enum Task<'a> {
     Table(&'a str),
     /// `draw`, of the table of this file or of standard input.
     Draw(Option<&'a str>),
+    /// `asm`, of the table of this file or of standard input.
+    Assemble(Option<&'a str>),
     /// Not one thing: what is told then.
     Nothing(&'static str),
 }
@@ -155,6 +157,9 @@ fn task_of<'a>(name: &str, found: &ArgMatches<'a>) -> Task<'a>
 {
     if name == "draw" {
         return Task::Draw(value_of(found, "TABLE"));
+    }
+    if name == "asm" {
+        return Task::Assemble(value_of(found, "TABLE"));
     }
     if name == "walk" {
         let names = is_given(value_of(found, "names"));
