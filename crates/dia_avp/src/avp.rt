@@ -6,13 +6,26 @@ use std::alloc::{AllocError, Global};
 
 /// An attribute-value pair (RFC 6733 section 4.1). `vendor` is the Vendor-ID, which stands there only with flag V;
 /// 0 is written as none. `mandatory` and `protected` are the flags M and P. `octets` is the data, without padding.
-#[derive(Debug, Drop)]
+#[derive(Debug)]
 pub struct Avp {
     pub code: u32,
     pub vendor: Option<u32>,
     pub mandatory: bool,
     pub protected: bool,
     pub octets: Octets,
+}
+
+// A derived `drop` is proved anew in each crate that holds an AVP; this one is a call.
+impl Drop for Avp {
+    fn drop(self) {
+        let Avp {
+            code: _,
+            vendor: _,
+            mandatory: _,
+            protected: _,
+            octets,
+        } = self;
+    }
 }
 
 /// An AVP whose data lies where it was read. Takes no memory.

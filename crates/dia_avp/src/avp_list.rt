@@ -6,9 +6,16 @@ use std::alloc::{AllocError, Global};
 use std::marker::Model;
 
 /// AVPs in order. A contract sees them as the list of their values.
-#[derive(Debug, Drop)]
+#[derive(Debug)]
 pub struct AvpList {
     avps: Vec<Avp>,
+}
+
+// A derived `drop` is proved anew in each crate that holds a list; this one is a call.
+impl Drop for AvpList {
+    fn drop(self) {
+        let AvpList { avps } = self;
+    }
 }
 
 impl Model for AvpList {
@@ -50,7 +57,8 @@ impl AvpList {
     pub fn into_vec(self) -> Vec<Avp>
         ensures { result.items ≡ self }
     {
-        self.avps
+        let AvpList { avps } = self;
+        avps
     }
 
     /// How many AVPs there are.

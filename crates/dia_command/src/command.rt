@@ -19,7 +19,6 @@ macro_rules! dropped {
 }
 
 /// A Capabilities-Exchange-Request (RFC 6733 section 5.3.1). `rest` has the AVPs that no field took, in order.
-#[derive(Debug)]
 pub struct CapabilitiesExchangeRequest {
     pub header: Header,
     pub origin_host: TypedAvp<Octets>,
@@ -40,7 +39,6 @@ impl Drop for CapabilitiesExchangeRequest {
 }
 
 /// A Capabilities-Exchange-Answer (RFC 6733 section 5.3.2). `rest` has the AVPs that no field took, in order.
-#[derive(Debug)]
 pub struct CapabilitiesExchangeAnswer {
     pub header: Header,
     pub result_code: TypedAvp<u32>,
@@ -63,7 +61,6 @@ impl Drop for CapabilitiesExchangeAnswer {
 }
 
 /// A Device-Watchdog-Request (RFC 6733 section 5.5.1). `rest` has the AVPs that no field took, in order.
-#[derive(Debug)]
 pub struct DeviceWatchdogRequest {
     pub header: Header,
     pub origin_host: TypedAvp<Octets>,
@@ -78,7 +75,6 @@ impl Drop for DeviceWatchdogRequest {
 }
 
 /// A Device-Watchdog-Answer (RFC 6733 section 5.5.2). `rest` has the AVPs that no field took, in order.
-#[derive(Debug)]
 pub struct DeviceWatchdogAnswer {
     pub header: Header,
     pub result_code: TypedAvp<u32>,
@@ -94,7 +90,6 @@ impl Drop for DeviceWatchdogAnswer {
 }
 
 /// A Disconnect-Peer-Request (RFC 6733 section 5.4.1). `rest` has the AVPs that no field took, in order.
-#[derive(Debug)]
 pub struct DisconnectPeerRequest {
     pub header: Header,
     pub origin_host: TypedAvp<Octets>,
@@ -110,7 +105,6 @@ impl Drop for DisconnectPeerRequest {
 }
 
 /// A Disconnect-Peer-Answer (RFC 6733 section 5.4.2). `rest` has the AVPs that no field took, in order.
-#[derive(Debug)]
 pub struct DisconnectPeerAnswer {
     pub header: Header,
     pub result_code: TypedAvp<u32>,
@@ -126,7 +120,6 @@ impl Drop for DisconnectPeerAnswer {
 }
 
 /// A Re-Auth-Request (RFC 6733 section 8.3.1). `rest` has the AVPs that no field took, in order.
-#[derive(Debug)]
 pub struct ReAuthRequest {
     pub header: Header,
     pub session_id: TypedAvp<Text>,
@@ -149,7 +142,6 @@ impl Drop for ReAuthRequest {
 }
 
 /// A Re-Auth-Answer (RFC 6733 section 8.3.2). `rest` has the AVPs that no field took, in order.
-#[derive(Debug)]
 pub struct ReAuthAnswer {
     pub header: Header,
     pub session_id: TypedAvp<Text>,
@@ -166,7 +158,6 @@ impl Drop for ReAuthAnswer {
 }
 
 /// A Credit-Control-Request (RFC 8506 section 3.1). `rest` has the AVPs that no field took, in order.
-#[derive(Debug)]
 pub struct CreditControlRequest {
     pub header: Header,
     pub session_id: TypedAvp<Text>,
@@ -198,7 +189,6 @@ impl Drop for CreditControlRequest {
 }
 
 /// A Credit-Control-Answer (RFC 8506 section 3.2). `rest` has the AVPs that no field took, in order.
-#[derive(Debug)]
 pub struct CreditControlAnswer {
     pub header: Header,
     pub session_id: TypedAvp<Text>,
@@ -226,7 +216,6 @@ impl Drop for CreditControlAnswer {
 }
 
 /// An answer that tells a fault (RFC 6733 section 7.2). `rest` has the AVPs that no field took, in order.
-#[derive(Debug)]
 pub struct ErrorAnswer {
     pub header: Header,
     pub session_id: Option<TypedAvp<Text>>,
@@ -244,7 +233,6 @@ impl Drop for ErrorAnswer {
 }
 
 /// A message, by its command.
-#[derive(Debug)]
 pub enum Command {
     Cer(CapabilitiesExchangeRequest),
     Cea(CapabilitiesExchangeAnswer),

@@ -4,7 +4,6 @@ use std::alloc::{AllocError, Global};
 use std::marker::Model;
 
 /// The value of an AVP, with the flags M and P that it was read with or is to be written with (RFC 6733 section 4.1).
-#[derive(Debug)]
 pub struct TypedAvp<T> {
     pub mandatory: bool,
     pub protected: bool,
@@ -22,9 +21,14 @@ impl<T: Drop> Drop for TypedAvp<T> {
 }
 
 /// The values of AVPs of one code, in order. A contract sees them as a list.
-#[derive(Debug, Drop)]
 pub struct TypedAvps<T> {
     avps: Vec<TypedAvp<T>>,
+}
+
+impl<T: Drop> Drop for TypedAvps<T> {
+    fn drop(self) {
+        let TypedAvps { avps } = self;
+    }
 }
 
 impl<T> Model for TypedAvps<T> {

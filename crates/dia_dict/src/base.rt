@@ -1,10 +1,16 @@
 //! The AVPs that every dictionary has, a line each, by AVP Code.
 
+ghost use Rattle.std.specs.Prelude.{◌≡◌, map};
+ghost use Rattle.dia_dict.specs.Base.{base, of_line};
+
 use crate::definition::AvpKind;
+
+/// AVP Code, name and type of an AVP without a vendor.
+pub(crate) type Line = (u32, &'static str, AvpKind);
 
 /// AVP Code, name and type of each AVP, none of a vendor (RFC 6733 section 4.5, RFC 8506 section 8). Failed-AVP and
 /// Proxy-Info, which RFC 6733 makes Grouped, are kept as octets and not looked into.
-pub(crate) const BASE: [(u32, &str, AvpKind); 56] = [
+const BASE: &[Line] = &[
     (1, "User-Name", AvpKind::Utf8String),
     (55, "Event-Timestamp", AvpKind::Time),
     (257, "Host-IP-Address", AvpKind::Address),
@@ -62,3 +68,10 @@ pub(crate) const BASE: [(u32, &str, AvpKind); 56] = [
     (460, "User-Equipment-Info-Value", AvpKind::OctetString),
     (461, "Service-Context-Id", AvpKind::Utf8String),
 ];
+
+/// The lines of all.
+pub(crate) fn lines() -> &'static [Line]
+    ensures { map of_line result.now ≡ base }
+{
+    BASE
+}

@@ -16,9 +16,15 @@ use std::marker::Model;
 
 /// AVP definitions: those of the base protocol and of credit control, and then those that were added, in order of adding.
 /// A contract sees a dictionary as the list of the added ones; `known` is the list of all.
-#[derive(Drop)]
 pub struct Dictionary {
     table: Table,
+}
+
+// A derived `drop` is proved anew in each crate that holds a dictionary; this one is a call.
+impl Drop for Dictionary {
+    fn drop(self) {
+        let Dictionary { table } = self;
+    }
 }
 
 impl Model for Dictionary {

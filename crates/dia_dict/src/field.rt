@@ -7,7 +7,7 @@ use crate::definition::AvpKind;
 use dia_avp::{Address, AvpView, AvpsIn, FieldFault};
 
 /// The value of an AVP's data, where it was read.
-#[derive(Clone, Copy, Debug, PartialEq, Eq)]
+#[derive(Clone, Copy, PartialEq, Eq)]
 pub enum Field<'a> {
     /// An Unsigned32, an Enumerated or a Time.
     Number(u32),
@@ -34,14 +34,30 @@ impl AvpKind {
         ensures fault { IfErr result (λ f. data_fault self avp.now.octets.now ≡ Some (fault_of_field f)) }
     {
         match self {
-            AvpKind::Unsigned32 | AvpKind::Enumerated | AvpKind::Time => {
-                Ok(Field::Number(avp.as_u32()?))
-            }
-            AvpKind::Unsigned64 => Ok(Field::Number64(avp.as_u64()?)),
-            AvpKind::Utf8String => Ok(Field::Text(avp.as_text()?)),
-            AvpKind::DiameterIdentity => Ok(Field::Identity(avp.as_identity()?)),
-            AvpKind::Address => Ok(Field::Address(avp.as_address()?)),
-            AvpKind::Grouped => Ok(Field::Group(avp.as_group(1)?)),
+            AvpKind::Unsigned32 | AvpKind::Enumerated | AvpKind::Time => match avp.as_u32() {
+                Ok(number) => Ok(Field::Number(number)),
+                Err(fault) => Err(fault),
+            },
+            AvpKind::Unsigned64 => match avp.as_u64() {
+                Ok(number) => Ok(Field::Number64(number)),
+                Err(fault) => Err(fault),
+            },
+            AvpKind::Utf8String => match avp.as_text() {
+                Ok(text) => Ok(Field::Text(text)),
+                Err(fault) => Err(fault),
+            },
+            AvpKind::DiameterIdentity => match avp.as_identity() {
+                Ok(identity) => Ok(Field::Identity(identity)),
+                Err(fault) => Err(fault),
+            },
+            AvpKind::Address => match avp.as_address() {
+                Ok(address) => Ok(Field::Address(address)),
+                Err(fault) => Err(fault),
+            },
+            AvpKind::Grouped => match avp.as_group(1) {
+                Ok(group) => Ok(Field::Group(group)),
+                Err(fault) => Err(fault),
+            },
             AvpKind::OctetString => Ok(Field::Octets(avp.octets)),
         }
     }

@@ -5,7 +5,7 @@ ghost use Rattle.std.specs.Option.{option_copied};
 ghost use Rattle.base_list.specs.Adding.{error_of};
 ghost use Rattle.dia_dict.specs.Dictionary.{is_of as is_definition_of};
 
-use crate::base::BASE;
+use crate::base::lines;
 use crate::definition::{AvpKind, Definition};
 use base_list::{AddError, AddFault, Octets};
 use std::alloc::{AllocError, Global};
@@ -81,12 +81,12 @@ impl Table {
         ensures { IfOk result (λ t. t ≡ base) }
     {
         let mut table = Table::new(alloc);
-        for (code, name, kind) in BASE {
+        for (code, name, kind) in lines() {
             table.append(Definition {
-                code,
+                code: *code,
                 vendor: None,
                 name: Octets::from_slice(alloc, name.as_bytes())?,
-                kind,
+                kind: *kind,
             })?;
         }
         Ok(table)

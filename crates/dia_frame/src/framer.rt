@@ -13,13 +13,25 @@ use std::marker::Model;
 ///
 /// In: `feed`. Out: `next_frame`. Looks: `rest`, `rest_len`. The feed that finds a fault keeps the frames
 /// before it, which are still handed out.
-#[derive(Drop)]
 pub struct Framer {
     alloc: Global,
     limit: usize,
     waiting: VecDeque<Octets>,
     rest: Vec<u8>,
     broken: bool,
+}
+
+// A derived `drop` is proved anew in each crate that holds a Framer; this one is a call.
+impl Drop for Framer {
+    fn drop(self) {
+        let Framer {
+            alloc: _,
+            limit: _,
+            waiting,
+            rest,
+            broken: _,
+        } = self;
+    }
 }
 
 impl Model for Framer {

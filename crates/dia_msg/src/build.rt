@@ -1,5 +1,7 @@
 //! From the AVPs of a message, sorted by the format of its command, to the command: each field is made of the AVPs that its
 //! entry takes, and the rest of those that no entry takes. The numbers are the places of the fields in the format.
+//!
+//! What needs memory is made first, and of that what may be missing last: fewer values are then dropped where memory runs out.
 
 ghost use Rattle.std.specs.Prelude.{◌≡◌, IfOk, false};
 ghost use Rattle.dia_command.specs.Format.{format_of};
@@ -21,14 +23,14 @@ impl Source<'_> {
         ensures { IfOk result (IsBuilt self.now.dictionary.now (format_of CommandKind.CapabilitiesExchangeRequest false) (seen_all self.now.avps.now) CommandKind.CapabilitiesExchangeRequest header) }
     {
         Ok(Command::Cer(CapabilitiesExchangeRequest {
-            header,
             origin_host: self.one(0)?,
             origin_realm: self.one(1)?,
             host_ip_address: self.all(2)?,
-            vendor_id: self.one(3)?,
             product_name: self.one(4)?,
             auth_application_id: self.all(5)?,
             rest: self.rest()?,
+            header,
+            vendor_id: self.number(3),
         }))
     }
 
@@ -38,15 +40,15 @@ impl Source<'_> {
         ensures { IfOk result (IsBuilt self.now.dictionary.now (format_of CommandKind.CapabilitiesExchangeAnswer false) (seen_all self.now.avps.now) CommandKind.CapabilitiesExchangeAnswer header) }
     {
         Ok(Command::Cea(CapabilitiesExchangeAnswer {
-            header,
-            result_code: self.one(0)?,
             origin_host: self.one(1)?,
             origin_realm: self.one(2)?,
             host_ip_address: self.all(3)?,
-            vendor_id: self.one(4)?,
             product_name: self.one(5)?,
             auth_application_id: self.all(6)?,
             rest: self.rest()?,
+            header,
+            result_code: self.number(0),
+            vendor_id: self.number(4),
         }))
     }
 
@@ -56,10 +58,10 @@ impl Source<'_> {
         ensures { IfOk result (IsBuilt self.now.dictionary.now (format_of CommandKind.DeviceWatchdogRequest false) (seen_all self.now.avps.now) CommandKind.DeviceWatchdogRequest header) }
     {
         Ok(Command::Dwr(DeviceWatchdogRequest {
-            header,
             origin_host: self.one(0)?,
             origin_realm: self.one(1)?,
             rest: self.rest()?,
+            header,
         }))
     }
 
@@ -69,11 +71,11 @@ impl Source<'_> {
         ensures { IfOk result (IsBuilt self.now.dictionary.now (format_of CommandKind.DeviceWatchdogAnswer false) (seen_all self.now.avps.now) CommandKind.DeviceWatchdogAnswer header) }
     {
         Ok(Command::Dwa(DeviceWatchdogAnswer {
-            header,
-            result_code: self.one(0)?,
             origin_host: self.one(1)?,
             origin_realm: self.one(2)?,
             rest: self.rest()?,
+            header,
+            result_code: self.number(0),
         }))
     }
 
@@ -83,11 +85,11 @@ impl Source<'_> {
         ensures { IfOk result (IsBuilt self.now.dictionary.now (format_of CommandKind.DisconnectPeerRequest false) (seen_all self.now.avps.now) CommandKind.DisconnectPeerRequest header) }
     {
         Ok(Command::Dpr(DisconnectPeerRequest {
-            header,
             origin_host: self.one(0)?,
             origin_realm: self.one(1)?,
-            disconnect_cause: self.one(2)?,
             rest: self.rest()?,
+            header,
+            disconnect_cause: self.number(2),
         }))
     }
 
@@ -97,11 +99,11 @@ impl Source<'_> {
         ensures { IfOk result (IsBuilt self.now.dictionary.now (format_of CommandKind.DisconnectPeerAnswer false) (seen_all self.now.avps.now) CommandKind.DisconnectPeerAnswer header) }
     {
         Ok(Command::Dpa(DisconnectPeerAnswer {
-            header,
-            result_code: self.one(0)?,
             origin_host: self.one(1)?,
             origin_realm: self.one(2)?,
             rest: self.rest()?,
+            header,
+            result_code: self.number(0),
         }))
     }
 
@@ -111,15 +113,15 @@ impl Source<'_> {
         ensures { IfOk result (IsBuilt self.now.dictionary.now (format_of CommandKind.ReAuthRequest false) (seen_all self.now.avps.now) CommandKind.ReAuthRequest header) }
     {
         Ok(Command::Rar(ReAuthRequest {
-            header,
             session_id: self.one(0)?,
             origin_host: self.one(1)?,
             origin_realm: self.one(2)?,
             destination_realm: self.one(3)?,
             destination_host: self.one(4)?,
-            auth_application_id: self.one(5)?,
-            re_auth_request_type: self.one(6)?,
             rest: self.rest()?,
+            header,
+            auth_application_id: self.number(5),
+            re_auth_request_type: self.number(6),
         }))
     }
 
@@ -129,12 +131,12 @@ impl Source<'_> {
         ensures { IfOk result (IsBuilt self.now.dictionary.now (format_of CommandKind.ReAuthAnswer false) (seen_all self.now.avps.now) CommandKind.ReAuthAnswer header) }
     {
         Ok(Command::Raa(ReAuthAnswer {
-            header,
             session_id: self.one(0)?,
-            result_code: self.one(1)?,
             origin_host: self.one(2)?,
             origin_realm: self.one(3)?,
             rest: self.rest()?,
+            header,
+            result_code: self.number(1),
         }))
     }
 
@@ -144,22 +146,22 @@ impl Source<'_> {
         ensures { IfOk result (IsBuilt self.now.dictionary.now (format_of CommandKind.CreditControlRequest event) (seen_all self.now.avps.now) CommandKind.CreditControlRequest header) }
     {
         Ok(Command::Ccr(CreditControlRequest {
-            header,
             session_id: self.one(0)?,
             origin_host: self.one(1)?,
             origin_realm: self.one(2)?,
             destination_realm: self.one(3)?,
-            auth_application_id: self.one(4)?,
             service_context_id: self.one(5)?,
-            cc_request_type: self.one(6)?,
-            cc_request_number: self.one(7)?,
             subscription_id: self.all(8)?,
-            requested_action: self.perhaps(9)?,
-            requested_service_unit: self.perhaps(10)?,
             used_service_unit: self.all(11)?,
-            multiple_services_indicator: self.perhaps(12)?,
             multiple_services_credit_control: self.all(13)?,
             rest: self.rest()?,
+            requested_service_unit: self.perhaps(10)?,
+            header,
+            auth_application_id: self.number(4),
+            cc_request_type: self.number(6),
+            cc_request_number: self.number(7),
+            requested_action: self.perhaps_number(9),
+            multiple_services_indicator: self.perhaps_number(12),
         }))
     }
 
@@ -169,19 +171,19 @@ impl Source<'_> {
         ensures { IfOk result (IsBuilt self.now.dictionary.now (format_of CommandKind.CreditControlAnswer false) (seen_all self.now.avps.now) CommandKind.CreditControlAnswer header) }
     {
         Ok(Command::Cca(CreditControlAnswer {
-            header,
             session_id: self.one(0)?,
-            result_code: self.one(1)?,
             origin_host: self.one(2)?,
             origin_realm: self.one(3)?,
-            auth_application_id: self.one(4)?,
-            cc_request_type: self.one(5)?,
-            cc_request_number: self.one(6)?,
-            granted_service_unit: self.perhaps(7)?,
-            final_unit_indication: self.perhaps(8)?,
-            check_balance_result: self.perhaps(9)?,
             multiple_services_credit_control: self.all(10)?,
             rest: self.rest()?,
+            granted_service_unit: self.perhaps(7)?,
+            final_unit_indication: self.perhaps(8)?,
+            header,
+            result_code: self.number(1),
+            auth_application_id: self.number(4),
+            cc_request_type: self.number(5),
+            cc_request_number: self.number(6),
+            check_balance_result: self.perhaps_number(9),
         }))
     }
 
@@ -191,13 +193,13 @@ impl Source<'_> {
         ensures { IfOk result (IsBuilt self.now.dictionary.now (format_of CommandKind.ErrorAnswer false) (seen_all self.now.avps.now) CommandKind.ErrorAnswer header) }
     {
         Ok(Command::ErrorAnswer(ErrorAnswer {
-            header,
-            session_id: self.perhaps(0)?,
             origin_host: self.one(1)?,
             origin_realm: self.one(2)?,
-            result_code: self.one(3)?,
-            failed_avp: self.perhaps(4)?,
             rest: self.rest()?,
+            session_id: self.perhaps(0)?,
+            failed_avp: self.perhaps(4)?,
+            header,
+            result_code: self.number(3),
         }))
     }
 

@@ -15,7 +15,7 @@ use dia_command::AvpFormat;
 pub(crate) const MAX_ENTRIES: usize = 16;
 
 /// Where the AVPs lie that a format takes first, one for each of its entries, and those that it does not take.
-#[derive(Debug, Drop)]
+#[derive(Drop)]
 pub(crate) struct Sorted {
     pub firsts: [Option<u8>; MAX_ENTRIES],
     pub rest: ArrayVec<u8, MAX_AVPS>,

@@ -84,30 +84,6 @@ impl FromAvp for u32 {
     }
 }
 
-impl FromAvp for RequestType {
-    ghost is_value = { λ d. IsType };
-
-    ghost has_kind = { λ d code. code ≡ 416 };
-
-    fn from_avp(_: Global, _: &Dictionary, avp: &AvpView<'_>) -> Result<RequestType, AllocError> {
-        Ok(number_of(avp).and_then(RequestType::coded).unwrap())
-    }
-}
-
-impl FromAvp for RequestedAction {
-    ghost is_value = { λ d. IsAction };
-
-    ghost has_kind = { AreNumbers };
-
-    fn from_avp(
-        _: Global,
-        _: &Dictionary,
-        avp: &AvpView<'_>,
-    ) -> Result<RequestedAction, AllocError> {
-        Ok(RequestedAction::coded(number_of(avp).unwrap()))
-    }
-}
-
 impl FromAvp for AvpList {
     ghost is_value = { IsGroup };
 
@@ -119,6 +95,48 @@ impl FromAvp for AvpList {
         avp: &AvpView<'_>,
     ) -> Result<AvpList, AllocError> {
         group_list(alloc, dictionary, avp.octets)
+    }
+}
+
+/// How the value of a field is made of an AVP's data, where it is a number.
+pub(crate) trait FromNumber: Drop {
+    // The value that data are, and the AVP Codes whose data are such a value.
+    ghost is_value: { List Definition → List ℕ → Self → Type 0 };
+
+    ghost has_kind: { List Definition → ℕ → Type 0 };
+
+    fn from_number(avp: &AvpView<'_>) -> Self
+        requires { (added : List Definition) × (code : ℕ) × has_kind added code × IsSound added code (seen avp.now) }
+        ensures { (definitions : List Definition) → is_value definitions avp.now.octets.now result };
+}
+
+impl FromNumber for u32 {
+    ghost is_value = { λ d. IsNumber };
+
+    ghost has_kind = { AreNumbers };
+
+    fn from_number(avp: &AvpView<'_>) -> u32 {
+        number_of(avp).unwrap()
+    }
+}
+
+impl FromNumber for RequestType {
+    ghost is_value = { λ d. IsType };
+
+    ghost has_kind = { λ d code. code ≡ 416 };
+
+    fn from_number(avp: &AvpView<'_>) -> RequestType {
+        number_of(avp).and_then(RequestType::coded).unwrap()
+    }
+}
+
+impl FromNumber for RequestedAction {
+    ghost is_value = { λ d. IsAction };
+
+    ghost has_kind = { AreNumbers };
+
+    fn from_number(avp: &AvpView<'_>) -> RequestedAction {
+        RequestedAction::coded(number_of(avp).unwrap())
     }
 }
 
@@ -156,6 +174,41 @@ impl Source<'_> {
         ensures { IfOk result (λ f. AreTypedOf (T.is_value (known self.now.dictionary.now)) (f ∷ []) (takes self.now.format.now (seen_all self.now.avps.now) place)) }
     {
         Ok(self.perhaps(place)?.unwrap())
+    }
+
+    // The number that an AVP is, with its flags.
+    fn number_value<T: FromNumber>(&self, avp: &AvpView<'_>) -> TypedAvp<T>
+        requires { (code : ℕ) × T.has_kind self.now.dictionary.now code × IsSound self.now.dictionary.now code (seen avp.now) }
+        ensures { IsTypedOf (T.is_value (known self.now.dictionary.now)) result (seen avp.now) }
+    {
+        TypedAvp {
+            mandatory: avp.mandatory,
+            protected: avp.protected,
+            value: T::from_number(avp),
+        }
+    }
+
+    /// The number of an entry whose AVP may be there. Takes no memory.
+    pub fn perhaps_number<T: FromNumber>(&self, place: usize) -> Option<TypedAvp<T>>
+        requires ready { IsReady self.now.dictionary.now self.now.format.now (seen_all self.now.avps.now) self.now.sorted.now }
+        requires held { IsPerhaps self.now.format.now place }
+        requires kind { T.has_kind self.now.dictionary.now (entry_at self.now.format.now place).code }
+        ensures { AreTypedOf (T.is_value (known self.now.dictionary.now)) (option_to_list result) (takes self.now.format.now (seen_all self.now.avps.now) place) }
+    {
+        match self.sorted.first(place, self.avps) {
+            Some(avp) => Some(self.number_value(&avp)),
+            None => None,
+        }
+    }
+
+    /// The number of an entry whose AVP must be there. Takes no memory.
+    pub fn number<T: FromNumber>(&self, place: usize) -> TypedAvp<T>
+        requires ready { IsReady self.now.dictionary.now self.now.format.now (seen_all self.now.avps.now) self.now.sorted.now }
+        requires held { IsOne self.now.format.now place }
+        requires kind { T.has_kind self.now.dictionary.now (entry_at self.now.format.now place).code }
+        ensures { AreTypedOf (T.is_value (known self.now.dictionary.now)) (result ∷ []) (takes self.now.format.now (seen_all self.now.avps.now) place) }
+    {
+        self.perhaps_number(place).unwrap()
     }
 
     /// The values of an entry of any number of AVPs.

@@ -13,11 +13,18 @@ use thiserror::Error;
 /// A message's first fault. `failed` is what Failed-AVP is to hold (RFC 6733 section 7.5): for an unknown AVP or a bad
 /// value the AVP as read; for a bad length its header with zeros of the least size of its type; for a missing one
 /// likewise, with flag M.
-#[derive(Debug, Drop, Error)]
+#[derive(Debug, Error)]
 #[error("{result}")]
 pub struct MsgFault {
     pub result: ResultCode,
     pub failed: Option<Avp>,
+}
+
+// A derived `drop` is proved anew in each crate that holds a fault; this one is a call.
+impl Drop for MsgFault {
+    fn drop(self) {
+        let MsgFault { result: _, failed } = self;
+    }
 }
 
 /// A fault whose failed AVP lies where it was read. Takes no memory.

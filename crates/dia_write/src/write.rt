@@ -14,7 +14,12 @@ use crate::values::{Content, Item, Values};
 use base_codes::{AVP_HEADER_LEN, HEADER_LEN, MAX_LENGTH};
 use byteorder::{BigEndian, ByteOrder};
 use dia_avp::{AvpList, AvpView, WriteError, put_avp, put_avps, put_group};
-use dia_command::{AvpFormat, Command, Header, format_of};
+use dia_command::{
+    AvpFormat, CapabilitiesExchangeAnswer, CapabilitiesExchangeRequest, Command,
+    CreditControlAnswer, CreditControlRequest, DeviceWatchdogAnswer, DeviceWatchdogRequest,
+    DisconnectPeerAnswer, DisconnectPeerRequest, ErrorAnswer, Header, ReAuthAnswer, ReAuthRequest,
+    format_of,
+};
 use std::slice::from_ref;
 
 // The sum of two lengths, where 24 bits hold it.
@@ -183,10 +188,10 @@ fn write_fields(
     Ok(())
 }
 
-// Appends a command whose fields these are, each with the type of its values: `[field]` has one, `field` none or more.
-macro_rules! append {
-    ($command:ident, $out:ident, $c:ident: $($of:ident $field:tt),*) => {
-        write_fields($command, &[$(Values::$of(values!($c $field))),*], $out)
+// A command's fields, each with the type of its values: `[field]` has one, `field` none or more.
+macro_rules! listed {
+    ($c:ident: $($of:ident $field:tt),*) => {
+        [$(Values::$of(values!($c $field))),*]
     };
 }
 
@@ -199,55 +204,115 @@ macro_rules! values {
     };
 }
 
+fn capabilities_exchange_request_fields(c: &CapabilitiesExchangeRequest) -> [Values<'_>; 6]
+    ensures { map field_of result ≡ fields (Command.Cer c.now) }
+{
+    listed![c:
+        Octets [origin_host], Octets [origin_realm], Octets host_ip_address,
+        Numbers [vendor_id], Texts [product_name], Numbers auth_application_id
+    ]
+}
+
+fn capabilities_exchange_answer_fields(c: &CapabilitiesExchangeAnswer) -> [Values<'_>; 7]
+    ensures { map field_of result ≡ fields (Command.Cea c.now) }
+{
+    listed![c:
+        Numbers [result_code], Octets [origin_host], Octets [origin_realm],
+        Octets host_ip_address, Numbers [vendor_id], Texts [product_name],
+        Numbers auth_application_id
+    ]
+}
+
+fn device_watchdog_request_fields(c: &DeviceWatchdogRequest) -> [Values<'_>; 2]
+    ensures { map field_of result ≡ fields (Command.Dwr c.now) }
+{
+    listed![c: Octets [origin_host], Octets [origin_realm]]
+}
+
+fn device_watchdog_answer_fields(c: &DeviceWatchdogAnswer) -> [Values<'_>; 3]
+    ensures { map field_of result ≡ fields (Command.Dwa c.now) }
+{
+    listed![c: Numbers [result_code], Octets [origin_host], Octets [origin_realm]]
+}
+
+fn disconnect_peer_request_fields(c: &DisconnectPeerRequest) -> [Values<'_>; 3]
+    ensures { map field_of result ≡ fields (Command.Dpr c.now) }
+{
+    listed![c: Octets [origin_host], Octets [origin_realm], Numbers [disconnect_cause]]
+}
+
+fn disconnect_peer_answer_fields(c: &DisconnectPeerAnswer) -> [Values<'_>; 3]
+    ensures { map field_of result ≡ fields (Command.Dpa c.now) }
+{
+    listed![c: Numbers [result_code], Octets [origin_host], Octets [origin_realm]]
+}
+
+fn re_auth_request_fields(c: &ReAuthRequest) -> [Values<'_>; 7]
+    ensures { map field_of result ≡ fields (Command.Rar c.now) }
+{
+    listed![c:
+        Texts [session_id], Octets [origin_host], Octets [origin_realm],
+        Octets [destination_realm], Octets [destination_host], Numbers [auth_application_id],
+        Numbers [re_auth_request_type]
+    ]
+}
+
+fn re_auth_answer_fields(c: &ReAuthAnswer) -> [Values<'_>; 4]
+    ensures { map field_of result ≡ fields (Command.Raa c.now) }
+{
+    listed![c:
+        Texts [session_id], Numbers [result_code], Octets [origin_host], Octets [origin_realm]
+    ]
+}
+
+fn credit_control_request_fields(c: &CreditControlRequest) -> [Values<'_>; 14]
+    ensures { map field_of result ≡ fields (Command.Ccr c.now) }
+{
+    listed![c:
+        Texts [session_id], Octets [origin_host], Octets [origin_realm],
+        Octets [destination_realm], Numbers [auth_application_id], Texts [service_context_id],
+        Types [cc_request_type], Numbers [cc_request_number], Groups subscription_id,
+        Actions requested_action, Groups requested_service_unit, Groups used_service_unit,
+        Numbers multiple_services_indicator, Groups multiple_services_credit_control
+    ]
+}
+
+fn credit_control_answer_fields(c: &CreditControlAnswer) -> [Values<'_>; 11]
+    ensures { map field_of result ≡ fields (Command.Cca c.now) }
+{
+    listed![c:
+        Texts [session_id], Numbers [result_code], Octets [origin_host], Octets [origin_realm],
+        Numbers [auth_application_id], Types [cc_request_type], Numbers [cc_request_number],
+        Groups granted_service_unit, Groups final_unit_indication, Numbers check_balance_result,
+        Groups multiple_services_credit_control
+    ]
+}
+
+fn error_answer_fields(c: &ErrorAnswer) -> [Values<'_>; 5]
+    ensures { map field_of result ≡ fields (Command.ErrorAnswer c.now) }
+{
+    listed![c:
+        Texts session_id, Octets [origin_host], Octets [origin_realm], Numbers [result_code],
+        Octets failed_avp
+    ]
+}
+
 // Appends a command, its fields in the order of its format.
 fn write_command(command: &Command, out: &mut Vec<u8>) -> Result<(), WriteError>
     ensures { Writes command.now result out.old.items out.new.items (vec_len out.old) (vec_capacity out.old) (vec_capacity out.new) }
 {
     match command {
-        Command::Cer(c) => append! { command, out, c:
-            Octets [origin_host], Octets [origin_realm], Octets host_ip_address,
-            Numbers [vendor_id], Texts [product_name], Numbers auth_application_id
-        },
-        Command::Cea(c) => append! { command, out, c:
-            Numbers [result_code], Octets [origin_host], Octets [origin_realm],
-            Octets host_ip_address, Numbers [vendor_id], Texts [product_name],
-            Numbers auth_application_id
-        },
-        Command::Dwr(c) => append!(command, out, c: Octets [origin_host], Octets [origin_realm]),
-        Command::Dwa(c) => append! { command, out, c:
-            Numbers [result_code], Octets [origin_host], Octets [origin_realm]
-        },
-        Command::Dpr(c) => append! { command, out, c:
-            Octets [origin_host], Octets [origin_realm], Numbers [disconnect_cause]
-        },
-        Command::Dpa(c) => append! { command, out, c:
-            Numbers [result_code], Octets [origin_host], Octets [origin_realm]
-        },
-        Command::Rar(c) => append! { command, out, c:
-            Texts [session_id], Octets [origin_host], Octets [origin_realm],
-            Octets [destination_realm], Octets [destination_host], Numbers [auth_application_id],
-            Numbers [re_auth_request_type]
-        },
-        Command::Raa(c) => append! { command, out, c:
-            Texts [session_id], Numbers [result_code], Octets [origin_host], Octets [origin_realm]
-        },
-        Command::Ccr(c) => append! { command, out, c:
-            Texts [session_id], Octets [origin_host], Octets [origin_realm],
-            Octets [destination_realm], Numbers [auth_application_id], Texts [service_context_id],
-            Types [cc_request_type], Numbers [cc_request_number], Groups subscription_id,
-            Actions requested_action, Groups requested_service_unit, Groups used_service_unit,
-            Numbers multiple_services_indicator, Groups multiple_services_credit_control
-        },
-        Command::Cca(c) => append! { command, out, c:
-            Texts [session_id], Numbers [result_code], Octets [origin_host], Octets [origin_realm],
-            Numbers [auth_application_id], Types [cc_request_type], Numbers [cc_request_number],
-            Groups granted_service_unit, Groups final_unit_indication, Numbers check_balance_result,
-            Groups multiple_services_credit_control
-        },
-        Command::ErrorAnswer(c) => append! { command, out, c:
-            Texts session_id, Octets [origin_host], Octets [origin_realm], Numbers [result_code],
-            Octets failed_avp
-        },
+        Command::Cer(c) => write_fields(command, &capabilities_exchange_request_fields(c), out),
+        Command::Cea(c) => write_fields(command, &capabilities_exchange_answer_fields(c), out),
+        Command::Dwr(c) => write_fields(command, &device_watchdog_request_fields(c), out),
+        Command::Dwa(c) => write_fields(command, &device_watchdog_answer_fields(c), out),
+        Command::Dpr(c) => write_fields(command, &disconnect_peer_request_fields(c), out),
+        Command::Dpa(c) => write_fields(command, &disconnect_peer_answer_fields(c), out),
+        Command::Rar(c) => write_fields(command, &re_auth_request_fields(c), out),
+        Command::Raa(c) => write_fields(command, &re_auth_answer_fields(c), out),
+        Command::Ccr(c) => write_fields(command, &credit_control_request_fields(c), out),
+        Command::Cca(c) => write_fields(command, &credit_control_answer_fields(c), out),
+        Command::ErrorAnswer(c) => write_fields(command, &error_answer_fields(c), out),
     }
 }
 

@@ -1,10 +1,10 @@
-use Rattle.std.proofs.Common.{refl, arith, ◌∙◌}
+use Rattle.std.proofs.Common.{arith, ◌∙◌}
 use Rattle.dia_dict.proofs.BaseLemmas.{line_free, with_line}
 use Rattle.dia_dict.proofs.table.Table.base.Goals as goal
 
 pub append-requires : goal.append-requires
 append-requires c =
-    line_free _ c.loop-code.code-index _ _ _ refl (c.in_ok-from_slice.ensures.copy ∙ c.as_bytes.ensures.value) c.loop-code.invariant (omega arith)
+    line_free _ c.loop-code.code-index _ _ _ c.lines-code-items.ensures (c.in_ok-from_slice.ensures.copy ∙ c.as_bytes.ensures.value) c.loop-code.invariant (omega arith)
 
 pub loop-code-preserved : goal.loop-code-preserved
 loop-code-preserved c =

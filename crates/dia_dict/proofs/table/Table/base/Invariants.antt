@@ -1,5 +1,5 @@
 use Rattle.std.proofs.Common.{◌≡◌, map, take}
-use Rattle.dia_dict.proofs.BaseLemmas.{of_line}
+use Rattle.dia_dict.specs.Base.{of_line}
 use Rattle.dia_dict.proofs.table.Table.base.Given as goal
 
 abbrev pub invariant-loop-code : goal.invariant-loop-code

@@ -1,0 +1,30 @@
+use Rattle.std.proofs.Common.{Some, None, [], ◌∷◌, refl, sym, subst}
+use Rattle.dia_dict.specs.Dictionary.{known}
+use Rattle.dia_command.specs.Field.{AreTypedOf}
+use Rattle.dia_msg.specs.Sorting.{seen_all}
+use Rattle.dia_msg.specs.Source.{entry_at}
+use Rattle.dia_msg.proofs.SourceLemmas.{taken_seen, taken_sound}
+use Rattle.dia_msg.proofs.source.Source.perhaps_number.Goals as goal
+
+pub number_value-requires : goal.number_value-requires
+number_value-requires g c =
+    let fs = c.args.self.now.format.now in
+    let list = seen_all c.args.self.now.avps.now in (
+      (entry_at fs c.args.place).code,
+      c.requires.kind,
+      taken_sound c.args.self.now.dictionary.now fs list c.args.self.now.sorted.now c.args.place (Some c.in-Some.avp) c.in-Some.avp c.requires.ready c.requires.held c.in-Some.ensures refl,
+    )
+
+pub returns-in-Some : goal.returns-in-Some
+returns-in-Some g c =
+    let fs = c.args.self.now.format.now in
+    let list = seen_all c.args.self.now.avps.now in
+    subst (AreTypedOf (g.T.FromNumber.is_value (known c.args.self.now.dictionary.now)) (c.number_value.result ∷ []))
+    (sym (taken_seen c.args.self.now.dictionary.now fs list c.args.self.now.sorted.now c.args.place (Some c.in-Some.avp) c.requires.ready c.requires.held c.in-Some.ensures)) (c.number_value.ensures, tt)
+
+pub returns-in-None : goal.returns-in-None
+returns-in-None g c =
+    let fs = c.args.self.now.format.now in
+    let list = seen_all c.args.self.now.avps.now in
+    subst (AreTypedOf (g.T.FromNumber.is_value (known c.args.self.now.dictionary.now)) [])
+    (sym (taken_seen c.args.self.now.dictionary.now fs list c.args.self.now.sorted.now c.args.place None c.requires.ready c.requires.held c.in-None.ensures)) tt
