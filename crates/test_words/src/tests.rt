@@ -1,5 +1,6 @@
 //! What is printed, and how a run ends.
 mod draws;
+mod images;
 mod inputs;
 mod roles;
 mod walks;

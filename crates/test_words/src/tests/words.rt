@@ -97,6 +97,22 @@ fn words_ask_for_a_text_or_an_input_or_are_refused(rt: HostRuntime) -> Result<()
             3,
             "read fault: no/such.tbl can't be opened\n",
         ),
+        (
+            ["dbench", "asm", "--help"].as_slice(),
+            0,
+            "Usage: dbench asm",
+        ),
+        (["dbench", "asm", "a", "b"].as_slice(), 2, "Usage: dbench"),
+        (
+            ["dbench", "asm", "no/such.tbl"].as_slice(),
+            3,
+            "read fault: no/such.tbl can't be opened\n",
+        ),
+        (
+            ["dbench", "asm"].as_slice(),
+            1,
+            "line 1 fault 1\n  wanted: a header: two blanks, then the words State, Event, Action and Next\n",
+        ),
         (["dbench", "draw", "--help"].as_slice(), 0, "dot -Tsvg"),
         (["dbench", "draw", "a", "b"].as_slice(), 2, "Usage: dbench"),
         (

@@ -1,0 +1,58 @@
+//! What assembling a table's text prints.
+use bench_device::{Counting, Status};
+use image_text::assemble_on;
+use role_tables::all_laws;
+use std::test::Fail;
+use tab_law::LawBook;
+
+const TABLE: &str = "  State  Event                        Action         Next
+  Wait   CCA-I when mine and success  Grant-Service  Done
+  Wait   CCA-I                        End-Service    Wait
+";
+
+/// Magic, counts, names; two entries, the code's length; the code of two rows.
+const IMAGE: &str = "4454493200020001000200020002\
+0457616974 04446f6e65 054343412d49 046d696e65 0773756363657373 0d4772616e742d53657276696365 0b456e642d53657276696365\
+00000000ffffffff0000001b\
+010000 020000000013 020100000013 0300 0401 010001 0301 0400 05";
+
+/// Whether assembling a text prints this, blanks aside, and a newline, and ends so.
+fn assembles(laws: &LawBook, rt: &HostRuntime, table: &str, printed: &str, wanted: Status) -> bool {
+    let mut sink = Counting::new(Vec::new(rt.alloc()));
+    let status = assemble_on(rt.alloc(), table.as_bytes(), laws, &mut sink);
+    let mut left = sink.device.as_slice();
+    for c in printed.as_bytes() {
+        if *c == b' ' && wanted == Status::Done {
+            continue;
+        }
+        let [first, rest @ ..] = left else {
+            return false;
+        };
+        if first != c {
+            return false;
+        }
+        left = rest;
+    }
+    left == b"\n" && status == wanted
+}
+
+#[test]
+fn a_text_is_assembled_or_its_first_refusal_told(rt: HostRuntime) -> Result<(), Fail> {
+    let laws = all_laws(rt.alloc())?;
+    for (table, printed, status) in [
+        (TABLE, IMAGE, Status::Done),
+        (
+            "",
+            "line 0 fault 1\n  wanted: a header: two blanks, then the words State, Event, Action and Next",
+            Status::Refused,
+        ),
+        (
+            "  State  Event  Action  Next\n  A      CCA-I  Open    A\n",
+            "unbound Open\n  wanted: a kind, a guard or an action that is registered",
+            Status::Refused,
+        ),
+    ] {
+        assert!(rt; assembles(&laws, &rt, table, printed, status));
+    }
+    Ok(())
+}
