@@ -33,7 +33,7 @@ fn assembles(laws: &LawBook, rt: &HostRuntime, table: &str, printed: &str, wante
         }
         left = rest;
     }
-    left == b"\n" && status == wanted
+    left == b"\n".as_slice() && status == wanted
 }
 
 #[test]
