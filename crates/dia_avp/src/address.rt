@@ -8,7 +8,7 @@ use crate::fault::FieldFault;
 use byteorder::{BigEndian, ByteOrder};
 
 /// An address of an Address Family Number: 1 is IPv4, 2 is IPv6. `octets` of another family may have any length.
-#[derive(Clone, Copy, Debug, PartialEq, Eq)]
+#[derive(Clone, Copy, PartialEq, Eq)]
 pub enum Address<'a> {
     /// Family 1.
     V4([u8; 4]),

@@ -29,7 +29,7 @@ impl Drop for Avp {
 }
 
 /// An AVP whose data lies where it was read. Takes no memory.
-#[derive(Clone, Copy, Debug, Default)]
+#[derive(Clone, Copy, Default)]
 pub struct AvpView<'a> {
     pub code: u32,
     pub vendor: Option<u32>,

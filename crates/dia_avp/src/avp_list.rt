@@ -6,7 +6,6 @@ use std::alloc::{AllocError, Global};
 use std::marker::Model;
 
 /// AVPs in order. A contract sees them as the list of their values.
-#[derive(Debug)]
 pub struct AvpList {
     avps: Vec<Avp>,
 }

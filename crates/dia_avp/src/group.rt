@@ -39,7 +39,7 @@ fn group_count(octets: &[u8], depth: u8) -> Result<usize, FieldFault>
 }
 
 /// AVPs where they were read, one after the other in `octets`.
-#[derive(Clone, Copy, Debug, PartialEq, Eq)]
+#[derive(Clone, Copy, PartialEq, Eq)]
 pub struct AvpsIn<'a> {
     pub octets: &'a [u8],
 }

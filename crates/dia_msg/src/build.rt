@@ -22,14 +22,15 @@ impl Source<'_> {
         requires format { self.now.format.now ≡ format_of CommandKind.CapabilitiesExchangeRequest false }
         ensures { IfOk result (IsBuilt self.now.dictionary.now (format_of CommandKind.CapabilitiesExchangeRequest false) (seen_all self.now.avps.now) CommandKind.CapabilitiesExchangeRequest header) }
     {
+        let (origin_host, origin_realm) = self.pair(0)?;
         Ok(Command::Cer(CapabilitiesExchangeRequest {
-            origin_host: self.one(0)?,
-            origin_realm: self.one(1)?,
             host_ip_address: self.all(2)?,
             product_name: self.one(4)?,
             auth_application_id: self.all(5)?,
             rest: self.rest()?,
             header,
+            origin_host,
+            origin_realm,
             vendor_id: self.number(3),
         }))
     }
@@ -39,14 +40,15 @@ impl Source<'_> {
         requires format { self.now.format.now ≡ format_of CommandKind.CapabilitiesExchangeAnswer false }
         ensures { IfOk result (IsBuilt self.now.dictionary.now (format_of CommandKind.CapabilitiesExchangeAnswer false) (seen_all self.now.avps.now) CommandKind.CapabilitiesExchangeAnswer header) }
     {
+        let (origin_host, origin_realm) = self.pair(1)?;
         Ok(Command::Cea(CapabilitiesExchangeAnswer {
-            origin_host: self.one(1)?,
-            origin_realm: self.one(2)?,
             host_ip_address: self.all(3)?,
             product_name: self.one(5)?,
             auth_application_id: self.all(6)?,
             rest: self.rest()?,
             header,
+            origin_host,
+            origin_realm,
             result_code: self.number(0),
             vendor_id: self.number(4),
         }))
@@ -57,11 +59,12 @@ impl Source<'_> {
         requires format { self.now.format.now ≡ format_of CommandKind.DeviceWatchdogRequest false }
         ensures { IfOk result (IsBuilt self.now.dictionary.now (format_of CommandKind.DeviceWatchdogRequest false) (seen_all self.now.avps.now) CommandKind.DeviceWatchdogRequest header) }
     {
+        let (origin_host, origin_realm) = self.pair(0)?;
         Ok(Command::Dwr(DeviceWatchdogRequest {
-            origin_host: self.one(0)?,
-            origin_realm: self.one(1)?,
             rest: self.rest()?,
             header,
+            origin_host,
+            origin_realm,
         }))
     }
 
@@ -70,11 +73,12 @@ impl Source<'_> {
         requires format { self.now.format.now ≡ format_of CommandKind.DeviceWatchdogAnswer false }
         ensures { IfOk result (IsBuilt self.now.dictionary.now (format_of CommandKind.DeviceWatchdogAnswer false) (seen_all self.now.avps.now) CommandKind.DeviceWatchdogAnswer header) }
     {
+        let (origin_host, origin_realm) = self.pair(1)?;
         Ok(Command::Dwa(DeviceWatchdogAnswer {
-            origin_host: self.one(1)?,
-            origin_realm: self.one(2)?,
             rest: self.rest()?,
             header,
+            origin_host,
+            origin_realm,
             result_code: self.number(0),
         }))
     }
@@ -84,11 +88,12 @@ impl Source<'_> {
         requires format { self.now.format.now ≡ format_of CommandKind.DisconnectPeerRequest false }
         ensures { IfOk result (IsBuilt self.now.dictionary.now (format_of CommandKind.DisconnectPeerRequest false) (seen_all self.now.avps.now) CommandKind.DisconnectPeerRequest header) }
     {
+        let (origin_host, origin_realm) = self.pair(0)?;
         Ok(Command::Dpr(DisconnectPeerRequest {
-            origin_host: self.one(0)?,
-            origin_realm: self.one(1)?,
             rest: self.rest()?,
             header,
+            origin_host,
+            origin_realm,
             disconnect_cause: self.number(2),
         }))
     }
@@ -98,11 +103,12 @@ impl Source<'_> {
         requires format { self.now.format.now ≡ format_of CommandKind.DisconnectPeerAnswer false }
         ensures { IfOk result (IsBuilt self.now.dictionary.now (format_of CommandKind.DisconnectPeerAnswer false) (seen_all self.now.avps.now) CommandKind.DisconnectPeerAnswer header) }
     {
+        let (origin_host, origin_realm) = self.pair(1)?;
         Ok(Command::Dpa(DisconnectPeerAnswer {
-            origin_host: self.one(1)?,
-            origin_realm: self.one(2)?,
             rest: self.rest()?,
             header,
+            origin_host,
+            origin_realm,
             result_code: self.number(0),
         }))
     }
@@ -112,14 +118,16 @@ impl Source<'_> {
         requires format { self.now.format.now ≡ format_of CommandKind.ReAuthRequest false }
         ensures { IfOk result (IsBuilt self.now.dictionary.now (format_of CommandKind.ReAuthRequest false) (seen_all self.now.avps.now) CommandKind.ReAuthRequest header) }
     {
+        let (session_id, origin_host) = self.pair(0)?;
+        let (origin_realm, destination_realm) = self.pair(2)?;
         Ok(Command::Rar(ReAuthRequest {
-            session_id: self.one(0)?,
-            origin_host: self.one(1)?,
-            origin_realm: self.one(2)?,
-            destination_realm: self.one(3)?,
             destination_host: self.one(4)?,
             rest: self.rest()?,
             header,
+            session_id,
+            origin_host,
+            origin_realm,
+            destination_realm,
             auth_application_id: self.number(5),
             re_auth_request_type: self.number(6),
         }))
@@ -130,12 +138,13 @@ impl Source<'_> {
         requires format { self.now.format.now ≡ format_of CommandKind.ReAuthAnswer false }
         ensures { IfOk result (IsBuilt self.now.dictionary.now (format_of CommandKind.ReAuthAnswer false) (seen_all self.now.avps.now) CommandKind.ReAuthAnswer header) }
     {
+        let (origin_host, origin_realm) = self.pair(2)?;
         Ok(Command::Raa(ReAuthAnswer {
             session_id: self.one(0)?,
-            origin_host: self.one(2)?,
-            origin_realm: self.one(3)?,
             rest: self.rest()?,
             header,
+            origin_host,
+            origin_realm,
             result_code: self.number(1),
         }))
     }
@@ -145,11 +154,9 @@ impl Source<'_> {
         requires format { self.now.format.now ≡ format_of CommandKind.CreditControlRequest event }
         ensures { IfOk result (IsBuilt self.now.dictionary.now (format_of CommandKind.CreditControlRequest event) (seen_all self.now.avps.now) CommandKind.CreditControlRequest header) }
     {
+        let (session_id, origin_host) = self.pair(0)?;
+        let (origin_realm, destination_realm) = self.pair(2)?;
         Ok(Command::Ccr(CreditControlRequest {
-            session_id: self.one(0)?,
-            origin_host: self.one(1)?,
-            origin_realm: self.one(2)?,
-            destination_realm: self.one(3)?,
             service_context_id: self.one(5)?,
             subscription_id: self.all(8)?,
             used_service_unit: self.all(11)?,
@@ -157,6 +164,10 @@ impl Source<'_> {
             rest: self.rest()?,
             requested_service_unit: self.perhaps(10)?,
             header,
+            session_id,
+            origin_host,
+            origin_realm,
+            destination_realm,
             auth_application_id: self.number(4),
             cc_request_type: self.number(6),
             cc_request_number: self.number(7),
@@ -170,15 +181,16 @@ impl Source<'_> {
         requires format { self.now.format.now ≡ format_of CommandKind.CreditControlAnswer false }
         ensures { IfOk result (IsBuilt self.now.dictionary.now (format_of CommandKind.CreditControlAnswer false) (seen_all self.now.avps.now) CommandKind.CreditControlAnswer header) }
     {
+        let (origin_host, origin_realm) = self.pair(2)?;
         Ok(Command::Cca(CreditControlAnswer {
             session_id: self.one(0)?,
-            origin_host: self.one(2)?,
-            origin_realm: self.one(3)?,
             multiple_services_credit_control: self.all(10)?,
             rest: self.rest()?,
             granted_service_unit: self.perhaps(7)?,
             final_unit_indication: self.perhaps(8)?,
             header,
+            origin_host,
+            origin_realm,
             result_code: self.number(1),
             auth_application_id: self.number(4),
             cc_request_type: self.number(5),
@@ -192,13 +204,14 @@ impl Source<'_> {
         requires format { self.now.format.now ≡ format_of CommandKind.ErrorAnswer false }
         ensures { IfOk result (IsBuilt self.now.dictionary.now (format_of CommandKind.ErrorAnswer false) (seen_all self.now.avps.now) CommandKind.ErrorAnswer header) }
     {
+        let (origin_host, origin_realm) = self.pair(1)?;
         Ok(Command::ErrorAnswer(ErrorAnswer {
-            origin_host: self.one(1)?,
-            origin_realm: self.one(2)?,
             rest: self.rest()?,
             session_id: self.perhaps(0)?,
             failed_avp: self.perhaps(4)?,
             header,
+            origin_host,
+            origin_realm,
             result_code: self.number(3),
         }))
     }

@@ -1,7 +1,7 @@
 //! The values of a command's fields, and its rest, of AVPs that are sorted by its format. Each call takes the place of a
 //! field in the format.
 
-ghost use Rattle.std.specs.Prelude.{◌≡◌, ◌<◌, ◌^◌, [], ◌∷◌, ◌++◌, ℕ, List, All, IfOk, OnOk, map, slice_get};
+ghost use Rattle.std.specs.Prelude.{◌≡◌, ◌+◌, ◌<◌, ◌^◌, [], ◌∷◌, ◌++◌, ℕ, List, All, IfOk, OnOk, map, slice_get};
 ghost use Rattle.std.specs.Option.{option_map, option_to_list};
 ghost use Rattle.dia_avp.specs.View.{seen};
 ghost use Rattle.dia_avp.specs.Encoding.{length_of};
@@ -174,6 +174,22 @@ impl Source<'_> {
         ensures { IfOk result (λ f. AreTypedOf (T.is_value (known self.now.dictionary.now)) (f ∷ []) (takes self.now.format.now (seen_all self.now.avps.now) place)) }
     {
         Ok(self.perhaps(place)?.unwrap())
+    }
+
+    /// The values of an entry and the next one, whose AVPs must be there.
+    pub fn pair<T: FromAvp, U: FromAvp>(
+        &self,
+        place: usize,
+    ) -> Result<(TypedAvp<T>, TypedAvp<U>), AllocError>
+        requires ready { IsReady self.now.dictionary.now self.now.format.now (seen_all self.now.avps.now) self.now.sorted.now }
+        requires first { IsOne self.now.format.now place }
+        requires kind { T.has_kind self.now.dictionary.now (entry_at self.now.format.now place).code }
+        requires next { IsOne self.now.format.now (place + 1) }
+        requires next_kind { U.has_kind self.now.dictionary.now (entry_at self.now.format.now (place + 1)).code }
+        ensures first { IfOk result (λ f. AreTypedOf (T.is_value (known self.now.dictionary.now)) (f.0 ∷ []) (takes self.now.format.now (seen_all self.now.avps.now) place)) }
+        ensures next { IfOk result (λ f. AreTypedOf (U.is_value (known self.now.dictionary.now)) (f.1 ∷ []) (takes self.now.format.now (seen_all self.now.avps.now) (place + 1))) }
+    {
+        Ok((self.one(place)?, self.one(place + 1)?))
     }
 
     // The number that an AVP is, with its flags.

@@ -28,7 +28,7 @@ impl Drop for MsgFault {
 }
 
 /// A fault whose failed AVP lies where it was read. Takes no memory.
-#[derive(Clone, Copy, Debug)]
+#[derive(Clone, Copy)]
 pub struct FaultView<'a> {
     pub result: ResultCode,
     pub failed: Option<AvpView<'a>>,
