@@ -1,5 +1,1 @@
 pub mod Puts
-pub mod EndLemmas
-pub mod RunLemmas
-pub mod ReadLemmas
-pub mod ByLineLemmas

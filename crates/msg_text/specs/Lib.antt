@@ -1,9 +1,6 @@
 pub mod Lines
-pub mod Ends
 pub mod Printed
-pub mod Reports
-pub mod Inputs
-pub mod Readings
-pub mod ByLine
-pub mod ByLineSoFar
 pub mod Styles
+pub use Rattle.msg_input.specs.ByLine
+pub use Rattle.msg_input.specs.Ends
+pub use Rattle.msg_input.specs.Inputs

@@ -1,5 +1,5 @@
--- What is printed of the octets of a message, and of messages in a row.
-use Rattle.std.specs.Prelude.{◌≡◌, ◌⊎◌, ℕ, ◌+◌, ◌^◌, ◌≤◌, ◌||◌, Bool, true, false, List, [], ◌∷◌, ◌++◌, length, Option, Some, None, Result, Ok, Err}
+-- What is printed of the octets of a message.
+use Rattle.std.specs.Prelude.{◌≡◌, ◌⊎◌, ℕ, ◌^◌, ◌≤◌, Bool, true, false, List, [], Option, Some, None, Result, Ok, Err}
 use Rattle.dia_avp.specs.declared.avp.Avp.{Avp}
 use Rattle.dia_avp.specs.Encoding.{length_of, encoded}
 use Rattle.dia_dict.specs.Dictionary.{known}
@@ -47,19 +47,3 @@ pub record Prints (added : List Definition) (octets text : List ℕ) (refused : 
 -- what a run adds to the dictionary: nothing
 abbrev pub dictionary : List Definition
 dictionary = []
-
--- what is printed of a message in a manner: by its number, the octet of the input at which it begins, and its octets: a text, and
--- whether it tells a fault
-abbrev pub Saying : Type 1
-Saying = ℕ → ℕ → List ℕ → List ℕ → Bool → Type 0
-
--- the printed texts of messages, one behind the other, and whether one of them is a fault; so many messages stand before them, of so
--- many octets
-abbrev pub PrintsAll : Saying → (count offset : ℕ) → List (List ℕ) → List ℕ → Bool → Type 0
-PrintsAll says count offset [] lines refused = (lines ≡ []) × (refused ≡ false)
-PrintsAll says count offset (message ∷ messages) lines refused =
-    (text : List ℕ) × (fault : Bool) × (others : List ℕ) × (faults : Bool)
-    × says (count + 1) offset message text fault
-    × PrintsAll says (count + 1) (offset + length message) messages others faults
-    × (lines ≡ text ++ others)
-    × (refused ≡ (fault || faults))

@@ -5,14 +5,15 @@ use Rattle.dia_frame.specs.declared.fault.FrameFault.{FrameFault}
 use Rattle.dia_frame.specs.declared.fault.FrameFault.TheVariants.{Version, Length, Broken}
 use Rattle.msg_explain.specs.Explained.{Explains}
 use Rattle.msg_json.specs.Lines.{SaysInJson}
-use Rattle.msg_text.specs.Ends.{end_text}
-use Rattle.msg_text.specs.ByLine.{AreLinesOf, line_end}
-use Rattle.msg_text.specs.Inputs.{IsPrintedOf, Printing}
-use Rattle.msg_text.specs.Printed.{Prints, Saying, dictionary}
-use Rattle.msg_text.specs.declared.ends.Refusal.TheVariants as refusals
-use Rattle.msg_text.specs.declared.ends.End.{End}
-use Rattle.msg_text.specs.declared.ends.End.TheVariants.{Whole, Refused, ReadFailed, TooManyReads}
-use Rattle.msg_text.specs.declared.ends.Place.{Place}
+use Rattle.msg_input.specs.Ends.{end_text}
+use Rattle.msg_input.specs.ByLine.{AreLinesOf}
+use Rattle.msg_input.specs.Inputs.{IsPrintedOf, Printing}
+use Rattle.msg_input.specs.Printed.{Saying}
+use Rattle.msg_text.specs.Printed.{Prints, dictionary}
+use Rattle.msg_input.specs.declared.ends.Refusal.TheVariants as refusals
+use Rattle.msg_input.specs.declared.ends.End.{End}
+use Rattle.msg_input.specs.declared.ends.End.TheVariants.{Whole, Refused, ReadFailed, TooManyReads}
+use Rattle.msg_input.specs.declared.ends.Place.{Place}
 use Rattle.msg_text.specs.declared.manner.Style.{Style}
 use Rattle.msg_text.specs.declared.manner.Style.TheVariants.{Plain, Explained, Json}
 
@@ -76,6 +77,13 @@ json_end (Refused (refusals.Frame fault)) place = json_fault fault place.octets
 json_end (Refused refusals.NoMemory) place = codes "{\"stop\":\"no memory\"}\n"
 json_end ReadFailed place = codes "{\"stop\":\"read fault\",\"reason\":\"a read failed\"}\n"
 json_end TooManyReads place = codes "{\"stop\":\"read fault\",\"reason\":\"no end of input after 1048576 reads\"}\n"
+
+-- what is told of the end of a line, by its number and what its end prints by itself: nothing where it was read whole
+abbrev pub line_end : ℕ → End → List ℕ → List ℕ
+line_end number Whole text = []
+line_end number (Refused why) text = codes "line " ++ decimal number ++ codes ": " ++ text
+line_end number ReadFailed text = []
+line_end number TooManyReads text = []
 
 -- the end of a line that is read by itself: plainly and in names behind the line's number
 abbrev pub plain_line : ℕ → End → Place → List ℕ

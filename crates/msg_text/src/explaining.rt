@@ -1,15 +1,14 @@
 //! Messages in names, and where reading stopped.
 ghost use Rattle.std.specs.Prelude.{◌≡◌, ◌++◌, List, ℕ, IfOk};
-ghost use Rattle.msg_text.specs.Ends.{words_of};
+ghost use Rattle.msg_input.specs.Ends.{words_of};
 ghost use Rattle.msg_text.specs.Printed.{dictionary};
 ghost use Rattle.msg_text.specs.Styles.{IsExplained, explained_end, explained_line, frame_words};
 
-use crate::ends::{End, EndWords, Place, Refusal, placed, unplaced};
 use crate::line_ends::put_line_words;
-use crate::manner::Manner;
 use dia_dict::Dictionary;
 use dia_frame::FrameFault;
 use msg_explain::explain;
+use msg_input::{End, EndWords, Manner, Place, Refusal, placed, unplaced};
 use std::alloc::{AllocError, Global};
 
 /// Prints what a message says, in names.

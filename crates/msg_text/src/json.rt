@@ -1,15 +1,14 @@
 //! Messages as objects of JSON, a line each, and where reading stopped as one more.
 ghost use Rattle.std.specs.Prelude.{◌≡◌, ◌++◌, List, ℕ, IfOk, OnOk, drop};
-ghost use Rattle.msg_text.specs.Ends.{words_of};
+ghost use Rattle.msg_input.specs.Ends.{words_of};
 ghost use Rattle.msg_text.specs.Printed.{dictionary};
 ghost use Rattle.msg_text.specs.Styles.{IsJson, json_end, json_fault, json_line, json_line_end};
 
-use crate::ends::{End, EndWords, Place, Refusal, placed, unplaced};
 use crate::line_ends::put_words;
-use crate::manner::Manner;
 use bench_text::put_number;
 use dia_dict::Dictionary;
 use dia_frame::FrameFault;
+use msg_input::{End, EndWords, Manner, Place, Refusal, placed, unplaced};
 use msg_json::put_json;
 use std::alloc::{AllocError, Global};
 

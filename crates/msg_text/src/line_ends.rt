@@ -1,10 +1,10 @@
 //! What is told of the end of a line.
 ghost use Rattle.std.specs.Prelude.{◌≡◌, ◌++◌, OnOk};
-ghost use Rattle.msg_text.specs.ByLine.{line_end};
-ghost use Rattle.msg_text.specs.Ends.{place_text, words_of};
+ghost use Rattle.msg_input.specs.Ends.{place_text, words_of};
+ghost use Rattle.msg_text.specs.Styles.{line_end};
 
-use crate::ends::{End, EndWords};
 use bench_text::put_number;
+use msg_input::{End, EndWords};
 use std::alloc::AllocError;
 
 fn put_place(out: &mut Vec<u8>, place: Option<u64>) -> Result<(), AllocError>

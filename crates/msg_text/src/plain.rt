@@ -3,13 +3,12 @@ ghost use Rattle.std.specs.Prelude.{◌≡◌, ◌++◌, List, [], ℕ, IfOk, On
 ghost use Rattle.msg_text.specs.Printed.{CommandText, FaultText, Prints, dictionary};
 ghost use Rattle.msg_text.specs.Styles.{IsPlain, plain_end, plain_line};
 
-use crate::ends::{End, EndWords, Place, unplaced};
 use crate::line_ends::put_line_words;
-use crate::manner::Manner;
 use crate::show::{put_fault, put_message};
 use dia_avp::{WriteError, write_avp};
 use dia_dict::Dictionary;
 use dia_msg::{Command, MsgError, MsgFault, read_message, write_message};
+use msg_input::{End, EndWords, Manner, Place, unplaced};
 use std::alloc::{AllocError, Global};
 
 /// Prints the lines of a message, header, AVPs and encoding, or the line of its fault.

@@ -1,201 +1,17 @@
-//! `read`: messages from hexadecimal digits, printed as they come.
-ghost use Rattle.std.specs.Prelude.{false, ◌≡◌, ◌≢◌, ◌⊎◌, ◌<◌, ◌≤◌, ◌+◌, ◌-◌, ◌^◌, ◌++◌, [], None, max, length, IfOk, OnOk, OnErr};
+//! `read`: messages from hexadecimal digits, printed as they come, whole or line by line.
+ghost use Rattle.std.specs.Prelude.{false, true, ◌≡◌, ◌≢◌, ◌⊎◌, ◌<◌, ◌≤◌, ◌+◌, ◌-◌, ◌^◌, max};
 ghost use Rattle.std.specs.Io.KnownBytes.{IsAtEnd};
-ghost use Rattle.bench_device.specs.Devices.{HasWriteCause, IsRun, TakesWhole, Tells};
-ghost use Rattle.msg_text.specs.Ends.{EndsBy, end_status, place_text, words_of};
-ghost use Rattle.msg_text.specs.Inputs.{IsPrintedOf, IsReport};
-ghost use Rattle.msg_text.specs.Readings.{IsPoured, SoFar, place_of};
+ghost use Rattle.bench_device.specs.Devices.{HasWriteCause, IsRun};
+ghost use Rattle.msg_input.specs.Inputs.{IsReport};
 ghost use Rattle.msg_text.specs.Styles.{end_in, printed_in};
 
-use crate::ends::{End, EndWords, Place, Refusal};
 use crate::explaining::Explaining;
 use crate::json::Json;
-use crate::manner::{Manner, Style};
+use crate::manner::Style;
 use crate::plain::Plain;
-use crate::reading::Reading;
-use bench_device::{
-    ByteSink, ByteSource, MAX_IDLE_WRITES, MAX_READS, Status, WriteFault, write_whole,
-};
+use bench_device::{ByteSink, ByteSource, MAX_IDLE_WRITES, MAX_READS, Status};
+use msg_input::{read_in, read_lines_in};
 use std::alloc::Global;
-
-/// How many characters are read at once.
-pub(crate) const TEXT: usize = 65_536;
-
-// Reads to the end of the input, and writes out the text of what each read completes.
-fn pour<M: Manner, I: ByteSource, O: ByteSink>(
-    reading: &mut Reading<M>,
-    text: &mut [u8],
-    source: &mut I,
-    sink: &mut O,
-) -> Result<End, WriteFault>
-    requires room { 0 < length text.old }
-    requires few { length text.old ≤ TEXT }
-    requires start { SoFar M.Says 0 reading.old [] [] None }
-    requires reads { I.reads source.old + MAX_READS < 2 ^ 64 }
-    requires read_failures { I.failures source.old < 2 ^ 64 - 1 }
-    requires idle { O.idle sink.old ≡ 0 }
-    requires write_failures { O.failures sink.old < 2 ^ 64 - 1 }
-    ensures end { IfOk result (EndsBy I.remaining I.reads I.failures source.old source.new) }
-    ensures report { IfOk result (IsPoured (IsPrintedOf M.Says 0) I.remaining O.contents source.old source.new sink.old sink.new
-        reading.new.report.out.items reading.new.report.refused (place_of reading.new)) }
-    ensures some { OnOk result (I.reads source.old < I.reads source.new) }
-    ensures sound { OnOk result ((O.failures sink.new ≡ O.failures sink.old) × (O.idle sink.new ≡ 0)) }
-    ensures cause { OnErr result (HasWriteCause O.failures O.idle sink.old sink.new
-        × (I.failures source.new ≡ I.failures source.old)) }
-    ensures reads { I.reads source.new ≤ I.reads source.old + MAX_READS }
-    ensures row { O.most_idle sink.new ≤ max (O.most_idle sink.old) MAX_IDLE_WRITES }
-{
-    'reads: for _ in 0..MAX_READS {
-        let count = match source.read(text) {
-            Err(_) => return Ok(End::ReadFailed),
-            Ok(None) => continue,
-            Ok(Some(0)) => return Ok(reading.end()),
-            Ok(Some(count)) => count,
-        };
-        if let Err(refusal) = reading.take_text(&text[..count]) {
-            return Ok(End::Refused(refusal));
-        }
-        write_whole(sink, reading.text())?;
-        reading.clear();
-    }
-    Ok(End::TooManyReads)
-}
-
-// Writes out a number in decimal, where there is one.
-fn write_place<O: ByteSink>(sink: &mut O, place: Option<u64>) -> Result<(), WriteFault>
-    requires idle { O.idle sink.old ≡ 0 }
-    requires failures { O.failures sink.old < 2 ^ 64 - 1 }
-    ensures whole { OnOk result (TakesWhole O.contents O.failures O.idle sink.old sink.new (place_text place)) }
-    ensures cause { OnErr result (HasWriteCause O.failures O.idle sink.old sink.new) }
-    ensures row { O.most_idle sink.new ≤ max (O.most_idle sink.old) MAX_IDLE_WRITES }
-{
-    let mut digits = itoa::Buffer::new();
-    match place {
-        None => write_whole(sink, b""),
-        Some(place) => write_whole(sink, digits.format(place).as_bytes()),
-    }
-}
-
-// Writes out two texts.
-fn write_both<O: ByteSink>(sink: &mut O, first: &[u8], second: &[u8]) -> Result<(), WriteFault>
-    requires idle { O.idle sink.old ≡ 0 }
-    requires failures { O.failures sink.old < 2 ^ 64 - 1 }
-    ensures whole { OnOk result (TakesWhole O.contents O.failures O.idle sink.old sink.new (first.now ++ second.now)) }
-    ensures cause { OnErr result (HasWriteCause O.failures O.idle sink.old sink.new) }
-    ensures row { O.most_idle sink.new ≤ max (O.most_idle sink.old) MAX_IDLE_WRITES }
-{
-    write_whole(sink, first)?;
-    write_whole(sink, second)
-}
-
-// Writes out a number and a text behind it.
-fn write_placed<O: ByteSink>(
-    sink: &mut O,
-    place: Option<u64>,
-    after: &[u8],
-) -> Result<(), WriteFault>
-    requires idle { O.idle sink.old ≡ 0 }
-    requires failures { O.failures sink.old < 2 ^ 64 - 1 }
-    ensures whole { OnOk result (TakesWhole O.contents O.failures O.idle sink.old sink.new (place_text place ++ after.now)) }
-    ensures cause { OnErr result (HasWriteCause O.failures O.idle sink.old sink.new) }
-    ensures row { O.most_idle sink.new ≤ max (O.most_idle sink.old) MAX_IDLE_WRITES }
-{
-    write_place(sink, place)?;
-    write_whole(sink, after)
-}
-
-// Writes out a text, and words behind it.
-fn write_words<O: ByteSink>(sink: &mut O, text: &[u8], words: &EndWords) -> Result<(), WriteFault>
-    requires idle { O.idle sink.old ≡ 0 }
-    requires failures { O.failures sink.old < 2 ^ 64 - 1 }
-    ensures whole { OnOk result (TakesWhole O.contents O.failures O.idle sink.old sink.new (text.now ++ words_of words.now)) }
-    ensures cause { OnErr result (HasWriteCause O.failures O.idle sink.old sink.new) }
-    ensures row { O.most_idle sink.new ≤ max (O.most_idle sink.old) MAX_IDLE_WRITES }
-{
-    write_both(sink, text, words.before)?;
-    write_placed(sink, words.place, words.after)
-}
-
-// Writes out a text, and what the end prints.
-pub(crate) fn tell_end<M: Manner, O: ByteSink>(
-    sink: &mut O,
-    text: &[u8],
-    end: End,
-    place: Place,
-    refused: bool,
-) -> Status
-    requires idle { O.idle sink.old ≡ 0 }
-    requires write_failures { O.failures sink.old < 2 ^ 64 - 1 }
-    ensures told { Tells O.contents O.failures O.idle sink.old sink.new (text.now ++ M.end_text end place) (end_status end refused) result }
-    ensures row { O.most_idle sink.new ≤ max (O.most_idle sink.old) MAX_IDLE_WRITES }
-{
-    let words = M::end_words(end, place);
-    match write_words(sink, text, &words) {
-        Ok(()) => end.status(refused),
-        Err(WriteFault) => Status::Fault,
-    }
-}
-
-// Writes out what is left, and what the end prints.
-fn close<M: Manner, O: ByteSink>(reading: &Reading<M>, end: End, sink: &mut O) -> Status
-    requires idle { O.idle sink.old ≡ 0 }
-    requires write_failures { O.failures sink.old < 2 ^ 64 - 1 }
-    ensures closes { Tells O.contents O.failures O.idle sink.old sink.new (reading.now.report.out.items ++ M.end_text end (place_of reading.now))
-        (end_status end reading.now.report.refused) result }
-    ensures row { O.most_idle sink.new ≤ max (O.most_idle sink.old) MAX_IDLE_WRITES }
-{
-    tell_end::<M, O>(
-        sink,
-        reading.text(),
-        end,
-        reading.place(),
-        reading.has_refused(),
-    )
-}
-
-// Nothing was read, since there was no memory to begin with.
-pub(crate) fn tell_no_memory<M: Manner, O: ByteSink>(sink: &mut O) -> Status
-    requires idle { O.idle sink.old ≡ 0 }
-    requires write_failures { O.failures sink.old < 2 ^ 64 - 1 }
-    ensures told { Tells O.contents O.failures O.idle sink.old sink.new ([] ++ M.end_text (End.Refused Refusal.NoMemory) (record { octets = 0; characters = 0 }))
-        Status.NoMemory result }
-    ensures row { O.most_idle sink.new ≤ max (O.most_idle sink.old) MAX_IDLE_WRITES }
-{
-    let start = Place {
-        octets: 0,
-        characters: 0,
-    };
-    tell_end::<M, O>(sink, b"", End::Refused(Refusal::NoMemory), start, false)
-}
-
-// Reads messages to the end of `source`, and prints them in a manner.
-fn read_in<M: Manner, I: ByteSource, O: ByteSink>(
-    alloc: Global,
-    source: &mut I,
-    sink: &mut O,
-) -> Status
-    requires reads { I.reads source.old + MAX_READS < 2 ^ 64 }
-    requires read_failures { I.failures source.old < 2 ^ 64 - 1 }
-    requires idle { O.idle sink.old ≡ 0 }
-    requires write_failures { O.failures sink.old < 2 ^ 64 - 1 }
-    ensures reads { I.reads source.new ≤ I.reads source.old + MAX_READS }
-    ensures row { O.most_idle sink.new ≤ max (O.most_idle sink.old) MAX_IDLE_WRITES }
-    ensures run { IsRun I.reads I.failures O.failures O.idle source.old source.new sink.old sink.new result }
-    ensures report { IsReport (IsPrintedOf M.Says 0) M.end_text I.remaining O.contents source.old source.new sink.old sink.new result
-        ⊎ (HasWriteCause O.failures O.idle sink.old sink.new × (result ≡ Status.Fault)) }
-    ensures whole { result ≡ Status.Done → IsAtEnd (I.remaining source.new) }
-    ensures refused { result ≡ Status.Refused → I.reads source.old < I.reads source.new }
-    ensures words { result ≢ Status.Usage }
-{
-    let (Ok(mut reading), Ok(mut text)) = (Reading::<M>::new(alloc), vec![in alloc; 0u8; TEXT])
-    else {
-        return tell_no_memory::<M, O>(sink);
-    };
-    match pour(&mut reading, &mut text, source, sink) {
-        Ok(end) => close(&reading, end, sink),
-        Err(WriteFault) => Status::Fault,
-    }
-}
 
 /// Reads messages in hexadecimal to the end of `source`, and prints them to `sink` in a style.
 pub fn read_on<I: ByteSource, O: ByteSink>(
@@ -229,5 +45,40 @@ pub fn read_on<I: ByteSource, O: ByteSink>(
         Style::Plain => read_in::<Plain, I, O>(alloc, source, sink),
         Style::Explained => read_in::<Explaining, I, O>(alloc, source, sink),
         Style::Json => read_in::<Json, I, O>(alloc, source, sink),
+    }
+}
+
+/// Reads lines to the end of `source`, each of which is messages in hexadecimal by itself, and prints them to `sink` in a style.
+pub fn read_lines<I: ByteSource, O: ByteSink>(
+    style: Style,
+    alloc: Global,
+    source: &mut I,
+    sink: &mut O,
+) -> Status
+    requires reads { I.reads source.old + MAX_READS < 2 ^ 64 }
+    requires read_failures { I.failures source.old < 2 ^ 64 - 1 }
+    requires idle { O.idle sink.old ≡ 0 }
+    requires write_failures { O.failures sink.old < 2 ^ 64 - 1 }
+
+    // The bounds on reads, and on writes in a row that take nothing.
+    ensures reads { I.reads source.new ≤ I.reads source.old + MAX_READS }
+    ensures row { O.most_idle sink.new ≤ max (O.most_idle sink.old) MAX_IDLE_WRITES }
+
+    // A fault comes only where a device failed or a bound was met, and a device's failure is told.
+    ensures run { IsRun I.reads I.failures O.failures O.idle source.old source.new sink.old sink.new result }
+
+    // What was written out is what each line of the text that was read prints by itself, in order, and then its end.
+    ensures report { IsReport (printed_in style true) (end_in style) I.remaining O.contents source.old source.new sink.old sink.new result
+        ⊎ (HasWriteCause O.failures O.idle sink.old sink.new × (result ≡ Status.Fault)) }
+
+    // It is done only where nothing is left to read, and refused only where something was read.
+    ensures whole { result ≡ Status.Done → IsAtEnd (I.remaining source.new) }
+    ensures refused { result ≡ Status.Refused → I.reads source.old < I.reads source.new }
+    ensures words { result ≢ Status.Usage }
+{
+    match style {
+        Style::Plain => read_lines_in::<Plain, I, O>(alloc, source, sink),
+        Style::Explained => read_lines_in::<Explaining, I, O>(alloc, source, sink),
+        Style::Json => read_lines_in::<Json, I, O>(alloc, source, sink),
     }
 }

@@ -59,8 +59,8 @@ fn has_stay(table: &Table, state: usize) -> bool
     table.rows().iter().any(|row| stays_in(row, state))
 }
 
-#[tactic(auto, unfolding(crate::specs::Drawing::loop_edge))]
 /// Puts a state's edge to itself, where rows stay in it.
+#[tactic(auto, unfolding(crate::specs::Drawing::loop_edge))]
 fn put_loop(out: &mut Vec<u8>, table: &Table, state: usize, name: &[u8]) -> Result<(), AllocError>
     ensures { OnOk result (out.new.items ≡ out.old.items ++ loop_edge table.now state name.now) }
 {

@@ -1,0 +1,4 @@
+pub mod EndLemmas
+pub mod RunLemmas
+pub mod ReadLemmas
+pub mod ByLineLemmas

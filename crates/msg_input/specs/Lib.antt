@@ -1,0 +1,7 @@
+pub mod Ends
+pub mod Printed
+pub mod Reports
+pub mod Inputs
+pub mod Readings
+pub mod ByLine
+pub mod ByLineSoFar

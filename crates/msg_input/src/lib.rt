@@ -1,0 +1,16 @@
+//! An input of hexadecimal digits, whole or line by line: its messages in order, printed in a manner as they come.
+#![tactic(auto)]
+
+mod by_line;
+mod ends;
+mod line_read;
+mod manner;
+mod read;
+mod reading;
+mod report;
+
+pub use ends::{End, EndWords, Place, Refusal, placed, unplaced};
+pub use line_read::read_lines_in;
+pub use manner::Manner;
+pub use read::read_in;
+pub use report::Report;

@@ -1,0 +1,162 @@
+//! What is known of an input while it is read: its octets, its messages, and what they print.
+ghost use Rattle.std.specs.Prelude.{◌≡◌, ◌≢◌, ◌++◌, ◌<◌, ◌≤◌, ◌+◌, ◌^◌, ℕ, List, length, [], None, IfOk, OnOk, OnErr};
+ghost use Rattle.std.specs.Option.{ForSome};
+ghost use Rattle.msg_input.specs.Ends.{IsLast};
+
+use crate::ends::{End, Place, Refusal};
+use crate::manner::Manner;
+use crate::report::Report;
+use bench_text::{Stop, decode};
+use dia_frame::Framer;
+use std::alloc::{AllocError, Global};
+
+/// How many octets go to the Framer at once, and how long a message may be.
+const PIECE: usize = 4096;
+
+/// What is known of the input so far.
+#[derive(Drop)]
+pub(crate) struct Reading<M> {
+    framer: Framer,
+    report: Report<M>,
+    /// How many characters were read.
+    characters: u64,
+    /// The digit of an octet whose second digit hasn't come.
+    half: Option<u8>,
+    ghost half_fits: { ForSome half (λ digit. digit < 16) },
+}
+
+impl<M: Manner> Reading<M> {
+    ghost use Rattle.msg_input.specs.Readings.{Finishes, Halts, PrintsFront, PrintsWaiting, SoFar, Stands, TakesPiece, TakesText, place_of};
+    ghost use Rattle.msg_input.specs.Inputs.{IsPrintedOf};
+
+    /// Nothing is read yet.
+    pub(crate) fn new(alloc: Global) -> Result<Reading<M>, AllocError>
+        ensures start { IfOk result (λ reading. SoFar M.Says 0 reading [] [] None) }
+        ensures characters { IfOk result (λ reading. reading.characters ≡ 0) }
+    {
+        Ok(Reading {
+            framer: Framer::new(alloc, PIECE),
+            report: Report::new(alloc)?,
+            characters: 0,
+            half: None,
+        })
+    }
+
+    /// Begins anew behind so many messages.
+    pub(crate) fn restart(&mut self, alloc: Global, messages: u64)
+        ensures start { SoFar M.Says messages self.new [] [] None }
+        ensures characters { self.new.characters ≡ 0 }
+    {
+        self.framer = Framer::new(alloc, PIECE);
+        self.report.restart(messages);
+        self.characters = 0;
+        self.half = None;
+    }
+
+    /// What is to be written out.
+    pub(crate) fn text(&self) -> &[u8]
+        ensures { result.now ≡ self.now.report.out.items }
+    {
+        self.report.text()
+    }
+
+    /// Whether a fault was printed.
+    pub(crate) fn has_refused(&self) -> bool
+        ensures { result ≡ self.now.report.refused }
+    {
+        self.report.has_refused()
+    }
+
+    /// How far the input was read.
+    pub(crate) fn place(&self) -> Place
+        ensures { result ≡ place_of self.now }
+    {
+        Place {
+            octets: self.report.octets(),
+            characters: self.characters,
+        }
+    }
+
+    /// Forgets what was written out.
+    pub(crate) fn clear(&mut self)
+        ensures characters { self.new.characters ≡ self.old.characters }
+        ensures so_far { (first : ℕ) (text written : List ℕ) → SoFar M.Says first self.old text written None
+            → SoFar M.Says first self.new text (written ++ self.old.report.out.items) None }
+    {
+        self.report.clear();
+    }
+
+    // Prints the messages that wait, oldest first.
+    fn print_waiting(&mut self) -> Result<(), AllocError>
+        ensures kept { (self.new.half ≡ self.old.half) × (self.new.characters ≡ self.old.characters) }
+        ensures printed { OnOk result (PrintsWaiting M.Says self.old.framer self.new.framer self.old.report self.new.report) }
+        ensures halted { OnErr result (PrintsFront M.Says self.old.framer self.old.report self.new.report) }
+    {
+        while let Some(frame) = self.framer.next_frame() {
+            self.report.message(frame.as_slice())?;
+        }
+        Ok(())
+    }
+
+    // The messages that a piece completes are printed, also where the octets behind them show a fault.
+    fn take_piece(&mut self, piece: &[u8]) -> Result<(), Refusal>
+        ensures kept { (self.new.half ≡ self.old.half) × (self.new.characters ≡ self.old.characters) }
+        ensures stands { (first : ℕ) (octets written : List ℕ) (before : Stands M.Says first self.old.framer self.old.report octets written None)
+            → TakesPiece result (Stands M.Says first self.new.framer self.new.report (octets ++ piece.now) written)
+            (Halts M.Says first before.messages self.new.report (octets ++ piece.now) written) }
+    {
+        let fed = self.framer.feed(piece);
+        self.print_waiting()?;
+        match fed {
+            Ok(_) => Ok(()),
+            Err(error) => Err(Refusal::from(error)),
+        }
+    }
+
+    /// Takes the next characters, and prints the messages that they complete.
+    pub(crate) fn take_text(&mut self, text: &[u8]) -> Result<(), Refusal>
+        requires room { self.old.characters + length text.now < 2 ^ 64 }
+        ensures characters { self.new.characters ≤ self.old.characters + length text.now }
+        ensures taken { (first : ℕ) (before written : List ℕ) → SoFar M.Says first self.old before written None
+            → TakesText M.Says first result self.new before text.now written }
+    {
+        let mut rest = text;
+        'pieces: while !rest.is_empty() {
+            let mut piece = [0u8; PIECE];
+            let decoded = decode(self.half, rest, &mut piece);
+            self.half = decoded.half;
+            self.characters += decoded.used as u64;
+            self.take_piece(&piece[..decoded.made])?;
+            if let Stop::BadCharacter = decoded.stop {
+                return Err(Refusal::BadHex);
+            }
+            rest = &rest[decoded.used..];
+        }
+        Ok(())
+    }
+
+    /// Ends with the input: a digit that is left over is bad, and octets that are left over are a message.
+    pub(crate) fn end(&mut self) -> End
+        ensures last { IsLast result }
+        ensures printed { (first : ℕ) (text written : List ℕ) → SoFar M.Says first self.old text written None
+            → IsPrintedOf M.Says first (Unit {0}) text (written ++ self.new.report.out.items) result self.new.report.refused (place_of self.new) }
+    {
+        match self.finish() {
+            Ok(()) => End::Whole,
+            Err(refusal) => End::Refused(refusal),
+        }
+    }
+
+    fn finish(&mut self) -> Result<(), Refusal>
+        ensures { (first : ℕ) (text written : List ℕ) → SoFar M.Says first self.old text written None → Finishes M.Says first result self.new text written }
+    {
+        if self.half.is_some() {
+            return Err(Refusal::BadHex);
+        }
+        let rest = self.framer.rest();
+        if !rest.is_empty() {
+            self.report.message(rest)?;
+        }
+        Ok(())
+    }
+}
