@@ -185,13 +185,9 @@ fn has_vendor_7_and_none(list: &AvpList) -> bool {
     }
 }
 
-#[test]
-fn vendor_0_is_none(rt: HostRuntime) -> Result<(), Fail> {
-    let list = read_avps(rt.alloc(), &VENDORS, 0)?;
-    assert!(rt; has_vendor_7_and_none(&list));
+/// Whether the first of a list, and an AVP of vendor 0 behind it, are written as `VENDORS_WRITTEN`.
+fn writes_vendors(list: &AvpList, out: &mut Vec<u8>) -> Result<bool, Fail> {
     let seven = list.get(0).ok_or("no first AVP")?;
-    let mut out = Vec::new(rt.alloc());
-    write_avp(&seven.view(), &mut out)?;
     let zero = AvpView {
         code: 2,
         vendor: Some(0),
@@ -199,8 +195,16 @@ fn vendor_0_is_none(rt: HostRuntime) -> Result<(), Fail> {
         protected: false,
         octets: &[],
     };
-    write_avp(&zero, &mut out)?;
-    assert!(rt; out.as_slice() == VENDORS_WRITTEN.as_slice());
+    write_avp(&seven.view(), out)?;
+    write_avp(&zero, out)?;
+    Ok(out.as_slice() == VENDORS_WRITTEN.as_slice())
+}
+
+#[test]
+fn vendor_0_is_none(rt: HostRuntime) -> Result<(), Fail> {
+    let list = read_avps(rt.alloc(), &VENDORS, 0)?;
+    let mut out = Vec::new(rt.alloc());
+    assert!(rt; has_vendor_7_and_none(&list) && writes_vendors(&list, &mut out)?);
     Ok(())
 }
 
@@ -515,47 +519,78 @@ fn a_group_is_avps_at_most_128_within_at_most_4_levels(rt: HostRuntime) {
     assert!(rt; wrong_large_group(rt.alloc()) == None);
 }
 
+/// Whether data are too long for the AVP of a list.
+fn is_refused_in_list(alloc: Global, data: &[u8], out: &mut Vec<u8>) -> Result<bool, AllocError> {
+    let mut list = AvpList::new(alloc);
+    list.push(avp_of(alloc, data)?)?;
+    Ok(write_avps(&list, out) == Err(WriteError::LengthOver24Bits))
+}
+
+/// Whether the longest data are written, and with an octet more nothing is.
+fn is_longest(alloc: Global, data: &mut Vec<u8>, out: &mut Vec<u8>) -> Result<bool, Fail> {
+    data.resize(0xff_fff7, 1)?;
+    write_avp(&view_of(data), out)?;
+    let is_written = out.len() == 0x100_0000;
+    data.push(1)?;
+    let is_refused = write_avp(&view_of(data), out) == Err(WriteError::LengthOver24Bits);
+    let is_refused_in_list = is_refused_in_list(alloc, data, out)?;
+    Ok(is_written && is_refused && is_refused_in_list && out.len() == 0x100_0000)
+}
+
 #[test]
 fn the_longest_avp_has_24_bits_of_length(rt: HostRuntime) -> Result<(), Fail> {
-    let alloc = rt.alloc();
-    let mut data = Vec::new(alloc);
-    data.resize(0xff_fff7, 1)?;
-    let mut out = Vec::new(alloc);
-    write_avp(&view_of(&data), &mut out)?;
-    assert!(rt; out.len() == 0x100_0000);
-    data.push(1)?;
-    let refused = write_avp(&view_of(&data), &mut out);
-    assert!(rt; refused == Err(WriteError::LengthOver24Bits));
-    let mut list = AvpList::new(alloc);
-    list.push(avp_of(alloc, &data)?)?;
-    let refused = write_avps(&list, &mut out);
-    assert!(rt; refused == Err(WriteError::LengthOver24Bits));
-    assert!(rt; out.len() == 0x100_0000);
+    let mut data = Vec::new(rt.alloc());
+    let mut out = Vec::new(rt.alloc());
+    assert!(rt; is_longest(rt.alloc(), &mut data, &mut out)?);
     Ok(())
 }
 
-/// Whether octets are copied, counted and given back.
-fn is_copied(alloc: Global) -> Result<bool, AllocError> {
-    let octets = Octets::from_slice(alloc, b"abc")?;
-    Ok(
-        octets.len() == 3
-            && !octets.is_empty()
-            && octets.copy(alloc)?.as_slice() == b"abc".as_slice()
-            && Octets::from_slice(alloc, &[7; 33])?.as_slice() == [7; 33].as_slice(),
-    )
+/// Whether a copy of octets is the same.
+fn is_copied(alloc: Global, octets: &Octets) -> bool {
+    match octets.copy(alloc) {
+        Err(_) => false,
+        Ok(copy) => copy.as_slice() == octets.as_slice(),
+    }
+}
+
+/// Whether octets, of which there are some, are counted, given back and copied.
+fn are_kept(alloc: Global, octets: &[u8], len: usize) -> bool {
+    match Octets::from_slice(alloc, octets) {
+        Err(_) => false,
+        Ok(kept) => {
+            kept.len() == len
+                && !kept.is_empty()
+                && kept.as_slice() == octets
+                && is_copied(alloc, &kept)
+        }
+    }
+}
+
+/// Whether the first AVP of `TWO` has the second behind it.
+fn has_second_behind() -> bool {
+    match first_avp(&TWO) {
+        Err(_) => false,
+        Ok((_, rest)) => rest == &TWO[20..],
+    }
+}
+
+/// A list of the first AVP of `TWO`.
+fn first_of_two(alloc: Global) -> Result<AvpList, Fail> {
+    let (first, _) = first_avp(&TWO).map_err(|_| "no AVP")?;
+    let first = first.to_avp(alloc)?;
+    let mut list = AvpList::with_capacity(alloc, 1)?;
+    list.push(first)?;
+    Ok(AvpList::from_vec(list.into_vec()))
 }
 
 #[test]
 fn what_takes_memory_answers_where_there_is_memory(rt: HostRuntime) -> Result<(), Fail> {
     let alloc = rt.alloc();
-    assert!(rt; is_copied(alloc)?);
-    let (first, rest) = first_avp(&TWO).map_err(|_| "no AVP")?;
-    assert!(rt; rest == &TWO[20..]);
-    let mut list = AvpList::with_capacity(alloc, 1)?;
-    list.push(first.to_avp(alloc)?)?;
-    let list = AvpList::from_vec(list.into_vec());
-    assert!(rt; list.as_slice().len() == 1);
-    assert!(rt; is_written(alloc, &list, &TWO[..20]));
+    assert!(rt; are_kept(alloc, b"abc", 3) && are_kept(alloc, &[7; 33], 33));
+    let list = first_of_two(alloc)?;
+    assert!(rt;
+        has_second_behind() && list.as_slice().len() == 1 && is_written(alloc, &list, &TWO[..20])
+    );
     Ok(())
 }
 

@@ -1,4 +1,5 @@
-//! Tests of what messages say in names, in lines of text and as JSON, over public calls alone.
+//! Tests of the faults and encodings of trees of AVPs, and of what messages say in names, in lines of text and as JSON, over public
+//! calls alone.
 #![tactic(auto)]
 
 #[cfg(test)]
@@ -9,5 +10,7 @@ mod json_values;
 mod messages;
 #[cfg(test)]
 mod octets;
+#[cfg(test)]
+mod tree;
 #[cfg(test)]
 mod values;

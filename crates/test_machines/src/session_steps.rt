@@ -3,24 +3,14 @@
 
 ghost use Rattle.tab_law.specs.Acts.{Permits};
 
-#[cfg(test)]
 use bench_device::{Counting, Status};
-#[cfg(test)]
 use client_rules::{client_laws, register_client};
-#[cfg(test)]
 use role_tables::{CLIENT_TABLE, SERVER_TABLE};
-#[cfg(test)]
 use server_rules::{register_server, server_laws};
-#[cfg(test)]
 use std::alloc::Global;
-#[cfg(test)]
 use std::test::Fail;
-#[cfg(test)]
 use tab_call::{Ask, Calls, Do, Registry, StoredAct, StoredGuard};
-#[cfg(test)]
-use tab_law::holds;
-use tab_law::{ActLaw, Acted, Scene, emitted, high, permits};
-#[cfg(test)]
+use tab_law::{ActLaw, Acted, Scene, emitted, high, holds, permits};
 use tab_walk::walk_on;
 
 /// The callbacks of a role, each answering by its law: a guard as the law holds, an action as told.
@@ -60,7 +50,6 @@ pub fn grants_one(law: &ActLaw, scene: &Scene) -> Acted
 }
 
 /// Whether a table's walk on these events prints this text.
-#[cfg(test)]
 fn walks(alloc: Global, registry: &Registry, table: &str, events: &str, printed: &str) -> bool {
     let mut sink = Counting::new(Vec::new(alloc));
     let status = walk_on(
@@ -73,9 +62,26 @@ fn walks(alloc: Global, registry: &Registry, table: &str, events: &str, printed:
     sink.device.as_slice() == printed.as_bytes() && status == Status::Done
 }
 
+/// Events and what is printed of a walk on them.
+type Walk = (&'static str, &'static str);
+
+/// The events of the first walk that prints another text.
+fn wrong_walk(
+    alloc: Global,
+    registry: &Registry,
+    table: &str,
+    rows: &[Walk],
+) -> Option<&'static str> {
+    for (events, printed) in rows {
+        if !walks(alloc, registry, table, events, printed) {
+            return Some(events);
+        }
+    }
+    None
+}
+
 /// A session that is granted units twice and ends.
-#[cfg(test)]
-const GRANT: (&str, &str) = (
+const GRANT: Walk = (
     "\
 Initial 0=4097 1=1 2=7 3=7 4=1 5=1 6=1 7=100 9=60 10=3 12=2001 13=60
 Update 0=4097 1=1 2=8 3=8 4=1 5=2 6=2 7=100 8=50 9=60 10=3 12=2001 13=50 14=1 15=50
@@ -100,8 +106,7 @@ Terminate Open Idle row 29
 );
 
 /// A session that is refused once, repeats itself, comes late, and reaches the limit of its account.
-#[cfg(test)]
-const REFUSED: (&str, &str) = (
+const REFUSED: Walk = (
     "\
 Update 2=1 3=2 5=2 6=4 12=2001
 Initial 2=3 3=4 5=1 6=1 7=100 9=60 10=3 12=5030
@@ -158,8 +163,7 @@ Tcc Open Idle row 31
 );
 
 /// One-time events.
-#[cfg(test)]
-const EVENTS: (&str, &str) = (
+const EVENTS: Walk = (
     "\
 Event 5=4 6=8 7=100 9=30 10=3 11=1 12=2001 13=30
 Event 5=4 6=8 7=100 9=30 10=3 11=1 12=2001 13=30
@@ -196,8 +200,7 @@ Event Idle Idle row 17
 );
 
 /// Two services, of which one reaches its limit; then the session's time is over. Four services that are all refused.
-#[cfg(test)]
-const GROUPS: (&str, &str) = (
+const GROUPS: Walk = (
     "\
 Initial 0=4097 1=1 2=7 3=7 4=1 5=1 6=1 7=100 12=2001 16=2 17=3 19=70 20=2 21=2001 22=70 25=4 27=50 28=2 29=2001 30=30 31=1
 Update 0=4097 1=1 2=8 3=8 4=1 5=2 6=2 7=100 12=2001 16=2 17=3 18=80 19=10 20=2 21=4012 24=70 25=4 26=10 27=10 28=2 29=2001 30=10 32=10
@@ -258,8 +261,7 @@ Terminate Open Idle row 28
 );
 
 /// No answer comes, and the service is cut off; the late answer finds no session.
-#[cfg(test)]
-const CUT_OFF: (&str, &str) = (
+const CUT_OFF: Walk = (
     "\
 Begin 12=0
 Tx
@@ -277,8 +279,7 @@ CCA-I Idle Idle row -
 );
 
 /// No answer comes, and the service goes on.
-#[cfg(test)]
-const GOES_ON: (&str, &str) = (
+const GOES_ON: Walk = (
     "\
 Begin 12=1
 Tx
@@ -293,8 +294,7 @@ Tx PendingI PendingI row 12
 );
 
 /// A session with two services; answers of other requests don't count.
-#[cfg(test)]
-const SESSION: (&str, &str) = (
+const SESSION: Walk = (
     "\
 Begin 0=4097 7=100 12=2 16=2 17=3 19=70 20=2 25=4 27=50 28=2
 CCA-I 6=2 12=2001
@@ -380,15 +380,16 @@ Send-Fail PendingI Idle row 9
 fn a_session_of_a_server_goes_as_its_table_says(rt: HostRuntime) -> Result<(), Fail> {
     let alloc = rt.alloc();
     let laws = server_laws(alloc)?;
-    let mut registry = Registry::new(alloc);
     let calls = calls_of!(alloc, laws, high);
+    let mut registry = Registry::new(alloc);
     register_server(alloc, &mut registry, calls)?;
-    for (events, printed) in [GRANT, REFUSED, EVENTS, GROUPS] {
-        assert!(rt;
-            walks(alloc, &registry, SERVER_TABLE, events, printed),
-            "of {events}"
-        );
-    }
+    let wrong = wrong_walk(
+        alloc,
+        &registry,
+        SERVER_TABLE,
+        &[GRANT, REFUSED, EVENTS, GROUPS],
+    );
+    assert!(rt; wrong.is_none(), "{wrong:?}");
     Ok(())
 }
 
@@ -396,20 +397,15 @@ fn a_session_of_a_server_goes_as_its_table_says(rt: HostRuntime) -> Result<(), F
 fn a_session_of_a_client_goes_as_its_table_says(rt: HostRuntime) -> Result<(), Fail> {
     let alloc = rt.alloc();
     let laws = client_laws(alloc)?;
-    let mut registry = Registry::new(alloc);
     let calls = calls_of!(alloc, laws, high);
+    let mut registry = Registry::new(alloc);
     register_client(alloc, &mut registry, calls)?;
-    for (events, printed) in [CUT_OFF, GOES_ON, SESSION] {
-        assert!(rt;
-            walks(alloc, &registry, CLIENT_TABLE, events, printed),
-            "of {events}"
-        );
-    }
+    let wrong = wrong_walk(alloc, &registry, CLIENT_TABLE, &[CUT_OFF, GOES_ON, SESSION]);
+    assert!(rt; wrong.is_none(), "{wrong:?}");
     Ok(())
 }
 
 /// What is printed where 1 unit of 60 is granted.
-#[cfg(test)]
 const ONE_OF_SIXTY: &str = "\
 Initial Idle Open row 3
   Reserve 1
@@ -421,8 +417,8 @@ Initial Idle Open row 3
 fn a_callback_may_reserve_less_than_is_offered(rt: HostRuntime) -> Result<(), Fail> {
     let alloc = rt.alloc();
     let laws = server_laws(alloc)?;
-    let mut registry = Registry::new(alloc);
     let calls = calls_of!(alloc, laws, grants_one);
+    let mut registry = Registry::new(alloc);
     register_server(alloc, &mut registry, calls)?;
     let events = "Initial 2=7 3=7 4=1 5=1 6=1 7=100 9=60 10=3 12=2001 13=60\n";
     assert!(rt; walks(alloc, &registry, SERVER_TABLE, events, ONE_OF_SIXTY));

@@ -6,7 +6,9 @@ use client_rules::client_laws;
 use peer_rules::peer_laws;
 use role_tables::{CLIENT_TABLE, PEER_TABLE, SERVER_TABLE};
 use server_rules::server_laws;
+use std::alloc::Global;
 use std::test::Fail;
+use tab_law::LawBook;
 
 /// The states of a peer, by first appearance.
 const PEER_STATES: [&str; 8] = [
@@ -26,6 +28,14 @@ const CLIENT_STATES: [&str; 6] = [
 
 const SERVER_STATES: [&str; 2] = ["Idle", "Open"];
 
+/// Whether a table names what laws name, and has these states.
+fn names(alloc: Global, text: &str, laws: &LawBook, states: &[&'static str]) -> Result<bool, Fail> {
+    Ok(
+        has_the_names_of(alloc, text.as_bytes(), laws)?
+            && has_states(alloc, text.as_bytes(), states)?,
+    )
+}
+
 #[test]
 fn the_shipped_tables_are_printed_as_they_are_written(rt: HostRuntime) -> Result<(), Fail> {
     for text in [PEER_TABLE, CLIENT_TABLE, SERVER_TABLE] {
@@ -38,8 +48,7 @@ fn the_shipped_tables_are_printed_as_they_are_written(rt: HostRuntime) -> Result
 fn the_table_of_a_peer_names_what_its_laws_name(rt: HostRuntime) -> Result<(), Fail> {
     let alloc = rt.alloc();
     let laws = peer_laws(alloc)?;
-    assert!(rt; has_the_names_of(alloc, PEER_TABLE.as_bytes(), &laws)?);
-    assert!(rt; has_states(alloc, PEER_TABLE.as_bytes(), &PEER_STATES)?);
+    assert!(rt; names(alloc, PEER_TABLE, &laws, &PEER_STATES)?);
     Ok(())
 }
 
@@ -47,8 +56,7 @@ fn the_table_of_a_peer_names_what_its_laws_name(rt: HostRuntime) -> Result<(), F
 fn the_table_of_a_client_names_what_its_laws_name(rt: HostRuntime) -> Result<(), Fail> {
     let alloc = rt.alloc();
     let laws = client_laws(alloc)?;
-    assert!(rt; has_the_names_of(alloc, CLIENT_TABLE.as_bytes(), &laws)?);
-    assert!(rt; has_states(alloc, CLIENT_TABLE.as_bytes(), &CLIENT_STATES)?);
+    assert!(rt; names(alloc, CLIENT_TABLE, &laws, &CLIENT_STATES)?);
     Ok(())
 }
 
@@ -56,7 +64,6 @@ fn the_table_of_a_client_names_what_its_laws_name(rt: HostRuntime) -> Result<(),
 fn the_table_of_a_server_names_what_its_laws_name(rt: HostRuntime) -> Result<(), Fail> {
     let alloc = rt.alloc();
     let laws = server_laws(alloc)?;
-    assert!(rt; has_the_names_of(alloc, SERVER_TABLE.as_bytes(), &laws)?);
-    assert!(rt; has_states(alloc, SERVER_TABLE.as_bytes(), &SERVER_STATES)?);
+    assert!(rt; names(alloc, SERVER_TABLE, &laws, &SERVER_STATES)?);
     Ok(())
 }

@@ -22,6 +22,9 @@ use std::test::Fail;
 use tab_law::{Deed, PLACES};
 use tab_step::{Event, MachineState, Stepped};
 
+/// The account that is open, and that requests are for where they name no other.
+pub const ACCOUNT: u64 = 100;
+
 /// The octets that a Requested-Service-Unit without an amount asks for.
 const DEFAULT_UNITS: u64 = 500;
 
@@ -30,7 +33,6 @@ const LINE: u64 = 1;
 
 /// A server's node: one peer, whose machine has number 0, its sessions, whose machines are numbered from 1, and a page of the
 /// account book. It keeps room for the operations and for the step of one request.
-#[derive(Drop)]
 pub struct Server {
     alloc: Global,
     dictionary: Dictionary,
@@ -41,6 +43,22 @@ pub struct Server {
     pub page: Page,
     ops: Vec<Op>,
     room: Stepped,
+}
+
+impl Drop for Server {
+    fn drop(self) {
+        let Server {
+            alloc: _,
+            dictionary,
+            identity,
+            peer: _,
+            names,
+            sessions,
+            page,
+            ops,
+            room: _,
+        } = self;
+    }
 }
 
 /// A machine of this number in the first state of its table.
@@ -89,21 +107,16 @@ fn put_ops(ops: &mut Vec<Op>, deeds: &[Deed], want: &Want) -> Result<(), AllocEr
     Ok(())
 }
 
-/// A page on which these accounts are open, each with what it is given.
-fn page_of(alloc: Global, accounts: &[(u64, u64)]) -> Result<Page, OpenError> {
+/// A page with one account that is given so much.
+fn page_of(alloc: Global, given: u64) -> Result<Page, OpenError> {
     let mut page = Page::new(alloc);
-    for (id, given) in accounts {
-        let (number, pages) = page.number();
-        if *id >= 1 && pages >= 1 && *id % pages == number {
-            page.open_account(*id, *given)?;
-        }
-    }
+    page.open_account(ACCOUNT, given)?;
     Ok(page)
 }
 
 impl Server {
-    /// The node s.example with these accounts, without sessions. Its peer has not connected yet.
-    pub fn new(alloc: Global, accounts: &[(u64, u64)]) -> Result<Server, Fail> {
+    /// The node s.example whose account is given so much, without sessions. Its peer has not connected yet.
+    pub fn new(alloc: Global, given: u64) -> Result<Server, Fail> {
         Ok(Server {
             alloc,
             dictionary: Dictionary::base(alloc)?,
@@ -115,7 +128,7 @@ impl Server {
             peer: start(0),
             names: Directory::new(alloc),
             sessions: Vec::new(alloc),
-            page: page_of(alloc, accounts)?,
+            page: page_of(alloc, given)?,
             ops: Vec::new(alloc),
             room: Stepped::new(),
         })

@@ -1,6 +1,13 @@
-//! The tests of the roles, over their public calls: callbacks, events and messages of peers.
+//! The tests of the roles, over their public calls: callbacks, events and messages of peers, what messages of credit control say,
+//! and those that deeds send.
 #![tactic(auto)]
 
+#[cfg(test)]
+mod charge_messages;
+#[cfg(test)]
+mod facts;
+#[cfg(test)]
+mod octets;
 #[cfg(test)]
 mod peer_events;
 #[cfg(test)]

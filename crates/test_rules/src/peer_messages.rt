@@ -40,7 +40,7 @@ const ANSWER: [u64; 5] = [0, 5, 0x1_0000_0007, 0x2_0000_0008, 0x3_0000_07d1];
 /// A deed, its first five arguments, and the header and the AVPs of its message.
 type Sample = (DeedCode, [u64; 5], [u8; 20], &'static [&'static [u8]]);
 
-const SAMPLES: [Sample; 5] = [
+const SAMPLES: &[Sample] = &[
     (
         DeedCode::SndCer,
         REQUEST,
@@ -123,8 +123,8 @@ fn is_encoded(
     Ok(write_message(command, &mut out).is_ok() && out.as_slice() == wanted.as_slice())
 }
 
-fn is_as_told(alloc: Global, sample: Sample) -> Result<bool, Fail> {
-    let (code, first, header, avps) = sample;
+fn is_as_told(alloc: Global, sample: &Sample) -> Result<bool, Fail> {
+    let (code, first, header, avps) = *sample;
     match &message(alloc, code.number(), first)? {
         Some(command) => is_encoded(alloc, command, &header, avps),
         None => Ok(false),
@@ -134,7 +134,7 @@ fn is_as_told(alloc: Global, sample: Sample) -> Result<bool, Fail> {
 #[test]
 fn deeds_send_the_messages_of_the_base_protocol(rt: HostRuntime) -> Result<(), Fail> {
     for (place, sample) in SAMPLES.iter().enumerate() {
-        assert!(rt; is_as_told(rt.alloc(), *sample)?, "{place}");
+        assert!(rt; is_as_told(rt.alloc(), sample)?, "{place}");
     }
     Ok(())
 }

@@ -5,4 +5,5 @@
 mod laws;
 #[cfg(test)]
 mod registry;
+#[cfg(test)]
 mod steps;

@@ -1,3 +1,5 @@
+//! Trees of AVPs: the first fault at every level, values of credit control, missing AVPs, canonical encodings.
+
 use base_fixed::FixedList;
 use dia_avp::{AvpView, MAX_AVPS, WriteError, write_avp, write_avps};
 use dia_dict::{AvpKind, Dictionary};
