@@ -13,7 +13,7 @@ const CLIENT: &str =
     "  State  Event                        Action         Next\n  Wait   CCA-I when mine and success  Grant-Service  Done\n  Wait   CCA-I                        End-Service    Wait\n";
 
 /// Its image, by hand: magic, counts, names, two entries, 27 octets of code.
-const IMAGE: [u8; 108] = [
+pub(crate) const IMAGE: [u8; 108] = [
     68, 84, 73, 50, 0, 2, 0, 1, 0, 2, 0, 2, 0, 2, 4, 87, 97, 105, 116, 4, 68, 111, 110, 101, 5, 67,
     67, 65, 45, 73, 4, 109, 105, 110, 101, 7, 115, 117, 99, 99, 101, 115, 115, 13, 71, 114, 97,
     110, 116, 45, 83, 101, 114, 118, 105, 99, 101, 11, 69, 110, 100, 45, 83, 101, 114, 118, 105,
@@ -25,7 +25,7 @@ const IMAGE: [u8; 108] = [
 const HEADING: &str = "  State  Event  Action  Next\n";
 
 /// A book with all names of a table, in the order of their numbers.
-fn book_of(alloc: Global, table: &Table) -> Result<LawBook, AddError> {
+pub(crate) fn book_of(alloc: Global, table: &Table) -> Result<LawBook, AddError> {
     let mut book = LawBook::new(alloc);
     for name in table.kinds().as_slice() {
         book.add_kind(name.as_slice())?;
@@ -40,7 +40,7 @@ fn book_of(alloc: Global, table: &Table) -> Result<LawBook, AddError> {
 }
 
 /// The image of a text's table.
-fn image_of(alloc: Global, text: &[u8]) -> Result<Vec<u8>, Fail> {
+pub(crate) fn image_of(alloc: Global, text: &[u8]) -> Result<Vec<u8>, Fail> {
     let table = parse(alloc, text).ok().ok_or("the text is a table")?;
     let book = book_of(alloc, &table).ok().ok_or("the names differ")?;
     let bound = bind(alloc, table, &book)
@@ -58,7 +58,7 @@ fn put_number(text: &mut Vec<u8>, number: u8) -> Result<(), AllocError> {
 }
 
 /// Rows of 64 states and 64 kinds, each with the same guards and actions.
-fn wide(alloc: Global) -> Result<Vec<u8>, AllocError> {
+pub(crate) fn wide(alloc: Global) -> Result<Vec<u8>, AllocError> {
     let mut text = Vec::new(alloc);
     text.extend_from_slice(b"  State  Event                         Action             Next\n")?;
     for state in 0..64u8 {
@@ -74,7 +74,7 @@ fn wide(alloc: Global) -> Result<Vec<u8>, AllocError> {
 }
 
 /// As many rows of one state and one kind.
-fn deep(alloc: Global, rows: u16) -> Result<Vec<u8>, AllocError> {
+pub(crate) fn deep(alloc: Global, rows: u16) -> Result<Vec<u8>, AllocError> {
     let mut text = Vec::new(alloc);
     text.extend_from_slice(HEADING.as_bytes())?;
     for _ in 0..rows {

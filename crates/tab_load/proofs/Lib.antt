@@ -1,0 +1,6 @@
+pub mod CountLemmas
+pub mod ScanLemmas
+pub mod NameLemmas
+pub mod CheckLemmas
+pub mod RefusalLemmas
+pub mod BodyLemmas

@@ -1,0 +1,4 @@
+pub mod Faults
+pub mod Code
+pub mod Names
+pub mod Loading

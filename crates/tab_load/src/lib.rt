@@ -1,0 +1,21 @@
+//! Images of state tables loaded to programs, and run.
+//!
+//! [`load`] takes both formats, by the octets that an image begins with. The definitions of faults and of what an event
+//! does stand in `specs/`; those of images and of paths through their code in `tab_asm`.
+#![tactic(auto)]
+
+mod body;
+mod checks;
+mod counts;
+mod fault;
+mod instruction;
+mod loading;
+mod names;
+mod program;
+mod scan;
+mod spelling;
+
+pub use counts::Format;
+pub use fault::{ImageFault, LoadError, LoadFault};
+pub use loading::load;
+pub use program::Program;
