@@ -19,7 +19,7 @@ use std::test::Fail;
 use tab_call::{Ask, Calls, Do, Registry, StoredAct, StoredGuard};
 #[cfg(test)]
 use tab_law::holds;
-use tab_law::{ActLaw, Acted, Scene, emitted, high, permits};
+use tab_law::{ActLaw, Acted, Scene, emitted, high_into, permits};
 #[cfg(test)]
 use tab_walk::walk_on;
 
@@ -37,25 +37,26 @@ macro_rules! calls_of {
         for place in 0..$laws.acts().len() {
             let law = &$laws.acts().at(place).value;
             let own = law.copy($alloc)?;
-            let act: Do = Box::new($alloc, move |scene: &Scene| $answer(&own, scene))?;
+            let act: Do = Box::new($alloc, move |scene: &Scene, room: &mut Acted| {
+                $answer(&own, scene, room);
+            })?;
             acts.push(StoredAct::new(law.copy($alloc)?, act))?;
         }
         Calls { guards, acts }
     }};
 }
 
-/// The answer that a law permits with 1 unit granted, if it permits one, else with as many as it permits.
-pub fn grants_one(law: &ActLaw, scene: &Scene) -> Acted
-    ensures { Permits law.now scene.now result.regs result.deeds }
+/// Writes the answer that a law permits with 1 unit granted, if it permits one, else with as many as it permits.
+pub fn grants_one(law: &ActLaw, scene: &Scene, room: &mut Acted)
+    ensures { Permits law.now scene.now room.new.regs room.new.deeds }
 {
-    let highest = high(law, scene);
-    let mut regs = highest.regs;
+    high_into(law, scene, room);
+    let mut regs = room.regs;
     regs[3] = 1;
     let deeds = emitted(law, scene, &regs);
     if permits(law, scene, &regs, deeds.as_slice()) {
-        Acted { regs, deeds }
-    } else {
-        highest
+        room.regs = regs;
+        room.deeds = deeds;
     }
 }
 
@@ -381,7 +382,7 @@ fn a_session_of_a_server_goes_as_its_table_says(rt: HostRuntime) -> Result<(), F
     let alloc = rt.alloc();
     let laws = server_laws(alloc)?;
     let mut registry = Registry::new(alloc);
-    let calls = calls_of!(alloc, laws, high);
+    let calls = calls_of!(alloc, laws, high_into);
     register_server(alloc, &mut registry, calls)?;
     for (events, printed) in [GRANT, REFUSED, EVENTS, GROUPS] {
         assert!(rt;
@@ -397,7 +398,7 @@ fn a_session_of_a_client_goes_as_its_table_says(rt: HostRuntime) -> Result<(), F
     let alloc = rt.alloc();
     let laws = client_laws(alloc)?;
     let mut registry = Registry::new(alloc);
-    let calls = calls_of!(alloc, laws, high);
+    let calls = calls_of!(alloc, laws, high_into);
     register_client(alloc, &mut registry, calls)?;
     for (events, printed) in [CUT_OFF, GOES_ON, SESSION] {
         assert!(rt;
