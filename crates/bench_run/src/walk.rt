@@ -13,7 +13,7 @@ use law_text::put_book;
 use role_tables::{all_laws, table_named};
 use std::alloc::{AllocError, Global};
 use tab_call::{Ask, Calls, Do, Registry, StoredAct, StoredGuard};
-use tab_law::{LawBook, Scene, high, holds};
+use tab_law::{Acted, LawBook, Scene, high_into, holds};
 use tab_role::TakesRoles;
 use tab_walk::walk_on;
 
@@ -43,7 +43,9 @@ fn walk_by<O: ByteSink>(
     let mut acts = Vec::new(alloc);
     for entry in laws.acts().as_slice() {
         let own = entry.value.copy(alloc)?;
-        let act: Do = Box::new(alloc, move |scene: &Scene| high(&own, scene))?;
+        let act: Do = Box::new(alloc, move |scene: &Scene, room: &mut Acted| {
+            high_into(&own, scene, room);
+        })?;
         acts.push(StoredAct::new(entry.value.copy(alloc)?, act))?;
     }
     let mut registry = Registry::new(alloc);

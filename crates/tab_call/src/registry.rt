@@ -61,12 +61,13 @@ impl Registry {
         self.guards[place].ask(scene)
     }
 
-    /// What the callback of the action at a place answers: something that its law permits.
-    pub fn act(&self, place: usize, scene: &Scene) -> Acted
+    /// Has the callback of the action at a place write its answer into room: something that its law permits. What stood
+    /// there is gone.
+    pub fn act(&self, place: usize, scene: &Scene, room: &mut Acted)
         requires { place < length self.now.book.acts }
-        ensures { ActPermits self.now.book place scene.now result.regs result.deeds }
+        ensures { ActPermits self.now.book place scene.now room.new.regs room.new.deeds }
     {
-        self.acts[place].act(scene)
+        self.acts[place].act(scene, room);
     }
 
     /// Adds a kind of events.

@@ -8,8 +8,8 @@ use tab_law::{ActLaw, Acted, GuardLaw, Scene};
 /// Answers whether a guard says yes on a scene.
 pub type Ask = Box<dyn Fn(&Scene) -> bool + Send>;
 
-/// Answers what an action does on a scene.
-pub type Do = Box<dyn Fn(&Scene) -> Acted + Send>;
+/// Writes what an action does on a scene into room; what stood there is gone.
+pub type Do = Box<dyn Fn(&Scene, &mut Acted) + Send>;
 
 /// A guard's callback, with the law that fixes its answers.
 #[derive(Drop)]
@@ -46,25 +46,26 @@ pub struct StoredAct {
     pub law: ActLaw,
     act: Do,
     ghost callable: { IsAlwaysCallable act },
-    ghost answers: { (scene : _) (acted : _) → IsScene scene.now → post act scene acted → Permits law scene.now acted.regs acted.deeds } by { Prim.hlevel Permits-prop },
+    ghost answers: { (scene room left : _) → IsScene scene.now → post act scene room tt left → Permits law scene.now left.now.regs left.now.deeds } by { Prim.hlevel Permits-prop },
 }
 
 impl StoredAct {
-    /// Stores a callback. Condition: on every scene it may be called, and its answer is one that the law permits.
+    /// Stores a callback. Condition: on every scene and room it may be called, and what it leaves in the room is an answer
+    /// that the law permits.
     pub fn new(law: ActLaw, act: Do) -> StoredAct
         requires callable { IsAlwaysCallable act }
-        requires answers { (scene : _) (acted : _) → IsScene scene.now → post act scene acted → Permits law scene.now acted.regs acted.deeds }
+        requires answers { (scene room left : _) → IsScene scene.now → post act scene room tt left → Permits law scene.now left.now.regs left.now.deeds }
         ensures law { result.law ≡ law }
         ensures act { result.act ≡ act }
     {
         StoredAct { law, act }
     }
 
-    /// Runs the callback.
-    pub fn act(&self, scene: &Scene) -> Acted
-        ensures { Permits self.now.law scene.now result.regs result.deeds }
+    /// Runs the callback, which writes its answer into room; what stood there is gone.
+    pub fn act(&self, scene: &Scene, room: &mut Acted)
+        ensures { Permits self.now.law scene.now room.new.regs room.new.deeds }
     {
         scene.known();
-        (self.act)(scene)
+        (self.act)(scene, room);
     }
 }

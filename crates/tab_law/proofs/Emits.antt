@@ -1,5 +1,6 @@
 use Rattle.std.proofs.Common.{◌≡◌, ℕ, ◌+◌, ◌-◌, ◌<◌, ◌≤◌, zero, suc, Bool, true, false, Option, Some, None, List, [], ◌∷◌, ◌++◌, length, take, map, filter, replicate, slice_set, get_or, arith, refl, ap, length-append, append-nil}
 use Rattle.std.specs.List.{filter_map}
+use Rattle.std.specs.Option.{option_to_list}
 use Rattle.std.proofs.lemmas.List.Elements.{filter-append, filter_map-append}
 use Rattle.std.proofs.lemmas.List.{length-take, take_all, take-append-le}
 
@@ -24,6 +25,13 @@ filter-yes p xs x e = rw (filter-append p xs (x ∷ []), e) refl
 filter-no : {X : Type 0} (p : X → Bool) (xs : List X) (x : X) → p x ≡ false → filter p (xs ++ x ∷ []) ≡ filter p xs
 filter-no p xs x e = rw (filter-append p xs (x ∷ []), e) (append-nil (filter p xs))
 
+filter_map-one : {X Y : Type 0} (f : X → Option Y) (x : X) → option_to_list (f x) ≡ filter_map f (x ∷ [])
+filter_map-one f x = elim (f x) as (λ o. f x ≡ o → option_to_list o ≡ filter_map f (x ∷ [])) [ Some y ↦ λ e. rw e refl | None ↦ λ e. rw e refl ] refl
+
+at-most-one : {Y : Type 0} (o : Option Y) → length (option_to_list o) ≤ 1
+at-most-one (Some y) = omega arith
+at-most-one None = omega arith
+
 -- the first n of xs that count give ys, and there are `counted` of them
 pub record AreGiven {X Y : Type 0} (f : X → Option Y) (p : X → Bool) (n : ℕ) (xs : List X) (ys : List Y) (counted : ℕ) : Type 0 where
   pub given : ys ≡ filter_map f (take n (filter p xs))
@@ -43,24 +51,14 @@ counted-full : {X : Type 0} (n : ℕ) (p : X → Bool) (xs : List X) (x : X) (b 
 counted-full n p xs x true e h = rw (filter-yes p xs x e) (take_full n (filter p xs) (x ∷ []) h)
 counted-full n p xs x false e h = counted-other n p xs x e
 
--- one that counts and gives one more
-pub AreGiven-more : {X Y : Type 0} (f : X → Option Y) (p : X → Bool) (n : ℕ) (xs : List X) (ys : List Y) (counted : ℕ) (x : X) (y : Y) → AreGiven f p n xs ys counted → counted < n → p x ≡ true → f x ≡ Some y → AreGiven f p n (xs ++ x ∷ []) (ys ++ y ∷ []) (counted + 1)
-AreGiven-more f p n xs ys counted x y g l e k =
+-- one that counts, and what it gives
+pub AreGiven-more : {X Y : Type 0} (f : X → Option Y) (p : X → Bool) (n : ℕ) (xs : List X) (ys : List Y) (counted : ℕ) (x : X) → AreGiven f p n xs ys counted → counted < n → p x ≡ true → AreGiven f p n (xs ++ x ∷ []) (ys ++ option_to_list (f x)) (counted + 1)
+AreGiven-more f p n xs ys counted x g l e =
     let more = counted-more n p xs x e (rw (← g.number) l) in
     record {
-      given = rw (more, filter_map-append, k, ← g.given) refl;
+      given = rw (more, filter_map-append, ← g.given) (ap (λ zs. ys ++ zs) (filter_map-one f x));
       number = rw (more, length-append, ← g.number) refl;
-      few = omega (arith, length-append ys (y ∷ []), g.few);
-    }
-
--- one that counts and gives nothing
-pub AreGiven-none : {X Y : Type 0} (f : X → Option Y) (p : X → Bool) (n : ℕ) (xs : List X) (ys : List Y) (counted : ℕ) (x : X) → AreGiven f p n xs ys counted → counted < n → p x ≡ true → f x ≡ None → AreGiven f p n (xs ++ x ∷ []) ys (counted + 1)
-AreGiven-none f p n xs ys counted x g l e k =
-    let more = counted-more n p xs x e (rw (← g.number) l) in
-    record {
-      given = rw (more, filter_map-append, k, append-nil) g.given;
-      number = rw (more, length-append, ← g.number) refl;
-      few = omega (arith, g.few);
+      few = omega (arith, length-append ys (option_to_list (f x)), at-most-one (f x), g.few);
     }
 
 -- one that doesn't count

@@ -1,5 +1,6 @@
-ghost use Rattle.std.specs.Prelude.{◌≡◌, ◌++◌, ◌-◌, ◌↔◌, Option, IsTrue, length, map, replicate};
-ghost use Rattle.std.specs.Option.{option_copied};
+ghost use Rattle.std.specs.Prelude.{◌≡◌, ◌<◌, ◌++◌, ◌∷◌, [], ◌-◌, ◌↔◌, Option, IsTrue, length, map, replicate};
+ghost use Rattle.std.specs.Option.{option_copied, option_to_list};
+ghost use Rattle.tab_law.specs.declared.limits.TheConstants.{PLACES, MAX_EMITS};
 ghost use Rattle.tab_law.specs.Values.{term_value};
 ghost use Rattle.tab_law.specs.Acts.{is_change_of, is_emit, last_of, Allows, IsAtHighest, arguments_of, deed_of, emitted, Permits, IsHigh};
 
@@ -8,11 +9,24 @@ use crate::limits::{MAX_EMITS, PLACES};
 use crate::scene::{ActDeeds, Deed, Scene};
 use crate::value::{atom, term};
 
-/// What an action answers: the registers after it, and its deeds.
+/// What an action answers: the registers after it, and its deeds. It holds room for four deeds, 2.6 kilobytes: a caller
+/// that runs many actions keeps one, and has each answer written into it.
 #[derive(Drop)]
 pub struct Acted {
     pub regs: [u64; PLACES],
     pub deeds: ActDeeds,
+}
+
+impl Acted {
+    /// Room for an answer: registers 0, no deeds.
+    pub fn new() -> Acted
+        ensures { result ≡ record { regs = replicate PLACES 0; deeds = [] } }
+    {
+        Acted {
+            regs: [0; PLACES],
+            deeds: ActDeeds::new(),
+        }
+    }
 }
 
 /// Whether a change is of that register.
@@ -52,11 +66,11 @@ fn allows(scene: &Scene, change: Option<&Change>, old: u64, new: u64) -> bool
     }
 }
 
-/// The registers with each Set done and each Pick at its high.
-fn highest_regs(law: &ActLaw, scene: &Scene) -> [u64; PLACES]
-    ensures { IsAtHighest law.now scene.now result }
+/// Writes the registers with each Set done and each Pick at its high.
+fn set_highest(law: &ActLaw, scene: &Scene, regs: &mut [u64; PLACES])
+    ensures { IsAtHighest law.now scene.now regs.new }
 {
-    let mut regs = scene.regs;
+    *regs = scene.regs;
     for change in law.changes() {
         match change {
             Change::Set(number, t) => {
@@ -68,19 +82,17 @@ fn highest_regs(law: &ActLaw, scene: &Scene) -> [u64; PLACES]
             Change::Emit(_, _) | Change::EmitIf(_, _, _) => {}
         }
     }
-    regs
 }
 
-/// The values of a deed's terms, and 0 behind them.
-fn arguments(scene: &Scene, new: &[u64; PLACES], terms: &Terms) -> [u64; PLACES]
-    ensures { result ≡ arguments_of scene.now new.now terms.now }
+/// Writes the values of a deed's terms, and 0 behind them.
+fn set_arguments(scene: &Scene, new: &[u64; PLACES], terms: &Terms, a: &mut [u64; PLACES])
+    ensures { a.new ≡ arguments_of scene.now new.now terms.now }
 {
     let terms = terms.as_slice();
-    let mut a = [0; PLACES];
+    *a = [0; PLACES];
     for i in 0..terms.len() {
         a[i] = term(scene, new, terms[i]);
     }
-    a
 }
 
 /// Whether a change is an Emit, with a condition or without.
@@ -93,17 +105,43 @@ fn is_emit(change: &Change) -> bool
     }
 }
 
-/// The deed that a change emits.
-fn deed(scene: &Scene, new: &[u64; PLACES], change: &Change) -> Option<Deed>
-    ensures { result ≡ deed_of scene.now new.now change.now }
+/// Adds the deed of that code and those terms.
+fn add(scene: &Scene, new: &[u64; PLACES], code: u16, terms: &Terms, deeds: &mut ActDeeds)
+    requires { length deeds.old < MAX_EMITS }
+    ensures { deeds.new ≡ deeds.old ++ record { code = code; a = arguments_of scene.now new.now terms.now } ∷ [] }
 {
-    let (code, terms) = match change {
-        Change::Emit(code, terms) => (*code, terms),
-        Change::EmitIf(test, code, terms) if atom(scene, new, *test) != 0 => (*code, terms),
-        _ => return None,
-    };
-    let a = arguments(scene, new, terms);
-    Some(Deed { code, a })
+    deeds.push_with(|deed: &mut Deed| {
+        deed.code = code;
+        set_arguments(scene, new, terms, &mut deed.a);
+    });
+}
+
+/// Adds the deed that a change emits, if it emits one.
+fn emit(scene: &Scene, new: &[u64; PLACES], change: &Change, deeds: &mut ActDeeds)
+    requires { length deeds.old < MAX_EMITS }
+    ensures { deeds.new ≡ deeds.old ++ option_to_list (deed_of scene.now new.now change.now) }
+{
+    match change {
+        Change::Emit(code, terms) => add(scene, new, *code, terms, deeds),
+        Change::EmitIf(test, code, terms) if atom(scene, new, *test) != 0 => {
+            add(scene, new, *code, terms, deeds);
+        }
+        _ => {}
+    }
+}
+
+/// Writes the deeds that a law emits where the action leaves the registers as `new`.
+fn set_emitted(law: &ActLaw, scene: &Scene, new: &[u64; PLACES], deeds: &mut ActDeeds)
+    ensures { deeds.new ≡ emitted law.now scene.now new.now }
+{
+    deeds.clear();
+    let mut counted = 0;
+    for change in law.changes() {
+        if counted < MAX_EMITS && is_emit(change) {
+            counted += 1;
+            emit(scene, new, change, deeds);
+        }
+    }
 }
 
 /// The deeds that a law emits where the action leaves the registers as `new`.
@@ -111,15 +149,7 @@ pub fn emitted(law: &ActLaw, scene: &Scene, new: &[u64; PLACES]) -> ActDeeds
     ensures { result ≡ emitted law.now scene.now new.now }
 {
     let mut deeds = ActDeeds::new();
-    let mut counted = 0;
-    for change in law.changes() {
-        if counted < MAX_EMITS && is_emit(change) {
-            counted += 1;
-            if let Some(next) = deed(scene, new, change) {
-                deeds.push(next);
-            }
-        }
-    }
+    set_emitted(law, scene, new, &mut deeds);
     deeds
 }
 
@@ -143,12 +173,21 @@ pub fn permits(law: &ActLaw, scene: &Scene, regs: &[u64; PLACES], deeds: &[Deed]
     are_same(deeds, emitted(law, scene, regs).as_slice())
 }
 
-/// The permitted answer with each Pick at its high.
+/// Writes the permitted answer with each Pick at its high into room; what stood there is gone.
+pub fn high_into(law: &ActLaw, scene: &Scene, room: &mut Acted)
+    ensures permitted { Permits law.now scene.now room.new.regs room.new.deeds }
+    ensures high { IsHigh law.now scene.now room.new.regs room.new.deeds }
+{
+    set_highest(law, scene, &mut room.regs);
+    set_emitted(law, scene, &room.regs, &mut room.deeds);
+}
+
+/// The permitted answer with each Pick at its high. `high_into` does the same without new room.
 pub fn high(law: &ActLaw, scene: &Scene) -> Acted
     ensures permitted { Permits law.now scene.now result.regs result.deeds }
     ensures high { IsHigh law.now scene.now result.regs result.deeds }
 {
-    let regs = highest_regs(law, scene);
-    let deeds = emitted(law, scene, &regs);
-    Acted { regs, deeds }
+    let mut room = Acted::new();
+    high_into(law, scene, &mut room);
+    room
 }

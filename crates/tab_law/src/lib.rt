@@ -13,7 +13,7 @@ mod limits;
 mod scene;
 mod value;
 
-pub use act::{Acted, emitted, high, permits};
+pub use act::{Acted, emitted, high, high_into, permits};
 pub use book::LawBook;
 pub use guard::holds;
 pub use law::{ActLaw, Atom, Change, Field, GuardLaw, Numbers, Term, Terms, Test};

@@ -1,7 +1,7 @@
 ghost use Rattle.std.specs.Prelude.{◌≡◌, [], None, replicate};
 ghost use Rattle.tab_law.specs.declared.limits.TheConstants.{PLACES};
 
-use tab_law::{Chain, Deeds, PLACES};
+use tab_law::{Acted, Chain, Deeds, PLACES};
 
 /// Where a machine stands: the number of its state in its table, and its registers.
 #[derive(Clone, Copy, PartialEq, Eq, Debug)]
@@ -17,7 +17,7 @@ pub struct Event {
     pub facts: [u64; PLACES],
 }
 
-/// What one step leaves. It holds room for all its deeds, 21 kilobytes: keep it out of deep chains of
+/// What one step leaves. It holds room for all its deeds, 24 kilobytes: keep it out of deep chains of
 /// calls. A caller that steps often keeps one, and has `step_into` write into it.
 #[derive(Drop)]
 pub struct Stepped {
@@ -27,12 +27,17 @@ pub struct Stepped {
     pub deeds: Deeds,
     /// The registers after each of the row's actions.
     pub chain: Chain,
+    /// Where an action writes its answer.
+    pub(crate) acted: Acted,
 }
 
 impl Stepped {
     /// Room for a step: state 0, registers 0, no row, no deeds, no chain.
     pub fn new() -> Stepped
-        ensures { result ≡ record { after = record { state = 0; regs = replicate PLACES 0 }; row = None; deeds = []; chain = [] } }
+        ensures after { result.after ≡ record { state = 0; regs = replicate PLACES 0 } }
+        ensures row { result.row ≡ None }
+        ensures deeds { result.deeds ≡ [] }
+        ensures chain { result.chain ≡ [] }
     {
         let after = MachineState {
             state: 0,
@@ -43,6 +48,7 @@ impl Stepped {
             row: None,
             deeds: Deeds::new(),
             chain: Chain::new(),
+            acted: Acted::new(),
         }
     }
 }

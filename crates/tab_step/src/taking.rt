@@ -60,7 +60,9 @@ fn takes(
         && all_yes(book, registry, places.guards.as_slice(), scene)
 }
 
-/// The number of the first row that takes an event of that kind.
+/// The number of the first row that takes an event of that kind. It stands apart, so that its loop over many rows is kept in
+/// the processor's registers.
+#[inline(never)]
 pub(crate) fn first_row(
     bound: &Bound,
     book: &LawBook,

@@ -9,7 +9,7 @@ use role_tables::PEER_TABLE;
 use std::alloc::Global;
 use std::test::Fail;
 use tab_call::{Calls, Do, Registry, StoredAct};
-use tab_law::{Deed, LawBook, PLACES, Scene, high};
+use tab_law::{Acted, Deed, LawBook, PLACES, Scene, high_into};
 use tab_step::{Bound, Event, MachineState, Stepped, bind, run};
 use tab_text::parse;
 
@@ -112,7 +112,9 @@ fn a_peer_wins_the_election(rt: HostRuntime) -> Result<(), Fail> {
     for place in 0..laws.acts().len() {
         let law = &laws.acts().at(place).value;
         let own = law.copy(alloc)?;
-        let act: Do = Box::new(alloc, move |scene: &Scene| high(&own, scene))?;
+        let act: Do = Box::new(alloc, move |scene: &Scene, room: &mut Acted| {
+            high_into(&own, scene, room);
+        })?;
         acts.push(StoredAct::new(law.copy(alloc)?, act))?;
     }
     let guards = Vec::new(alloc);

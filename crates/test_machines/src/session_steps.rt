@@ -10,7 +10,7 @@ use server_rules::{register_server, server_laws};
 use std::alloc::Global;
 use std::test::Fail;
 use tab_call::{Ask, Calls, Do, Registry, StoredAct, StoredGuard};
-use tab_law::{ActLaw, Acted, Scene, emitted, high, holds, permits};
+use tab_law::{ActLaw, Acted, Scene, emitted, high_into, holds, permits};
 use tab_walk::walk_on;
 
 /// The callbacks of a role, each answering by its law: a guard as the law holds, an action as told.
@@ -27,25 +27,26 @@ macro_rules! calls_of {
         for place in 0..$laws.acts().len() {
             let law = &$laws.acts().at(place).value;
             let own = law.copy($alloc)?;
-            let act: Do = Box::new($alloc, move |scene: &Scene| $answer(&own, scene))?;
+            let act: Do = Box::new($alloc, move |scene: &Scene, room: &mut Acted| {
+                $answer(&own, scene, room);
+            })?;
             acts.push(StoredAct::new(law.copy($alloc)?, act))?;
         }
         Calls { guards, acts }
     }};
 }
 
-/// The answer that a law permits with 1 unit granted, if it permits one, else with as many as it permits.
-pub fn grants_one(law: &ActLaw, scene: &Scene) -> Acted
-    ensures { Permits law.now scene.now result.regs result.deeds }
+/// Writes the answer that a law permits with 1 unit granted, if it permits one, else with as many as it permits.
+pub fn grants_one(law: &ActLaw, scene: &Scene, room: &mut Acted)
+    ensures { Permits law.now scene.now room.new.regs room.new.deeds }
 {
-    let highest = high(law, scene);
-    let mut regs = highest.regs;
+    high_into(law, scene, room);
+    let mut regs = room.regs;
     regs[3] = 1;
     let deeds = emitted(law, scene, &regs);
     if permits(law, scene, &regs, deeds.as_slice()) {
-        Acted { regs, deeds }
-    } else {
-        highest
+        room.regs = regs;
+        room.deeds = deeds;
     }
 }
 
@@ -380,7 +381,7 @@ Send-Fail PendingI Idle row 9
 fn a_session_of_a_server_goes_as_its_table_says(rt: HostRuntime) -> Result<(), Fail> {
     let alloc = rt.alloc();
     let laws = server_laws(alloc)?;
-    let calls = calls_of!(alloc, laws, high);
+    let calls = calls_of!(alloc, laws, high_into);
     let mut registry = Registry::new(alloc);
     register_server(alloc, &mut registry, calls)?;
     let wrong = wrong_walk(
@@ -397,7 +398,7 @@ fn a_session_of_a_server_goes_as_its_table_says(rt: HostRuntime) -> Result<(), F
 fn a_session_of_a_client_goes_as_its_table_says(rt: HostRuntime) -> Result<(), Fail> {
     let alloc = rt.alloc();
     let laws = client_laws(alloc)?;
-    let calls = calls_of!(alloc, laws, high);
+    let calls = calls_of!(alloc, laws, high_into);
     let mut registry = Registry::new(alloc);
     register_client(alloc, &mut registry, calls)?;
     let wrong = wrong_walk(alloc, &registry, CLIENT_TABLE, &[CUT_OFF, GOES_ON, SESSION]);

@@ -17,7 +17,7 @@ use role_tables::all_laws;
 use std::alloc::Global;
 use std::test::Fail;
 use tab_call::{Ask, Calls, Do, Registry, StoredAct, StoredGuard};
-use tab_law::{Deed, PLACES, Scene, high, holds};
+use tab_law::{Acted, Deed, PLACES, Scene, high_into, holds};
 use tab_role::TakesRoles;
 
 /// A session, the CC-Request-Type and CC-Request-Number of its request, and the facts of the request and of its answer that are not
@@ -487,7 +487,9 @@ fn requests_are_charged(rt: HostRuntime) -> Result<(), Fail> {
     for place in 0..laws.acts().len() {
         let law = &laws.acts().at(place).value;
         let own = law.copy(alloc)?;
-        let act: Do = Box::new(alloc, move |scene: &Scene| high(&own, scene))?;
+        let act: Do = Box::new(alloc, move |scene: &Scene, room: &mut Acted| {
+            high_into(&own, scene, room);
+        })?;
         acts.push(StoredAct::new(law.copy(alloc)?, act))?;
     }
     let mut registry = Registry::new(alloc);

@@ -5,14 +5,16 @@ use peer_rules::{peer_laws, register_peer};
 use std::alloc::Global;
 use std::test::Fail;
 use tab_call::{Calls, Do, Registry, StoredAct};
-use tab_law::{ActLaw, Scene, high};
+use tab_law::{ActLaw, Acted, Scene, high_into};
 use tab_role::RegisterError;
 
 /// A callback that answers by its law.
 macro_rules! stored {
     ($alloc:expr, $law:expr) => {{
         let own = $law.copy($alloc)?;
-        let act: Do = Box::new($alloc, move |scene: &Scene| high(&own, scene))?;
+        let act: Do = Box::new($alloc, move |scene: &Scene, room: &mut Acted| {
+            high_into(&own, scene, room);
+        })?;
         StoredAct::new($law.copy($alloc)?, act)
     }};
 }

@@ -5,7 +5,9 @@ ghost use Rattle.std.specs.Prelude.{◌<◌};
 use base_list::{AddError, AddFault};
 use std::test::Fail;
 use tab_call::{Ask, Do, Registry, StoredAct, StoredGuard};
-use tab_law::{ActLaw, GuardLaw, MAX_ACTIONS, MAX_GUARDS, MAX_KINDS, Scene, high, holds};
+use tab_law::{
+    ActLaw, Acted, GuardLaw, MAX_ACTIONS, MAX_GUARDS, MAX_KINDS, Scene, high_into, holds,
+};
 
 /// The name of a number below 130: two small letters.
 fn numbered(number: u8) -> [u8; 2]
@@ -71,7 +73,9 @@ fn an_action_is_taken_before_the_registry_is_full(rt: HostRuntime) -> Result<(),
     let mut faults = (0, 0);
     for number in 0..MAX_ACTIONS as u8 + 2 {
         let own = law.copy(alloc)?;
-        let done: Do = Box::new(alloc, move |scene: &Scene| high(&own, scene))?;
+        let done: Do = Box::new(alloc, move |scene: &Scene, room: &mut Acted| {
+            high_into(&own, scene, room);
+        })?;
         let stored = StoredAct::new(law.copy(alloc)?, done);
         let name = numbered(if number == 64 { 0 } else { number });
         match registry.add_act(&name, stored) {

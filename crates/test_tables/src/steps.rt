@@ -11,7 +11,7 @@ use std::test::Fail;
 use tab_call::{Ask, Do, Registry, StoredAct, StoredGuard};
 use tab_law::{
     ActLaw, Acted, Atom, Change, Deed, Field, GuardLaw, LawBook, PLACES, Scene, Term, Terms, Test,
-    emitted, high, holds, permits,
+    emitted, high_into, holds, permits,
 };
 use tab_step::{Bound, Event, MachineState, Stepped, Unbound, bind, is_step, run, step, step_into};
 use tab_text::parse;
@@ -326,7 +326,9 @@ fn steps_over_callbacks_that_answer_by_their_laws(rt: HostRuntime) -> Result<(),
     for place in 0..book.acts().len() {
         let entry = book.acts().at(place);
         let own = entry.value.copy(alloc)?;
-        let act: Do = Box::new(alloc, move |scene: &Scene| high(&own, scene))?;
+        let act: Do = Box::new(alloc, move |scene: &Scene, room: &mut Acted| {
+            high_into(&own, scene, room);
+        })?;
         let stored = StoredAct::new(entry.value.copy(alloc)?, act);
         assert!(rt; registry.add_act(entry.name.as_slice(), stored).is_ok());
     }
@@ -347,18 +349,17 @@ fn pick(alloc: Global) -> Result<ActLaw, AllocError> {
     Ok(ActLaw::new(changes))
 }
 
-/// An answer that a law permits, with that value in register 3 if it is permitted there.
-fn choose(law: &ActLaw, scene: &Scene, value: u64) -> Acted
-    ensures { Permits law.now scene.now result.regs result.deeds }
+/// Writes an answer that a law permits, with that value in register 3 if it is permitted there.
+fn choose(law: &ActLaw, scene: &Scene, value: u64, room: &mut Acted)
+    ensures { Permits law.now scene.now room.new.regs room.new.deeds }
 {
-    let highest = high(law, scene);
-    let mut regs = highest.regs;
+    high_into(law, scene, room);
+    let mut regs = room.regs;
     regs[3] = value;
     let deeds = emitted(law, scene, &regs);
     if permits(law, scene, &regs, deeds.as_slice()) {
-        Acted { regs, deeds }
-    } else {
-        highest
+        room.regs = regs;
+        room.deeds = deeds;
     }
 }
 
@@ -375,12 +376,16 @@ fn a_closure_picks_and_one_of_the_same_name_comes_back(rt: HostRuntime) -> Resul
     let mut registry = Registry::new(alloc);
     registry.add_kind(b"Go")?;
     let own = law.copy(alloc)?;
-    let two: Do = Box::new(alloc, move |scene: &Scene| choose(&own, scene, 2))?;
+    let two: Do = Box::new(alloc, move |scene: &Scene, room: &mut Acted| {
+        choose(&own, scene, 2, room);
+    })?;
     let first = registry.add_act(b"Pick", StoredAct::new(law.copy(alloc)?, two));
     assert!(rt; first.is_ok());
     assert!(rt; picked(alloc, &registry)? == 2);
     let own = law.copy(alloc)?;
-    let one: Do = Box::new(alloc, move |scene: &Scene| choose(&own, scene, 1))?;
+    let one: Do = Box::new(alloc, move |scene: &Scene, room: &mut Acted| {
+        choose(&own, scene, 1, room);
+    })?;
     match registry.add_act(b"Pick", StoredAct::new(law, one)) {
         Ok(()) => assert!(rt; false),
         Err(refused) => {
@@ -389,7 +394,9 @@ fn a_closure_picks_and_one_of_the_same_name_comes_back(rt: HostRuntime) -> Resul
                 facts: [0; PLACES],
             };
             assert!(rt; refused.error == AddError::Fault(AddFault::Taken));
-            assert!(rt; refused.back.act(&scene).regs[3] == 1);
+            let mut room = Acted::new();
+            refused.back.act(&scene, &mut room);
+            assert!(rt; room.regs[3] == 1);
         }
     }
     assert!(rt; registry.laws().acts().len() == 1);

@@ -4,7 +4,8 @@ use std::alloc::Global;
 use std::test::Fail;
 use tab_call::{Ask, Do, Registry, StoredAct, StoredGuard};
 use tab_law::{
-    ActLaw, Atom, Change, Field, GuardLaw, LawBook, Scene, Term, Terms, Test, high, holds,
+    ActLaw, Acted, Atom, Change, Field, GuardLaw, LawBook, Scene, Term, Terms, Test, high_into,
+    holds,
 };
 use tab_walk::walk_on;
 
@@ -164,7 +165,9 @@ fn each_step_and_its_deeds_are_printed_or_the_first_refusal(rt: HostRuntime) -> 
     for place in 0..book.acts().len() {
         let entry = book.acts().at(place);
         let own = entry.value.copy(alloc)?;
-        let act: Do = Box::new(alloc, move |scene: &Scene| high(&own, scene))?;
+        let act: Do = Box::new(alloc, move |scene: &Scene, room: &mut Acted| {
+            high_into(&own, scene, room);
+        })?;
         let stored = StoredAct::new(entry.value.copy(alloc)?, act);
         assert!(rt; registry.add_act(entry.name.as_slice(), stored).is_ok());
     }

@@ -4,7 +4,7 @@ use Rattle.tab_walk.proofs.WalkLemmas.{HasRun-start, HasRun-more, HasRun-text}
 use Rattle.tab_walk.proofs.walk.run_text.Goals as goal
 
 pub loop-event-init : goal.loop-event-init
-loop-event-init g c = rw (c.new-text.ensures.items, c.new-room.ensures) (HasRun-start c.args.bound.now.table c.args.registry.now.book)
+loop-event-init g c = rw (c.new-text.ensures.items, c.new-room.ensures.after) (HasRun-start c.args.bound.now.table c.args.registry.now.book)
 
 -- one more step is printed
 pub loop-event-preserved : goal.loop-event-preserved

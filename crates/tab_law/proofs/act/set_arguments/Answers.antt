@@ -2,7 +2,7 @@ use Rattle.std.proofs.Common.{◌≤◌, length}
 use Rattle.tab_law.specs.Values.{term_value}
 use Rattle.tab_law.specs.declared.limits.TheConstants.{PLACES}
 use Rattle.tab_law.proofs.Emits.{padded-more}
-use Rattle.tab_law.proofs.act.arguments.Goals as goal
+use Rattle.tab_law.proofs.act.set_arguments.Goals as goal
 
 pub loop-i-preserved : goal.loop-i-preserved
 loop-i-preserved c =
