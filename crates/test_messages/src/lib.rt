@@ -4,6 +4,8 @@
 #[cfg(test)]
 mod message;
 #[cfg(test)]
+mod octets;
+#[cfg(test)]
 mod services;
 #[cfg(test)]
 mod worked;

@@ -1,96 +1,12 @@
 //! A Credit-Control-Request of 188 octets and what becomes of it, from octets to octets.
 
-use dia_avp::Octets;
+use crate::octets::{is_kept, message, octets_of, server};
 use dia_dict::{AvpKind, Dictionary};
 use dia_msg::{
     Flags, Header, Identity, MsgError, MsgFault, error_answer, read_message, write_message,
 };
-use std::alloc::{AllocError, Global};
+use std::alloc::Global;
 use std::test::Fail;
-
-/// A request of session c1;1 from c.example for 60 octets, INITIAL_REQUEST, number 0.
-const REQUEST: [u8; 188] = [
-    0x01, 0x00, 0x00, 0xbc, 0xc0, 0x00, 0x01, 0x10, 0x00, 0x00, 0x00, 0x04, 0x00, 0x00, 0x00, 0x07, //
-    0x00, 0x00, 0x00, 0x07, //
-    0x00, 0x00, 0x01, 0x07, 0x40, 0x00, 0x00, 0x0c, 0x63, 0x31, 0x3b, 0x31, //
-    0x00, 0x00, 0x01, 0x08, 0x40, 0x00, 0x00, 0x11, 0x63, 0x2e, 0x65, 0x78, 0x61, 0x6d, 0x70, 0x6c, //
-    0x65, 0x00, 0x00, 0x00, //
-    0x00, 0x00, 0x01, 0x28, 0x40, 0x00, 0x00, 0x0f, 0x65, 0x78, 0x61, 0x6d, 0x70, 0x6c, 0x65, 0x00, //
-    0x00, 0x00, 0x01, 0x1b, 0x40, 0x00, 0x00, 0x0f, 0x65, 0x78, 0x61, 0x6d, 0x70, 0x6c, 0x65, 0x00, //
-    0x00, 0x00, 0x01, 0x02, 0x40, 0x00, 0x00, 0x0c, 0x00, 0x00, 0x00, 0x04, //
-    0x00, 0x00, 0x01, 0xcd, 0x40, 0x00, 0x00, 0x0b, 0x78, 0x40, 0x79, 0x00, //
-    0x00, 0x00, 0x01, 0xa0, 0x40, 0x00, 0x00, 0x0c, 0x00, 0x00, 0x00, 0x01, //
-    0x00, 0x00, 0x01, 0x9f, 0x40, 0x00, 0x00, 0x0c, 0x00, 0x00, 0x00, 0x00, //
-    0x00, 0x00, 0x01, 0xbb, 0x40, 0x00, 0x00, 0x20, 0x00, 0x00, 0x01, 0xc2, 0x40, 0x00, 0x00, 0x0c, //
-    0x00, 0x00, 0x00, 0x00, 0x00, 0x00, 0x01, 0xbc, 0x40, 0x00, 0x00, 0x0b, 0x31, 0x30, 0x30, 0x00, //
-    0x00, 0x00, 0x01, 0xb5, 0x40, 0x00, 0x00, 0x18, 0x00, 0x00, 0x01, 0xa1, 0x40, 0x00, 0x00, 0x10, //
-    0x00, 0x00, 0x00, 0x00, 0x00, 0x00, 0x00, 0x3c,
-];
-
-/// Where the Service-Context-Id of the request begins and ends.
-const CONTEXT: (usize, usize) = (96, 108);
-
-/// AVP 9999 without flag M.
-const UNKNOWN: [u8; 12] = [
-    0x00, 0x00, 0x27, 0x0f, 0x00, 0x00, 0x00, 0x0c, 0x00, 0x00, 0x00, 0x01,
-];
-
-/// AVP 9999 with flag M.
-const MANDATORY: [u8; 12] = [
-    0x00, 0x00, 0x27, 0x0f, 0x40, 0x00, 0x00, 0x0c, 0x00, 0x00, 0x00, 0x01,
-];
-
-/// A Used-Service-Unit whose CC-Total-Octets has the length 17 in 16 octets.
-const LONG_USED: [u8; 24] = [
-    0x00, 0x00, 0x01, 0xbe, 0x40, 0x00, 0x00, 0x18, 0x00, 0x00, 0x01, 0xa5, 0x40, 0x00, 0x00, 0x11, //
-    0x00, 0x00, 0x00, 0x00, 0x00, 0x00, 0x00, 0x05,
-];
-
-/// The Failed-AVP for AVP 9999 with flag M.
-const FAILED_UNKNOWN: [u8; 20] = [
-    0x00, 0x00, 0x01, 0x17, 0x40, 0x00, 0x00, 0x14, 0x00, 0x00, 0x27, 0x0f, 0x40, 0x00, 0x00, 0x0c, //
-    0x00, 0x00, 0x00, 0x01,
-];
-
-/// The Failed-AVP for the CC-Total-Octets: its header with zeros of its least size.
-const FAILED_TOTAL: [u8; 24] = [
-    0x00, 0x00, 0x01, 0x17, 0x40, 0x00, 0x00, 0x18, 0x00, 0x00, 0x01, 0xa5, 0x40, 0x00, 0x00, 0x10, //
-    0x00, 0x00, 0x00, 0x00, 0x00, 0x00, 0x00, 0x00,
-];
-
-/// The answer of s.example to the request without Service-Context-Id.
-const ANSWER: [u8; 96] = [
-    0x01, 0x00, 0x00, 0x60, 0x40, 0x00, 0x01, 0x10, 0x00, 0x00, 0x00, 0x04, 0x00, 0x00, 0x00, 0x07, //
-    0x00, 0x00, 0x00, 0x07, //
-    0x00, 0x00, 0x01, 0x07, 0x40, 0x00, 0x00, 0x0c, 0x63, 0x31, 0x3b, 0x31, //
-    0x00, 0x00, 0x01, 0x08, 0x40, 0x00, 0x00, 0x11, 0x73, 0x2e, 0x65, 0x78, 0x61, 0x6d, 0x70, 0x6c, //
-    0x65, 0x00, 0x00, 0x00, //
-    0x00, 0x00, 0x01, 0x28, 0x40, 0x00, 0x00, 0x0f, 0x65, 0x78, 0x61, 0x6d, 0x70, 0x6c, 0x65, 0x00, //
-    0x00, 0x00, 0x01, 0x0c, 0x40, 0x00, 0x00, 0x0c, 0x00, 0x00, 0x13, 0x8d, //
-    0x00, 0x00, 0x01, 0x17, 0x40, 0x00, 0x00, 0x10, 0x00, 0x00, 0x01, 0xcd, 0x40, 0x00, 0x00, 0x08,
-];
-
-/// Octets in two parts as one message: its length is their number.
-fn message(alloc: Global, first: &[u8], then: &[u8]) -> Result<Vec<u8>, AllocError> {
-    let mut octets = Vec::from_slice(alloc, first)?;
-    octets.extend_from_slice(then)?;
-    let len = octets.len();
-    if let Some(octet) = octets.get_mut(2) {
-        *octet = (len / 256 % 256) as u8;
-    }
-    if let Some(octet) = octets.get_mut(3) {
-        *octet = (len % 256) as u8;
-    }
-    Ok(octets)
-}
-
-fn server(alloc: Global) -> Result<Identity, AllocError> {
-    Ok(Identity {
-        host: Octets::from_slice(alloc, b"s.example")?,
-        realm: Octets::from_slice(alloc, b"example")?,
-        address: [192, 0, 2, 1],
-    })
-}
 
 /// The header of the request.
 fn asked() -> Header {
@@ -106,15 +22,6 @@ fn asked() -> Header {
         application: 4,
         hop_by_hop: 7,
         end_to_end: 7,
-    }
-}
-
-/// Whether octets are read as a command that is written as they stand.
-fn is_kept(alloc: Global, dictionary: &Dictionary, octets: &[u8]) -> bool {
-    let mut out = Vec::new(alloc);
-    match &read_message(alloc, dictionary, octets) {
-        Ok(command) => write_message(command, &mut out).is_ok() && out.as_slice() == octets,
-        Err(_) => false,
     }
 }
 
@@ -141,7 +48,7 @@ fn is_answered(
     octets: &[u8],
     number: u32,
     end: &[u8],
-) -> Result<bool, AllocError> {
+) -> Result<bool, Fail> {
     let identity = server(alloc)?;
     Ok(match &read_message(alloc, dictionary, octets) {
         Err(MsgError::Fault(fault)) => answer_ends(alloc, &identity, fault, number, end),
@@ -149,43 +56,88 @@ fn is_answered(
     })
 }
 
-#[test]
-fn the_request_is_read_and_written_as_it_stands(rt: HostRuntime) -> Result<(), Fail> {
-    let alloc = rt.alloc();
-    let dictionary = Dictionary::base(alloc)?;
-    assert!(rt; is_kept(alloc, &dictionary, &REQUEST));
-    let more = message(alloc, &REQUEST, &UNKNOWN)?;
-    assert!(rt; is_kept(alloc, &dictionary, &more));
-    Ok(())
+/// The request of session c1;1 from c.example for 60 octets, INITIAL_REQUEST, number 0, and with AVP 9999 without flag M.
+const WORKED: &[(&str, u8)] = &[
+    (
+        "c0 ccr names context initial number-0 subscription requested",
+        188,
+    ),
+    (
+        "c0 ccr names context initial number-0 subscription requested unknown",
+        200,
+    ),
+];
+
+/// Whether a message has so many octets, and is read and written as it stands.
+fn stands(alloc: Global, dictionary: &Dictionary, words: &str, len: u8) -> Result<bool, Fail> {
+    let octets = message(alloc, words)?;
+    Ok(octets.get(3) == Some(&len) && is_kept(alloc, dictionary, &octets))
+}
+
+/// What is wrong with the request: AVP 9999 with flag M, no Service-Context-Id, and an AVP that runs past its group; the number of the
+/// fault, and the end of the answer, which is whole of the second.
+const FAULTY: &[(&str, u32, &str)] = &[
+    (
+        "c0 ccr names context initial number-0 subscription requested mandatory",
+        5001,
+        "failed-unknown",
+    ),
+    (
+        "c0 ccr names initial number-0 subscription requested",
+        5005,
+        "01000060 40 ccr session server 0000010c4000000c0000138d 0000011740000010000001cd40000008",
+    ),
+    (
+        "c0 ccr names context initial number-0 subscription requested long-used",
+        5014,
+        "failed-total",
+    ),
+];
+
+/// Whether a message is answered by its fault.
+fn fails(
+    alloc: Global,
+    dictionary: &Dictionary,
+    (words, number, end): (&str, u32, &str),
+) -> Result<bool, Fail> {
+    let octets = message(alloc, words)?;
+    let end = octets_of(alloc, end)?;
+    is_answered(alloc, dictionary, &octets, number, &end)
+}
+
+/// The first message that goes wrong.
+fn wrong_message(alloc: Global, dictionary: &Dictionary) -> Result<Option<&'static str>, Fail> {
+    for (words, len) in WORKED {
+        if !stands(alloc, dictionary, words, *len)? {
+            return Ok(Some(words));
+        }
+    }
+    for row in FAULTY {
+        if !fails(alloc, dictionary, *row)? {
+            return Ok(Some(row.0));
+        }
+    }
+    Ok(None)
 }
 
 #[test]
-fn an_unknown_avp_with_flag_m_is_answered_5001_until_it_is_added(
-    rt: HostRuntime,
-) -> Result<(), Fail> {
-    let alloc = rt.alloc();
-    let mut dictionary = Dictionary::base(alloc)?;
-    let octets = message(alloc, &REQUEST, &MANDATORY)?;
-    assert!(rt; is_answered(alloc, &dictionary, &octets, 5001, &FAILED_UNKNOWN)?);
+fn the_request_is_read_and_written_as_it_stands_or_answered(rt: HostRuntime) -> Result<(), Fail> {
+    let dictionary = Dictionary::base(rt.alloc())?;
+    let wrong = wrong_message(rt.alloc(), &dictionary)?;
+    assert!(rt; wrong.is_none(), "{wrong:?}");
+    Ok(())
+}
+
+/// Whether the request with AVP 9999 with flag M is kept once that is added.
+fn is_kept_added(alloc: Global, dictionary: &mut Dictionary) -> Result<bool, Fail> {
     dictionary.add(9999, None, "Test", AvpKind::Unsigned32)?;
-    assert!(rt; is_kept(alloc, &dictionary, &octets));
-    Ok(())
+    let words = "c0 ccr names context initial number-0 subscription requested mandatory";
+    stands(alloc, dictionary, words, 200)
 }
 
 #[test]
-fn a_missing_service_context_id_is_answered_5005(rt: HostRuntime) -> Result<(), Fail> {
-    let alloc = rt.alloc();
-    let dictionary = Dictionary::base(alloc)?;
-    let octets = message(alloc, &REQUEST[..CONTEXT.0], &REQUEST[CONTEXT.1..])?;
-    assert!(rt; is_answered(alloc, &dictionary, &octets, 5005, &ANSWER)?);
-    Ok(())
-}
-
-#[test]
-fn an_avp_that_runs_past_its_group_is_answered_5014(rt: HostRuntime) -> Result<(), Fail> {
-    let alloc = rt.alloc();
-    let dictionary = Dictionary::base(alloc)?;
-    let octets = message(alloc, &REQUEST, &LONG_USED)?;
-    assert!(rt; is_answered(alloc, &dictionary, &octets, 5014, &FAILED_TOTAL)?);
+fn an_avp_with_flag_m_is_read_once_it_is_added(rt: HostRuntime) -> Result<(), Fail> {
+    let mut dictionary = Dictionary::base(rt.alloc())?;
+    assert!(rt; is_kept_added(rt.alloc(), &mut dictionary)?);
     Ok(())
 }

@@ -86,19 +86,32 @@ fn answered(number: u64, code: u64) -> Scene {
     scene
 }
 
+/// A request number, a Result-Code, and what the guard answers.
+const ANSWERED: &[(u64, u64, bool)] = &[(3, 2001, true), (3, 5012, false), (4, 2001, false)];
+
+/// Whether a law answers so.
+fn answers_so(law: &GuardLaw) -> bool {
+    for (number, code, answer) in ANSWERED {
+        if holds(law, &answered(*number, *code)) != *answer {
+            return false;
+        }
+    }
+    true
+}
+
+/// Whether a copy of a guard is the same, and a guard without tests is another.
+fn is_copied(alloc: Global, law: &GuardLaw) -> bool {
+    let none = GuardLaw::new(Vec::new(alloc));
+    match law.copy(alloc) {
+        Ok(kept) => kept.is_same(law) && !kept.is_same(&none),
+        Err(_) => false,
+    }
+}
+
 #[test]
 fn a_guard_needs_all_its_tests_and_numbers_count_round(rt: HostRuntime) -> Result<(), Fail> {
     let law = mine_and_success(rt.alloc())?;
-    for (number, code, answer) in [(3, 2001, true), (3, 5012, false), (4, 2001, false)] {
-        assert!(rt;
-            holds(&law, &answered(number, code)) == answer,
-            "{number} {code}"
-        );
-    }
-    let none = GuardLaw::new(Vec::new(rt.alloc()));
-    let kept = law.copy(rt.alloc())?;
-    assert!(rt; kept.is_same(&law));
-    assert!(rt; !kept.is_same(&none));
+    assert!(rt; answers_so(&law) && is_copied(rt.alloc(), &law));
     Ok(())
 }
 
@@ -193,17 +206,26 @@ fn ends(alloc: Global) -> Result<ActLaw, AllocError> {
     Ok(ActLaw::new(changes))
 }
 
+/// Whether what an action leaves stops at the ends, and has four deeds.
+fn stops(law: &ActLaw) -> bool {
+    let acted = high(law, &blank());
+    let deeds = acted.deeds.as_slice();
+    acted.regs[..4] == [0, u64::MAX, 0, 1] && deeds.len() == 4 && deeds[3].a[0] == 3
+}
+
+/// Whether a copy of an action is the same, and the other action is another.
+fn is_kept(alloc: Global, law: &ActLaw, other: &ActLaw) -> bool {
+    match law.copy(alloc) {
+        Ok(kept) => kept.is_same(law) && !kept.is_same(other),
+        Err(_) => false,
+    }
+}
+
 #[test]
 fn sums_stop_at_the_ends_and_the_first_four_emits_count(rt: HostRuntime) -> Result<(), Fail> {
     let law = ends(rt.alloc())?;
-    let acted = high(&law, &blank());
-    assert!(rt; acted.regs[..4] == [0, u64::MAX, 0, 1]);
-    assert!(rt; acted.deeds.len() == 4);
-    assert!(rt; acted.deeds.as_slice()[3].a[0] == 3);
-    let kept = law.copy(rt.alloc())?;
     let other = reserve(rt.alloc())?;
-    assert!(rt; kept.is_same(&law));
-    assert!(rt; !kept.is_same(&other));
+    assert!(rt; stops(&law) && is_kept(rt.alloc(), &law, &other));
     Ok(())
 }
 
@@ -225,23 +247,28 @@ fn with_conditions(alloc: Global) -> Result<ActLaw, AllocError> {
     Ok(ActLaw::new(changes))
 }
 
-#[test]
-fn a_condition_that_is_0_emits_nothing_and_counts(rt: HostRuntime) -> Result<(), Fail> {
-    let law = with_conditions(rt.alloc())?;
+/// Whether deeds whose condition is 0 are left out, and count among the first four.
+fn leaves_out(law: &ActLaw) -> bool {
     let mut scene = blank();
     scene.facts[63] = 5;
-    let acted = high(&law, &scene);
+    let acted = high(law, &scene);
     let wanted = [
         deed(DeedCode::Service, 5),
         deed(DeedCode::Service, 7),
         deed(DeedCode::Service, 1),
     ];
-    assert!(rt; acted.regs[63] == 7);
-    assert!(rt; acted.deeds.as_slice() == wanted.as_slice());
-    assert!(rt; permits(&law, &scene, &acted.regs, &wanted));
-    assert!(rt; !permits(&law, &scene, &acted.regs, &wanted[..2]));
-    assert!(rt; emitted(&law, &scene, &scene.regs).len() == 2);
-    assert!(rt; law.copy(rt.alloc())?.is_same(&law));
+    acted.regs[63] == 7
+        && acted.deeds.as_slice() == wanted.as_slice()
+        && permits(law, &scene, &acted.regs, &wanted)
+        && !permits(law, &scene, &acted.regs, &wanted[..2])
+        && emitted(law, &scene, &scene.regs).len() == 2
+}
+
+#[test]
+fn a_condition_that_is_0_emits_nothing_and_counts(rt: HostRuntime) -> Result<(), Fail> {
+    let law = with_conditions(rt.alloc())?;
+    let none = ActLaw::new(Vec::new(rt.alloc()));
+    assert!(rt; leaves_out(&law) && is_kept(rt.alloc(), &law, &none));
     Ok(())
 }
 
@@ -374,9 +401,17 @@ fn an_action_is_refused_where_the_book_is_full(rt: HostRuntime) -> Result<(), Fa
     Ok(())
 }
 
+/// Whether a copy of a name is the same.
+fn is_copied_name(alloc: Global, name: &Octets) -> bool {
+    match name.copy(alloc) {
+        Ok(copy) => copy.as_slice() == b"mine".as_slice(),
+        Err(_) => false,
+    }
+}
+
 #[test]
 fn a_copied_name_is_the_same(rt: HostRuntime) -> Result<(), Fail> {
     let name = Octets::new(b"mine".to_vec(rt.alloc())?);
-    assert!(rt; name.copy(rt.alloc())?.as_slice() == b"mine".as_slice());
+    assert!(rt; is_copied_name(rt.alloc(), &name));
     Ok(())
 }

@@ -308,6 +308,16 @@ fn takes_the_last(alloc: Global, registry: &Registry) -> Result<bool, Fail> {
     Ok(is_outcome(&stepped, (Some(511), 1, 2, 30, 2)))
 }
 
+/// Whether all of these hold.
+fn all_hold(alloc: Global, registry: &Registry) -> Result<bool, Fail> {
+    Ok(
+        waits(alloc, registry)?
+            && fills(alloc, registry)?
+            && is_judged(alloc, registry)?
+            && takes_the_last(alloc, registry)?,
+    )
+}
+
 #[test]
 fn steps_over_callbacks_that_answer_by_their_laws(rt: HostRuntime) -> Result<(), Fail> {
     let alloc = rt.alloc();
@@ -332,10 +342,7 @@ fn steps_over_callbacks_that_answer_by_their_laws(rt: HostRuntime) -> Result<(),
         let stored = StoredAct::new(entry.value.copy(alloc)?, act);
         assert!(rt; registry.add_act(entry.name.as_slice(), stored).is_ok());
     }
-    assert!(rt; waits(alloc, &registry)?);
-    assert!(rt; fills(alloc, &registry)?);
-    assert!(rt; is_judged(alloc, &registry)?);
-    assert!(rt; takes_the_last(alloc, &registry)?);
+    assert!(rt; all_hold(alloc, &registry)?);
     Ok(())
 }
 
