@@ -13,27 +13,27 @@ abbrev pub made_avp : ℕ → List ℕ → Avp
 made_avp code octets = record { code = code; vendor = None; mandatory = true; protected = false; octets = octets }
 
 -- an AVP with a number of four octets, modulo 2 ^ 32
-abbrev pub number_avp : ℕ → ℕ → Avp
+unfoldable pub number_avp : ℕ → ℕ → Avp
 number_avp code number = made_avp code (big_bytes 4 (lowest number))
 
 -- so many of a unit: CC-Time for unit 1, CC-Service-Specific-Units for 3, and CC-Total-Octets for 2 and all others
-abbrev pub amount_avp : ℕ → ℕ → Avp
+unfoldable pub amount_avp : ℕ → ℕ → Avp
 amount_avp unit units =
     if unit == 1 then number_avp CC_TIME units
     else if unit == 3 then made_avp CC_SERVICE_SPECIFIC_UNITS (big_bytes 8 units)
     else made_avp CC_TOTAL_OCTETS (big_bytes 8 units)
 
 -- a group that tells an amount, and none where it is 0: in a message itself, and in a service
-abbrev pub units_field : ℕ → ℕ → Option (TypedAvp (List Avp))
+unfoldable pub units_field : ℕ → ℕ → Option (TypedAvp (List Avp))
 units_field unit units = if units == 0 then None else Some (made (amount_avp unit units ∷ []))
 
-abbrev pub units_avps : ℕ → ℕ → ℕ → List Avp
+unfoldable pub units_avps : ℕ → ℕ → ℕ → List Avp
 units_avps code unit units = if units == 0 then [] else made_avp code (encoding (amount_avp unit units ∷ [])) ∷ []
 
 -- what a Final-Unit-Indication holds: the service is to be terminated, Final-Unit-Action 0
-abbrev pub termination : List Avp
+unfoldable pub termination : List Avp
 termination = number_avp FINAL_UNIT_ACTION 0 ∷ []
 
 -- the Subscription-Id of an account: type 0, END_USER_E164, and its number in decimal
-abbrev pub subscription : ℕ → List Avp
+unfoldable pub subscription : ℕ → List Avp
 subscription account = number_avp SUBSCRIPTION_ID_TYPE 0 ∷ made_avp SUBSCRIPTION_ID_DATA (decimal account) ∷ []

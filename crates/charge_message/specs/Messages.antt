@@ -22,7 +22,7 @@ use Rattle.charge_message.specs.Avps.{units_field, termination, subscription}
 use Rattle.charge_message.specs.Services.{asked, answered, services}
 
 -- a number of four octets whose argument is one more than it; 0 stands for 0
-abbrev pub one_less : ℕ → ℕ
+unfoldable pub one_less : ℕ → ℕ
 one_less argument = lowest (argument - 1)
 
 -- a number whose argument is one more than it, and which is absent where that is 0
@@ -40,7 +40,7 @@ indicator_by Initial services = if services == 0 then None else Some (made 1)
 indicator_by type services = None
 
 -- the request of a session, of a type, that a deed with these arguments sends
-abbrev pub request_of : Identity → List ℕ → List ℕ → RequestType → Command
+unfoldable pub request_of : Identity → List ℕ → List ℕ → RequestType → Command
 request_of me session a type = Ccr (record {
   header = request_header CreditControl (slice_index a HOP_BY_HOP) (slice_index a REQUEST_NUMBER - 1);
   session_id = made session;
@@ -61,7 +61,7 @@ request_of me session a type = Ccr (record {
 })
 
 -- a Result-Code of four octets is a protocol error, 3xxx (RFC 6733 section 7.1.3)
-abbrev pub is_protocol_error : ℕ → Bool
+unfoldable pub is_protocol_error : ℕ → Bool
 is_protocol_error code = lowest code / 1000 == 3
 
 -- the Final-Unit-Indication of an answer, where units are granted and are the last (RFC 8506 section 8.34)
@@ -69,7 +69,7 @@ abbrev pub final_field : ℕ → ℕ → Option (TypedAvp (List Avp))
 final_field last granted = if (last == 1) && not (granted == 0) then Some (made termination) else None
 
 -- the answer to a request of a type
-abbrev pub answer_of : Identity → List ℕ → List ℕ → RequestType → Command
+unfoldable pub answer_of : Identity → List ℕ → List ℕ → RequestType → Command
 answer_of me session a type = Cca (record {
   header = answer_header CreditControl (is_protocol_error (slice_index a RESULT_CODE)) (slice_index a HOP_BY_HOP) (slice_index a END_TO_END);
   session_id = made session;
@@ -87,7 +87,7 @@ answer_of me session a type = Cca (record {
 })
 
 -- the answer that tells a fault by its Result-Code alone
-abbrev pub fault_of : Identity → List ℕ → List ℕ → Command
+unfoldable pub fault_of : Identity → List ℕ → List ℕ → Command
 fault_of me session a = ErrorAnswer (record {
   header = answer_header CreditControl (is_protocol_error (slice_index a RESULT_CODE)) (slice_index a HOP_BY_HOP) (slice_index a END_TO_END);
   session_id = Some (made session);
@@ -99,15 +99,15 @@ fault_of me session a = ErrorAnswer (record {
 })
 
 -- whether octets are the name of a session: UTF-8, and at least one
-abbrev pub is_session : List ℕ → Bool
+unfoldable pub is_session : List ℕ → Bool
 is_session session = is_utf8 session && not (length session == 0)
 
 -- the class of the message that a Snd-Msg deed sends, 1 a request, 2 an answer, 3 one that tells a fault; 0 for any other deed
-abbrev pub class_of : Deed → ℕ
+unfoldable pub class_of : Deed → ℕ
 class_of deed = if deed.code == number_of SndMsg then slice_index deed.a CLASS else 0
 
 -- the type that a deed's message is of, where there is such a type
-abbrev pub type_of : Deed → Option RequestType
+unfoldable pub type_of : Deed → Option RequestType
 type_of deed = type_coded (slice_index deed.a REQUEST_TYPE)
 
 -- the request that a deed sends, if it sends one

@@ -72,6 +72,7 @@ fn header_by(deed: &Deed) -> Header
     )
 }
 
+#[tactic(auto, unfolding(crate::specs::Messages::answer_of))]
 fn answer_of(
     alloc: Global,
     deed: &Deed,
@@ -103,6 +104,7 @@ fn answer_of(
     }))
 }
 
+#[tactic(auto, unfolding(crate::specs::Messages::fault_of))]
 fn fault_of(
     alloc: Global,
     deed: &Deed,

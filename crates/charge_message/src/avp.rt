@@ -32,6 +32,7 @@ fn made_avp(code: u32, octets: Octets) -> Avp
 }
 
 /// An AVP with the lowest 32 bits of a number.
+#[tactic(auto, unfolding(crate::specs::Avps::number_avp))]
 pub(crate) fn number_avp(alloc: Global, code: u32, number: u64) -> Result<Avp, AllocError>
     ensures { IfOk result (λ a. a ≡ number_avp code number) }
 {
@@ -51,6 +52,7 @@ fn long_avp(alloc: Global, code: u32, number: u64) -> Result<Avp, AllocError>
 }
 
 /// So many of a unit.
+#[tactic(auto, unfolding(crate::specs::Avps::amount_avp))]
 fn amount_avp(alloc: Global, unit: u64, units: u64) -> Result<Avp, AllocError>
     ensures { IfOk result (λ a. a ≡ amount_avp unit units) }
 {
@@ -83,6 +85,7 @@ fn list_of(alloc: Global, avp: Avp) -> Result<AvpList, AllocError>
 }
 
 /// A group of a message that tells an amount, and none where it is 0.
+#[tactic(auto, unfolding(crate::specs::Avps::units_field))]
 pub(crate) fn units_field(
     alloc: Global,
     unit: u64,
@@ -98,6 +101,7 @@ pub(crate) fn units_field(
 }
 
 /// Adds to a service a group that tells an amount, and none where it is 0.
+#[tactic(auto, unfolding(crate::specs::Avps::units_avps, crate::specs::Avps::amount_avp, crate::specs::Avps::number_avp))]
 pub(crate) fn push_units(
     list: &mut AvpList,
     alloc: Global,
@@ -115,6 +119,7 @@ pub(crate) fn push_units(
 }
 
 /// What a Final-Unit-Indication holds.
+#[tactic(auto, unfolding(crate::specs::Avps::termination))]
 pub(crate) fn termination(alloc: Global) -> Result<AvpList, AllocError>
     ensures { IfOk result (λ list. list ≡ termination) }
 {
@@ -123,6 +128,7 @@ pub(crate) fn termination(alloc: Global) -> Result<AvpList, AllocError>
 }
 
 /// A Final-Unit-Indication, as an AVP itself.
+#[tactic(auto, unfolding(crate::specs::Avps::termination, crate::specs::Avps::number_avp))]
 pub(crate) fn final_avp(alloc: Global) -> Result<Avp, AllocError>
     ensures { IfOk result (λ a. a ≡ made_avp 430 (encoding termination)) }
 {
@@ -131,6 +137,7 @@ pub(crate) fn final_avp(alloc: Global) -> Result<Avp, AllocError>
 }
 
 /// The Subscription-Id of an account.
+#[tactic(auto, unfolding(crate::specs::Avps::subscription))]
 pub(crate) fn subscription(alloc: Global, account: u64) -> Result<AvpList, AllocError>
     ensures { IfOk result (λ list. list ≡ subscription account) }
 {

@@ -10,6 +10,7 @@ use dia_command::RequestType;
 use tab_law::Deed;
 
 /// A number of four octets whose argument is one more than it.
+#[tactic(auto, unfolding(crate::specs::Messages::one_less))]
 pub(crate) fn one_less(argument: u64) -> u32
     ensures { result ≡ one_less argument }
 {
@@ -17,6 +18,7 @@ pub(crate) fn one_less(argument: u64) -> u32
 }
 
 /// Whether a Result-Code is 3xxx.
+#[tactic(auto, unfolding(crate::specs::Messages::is_protocol_error))]
 pub(crate) fn is_protocol_error(code: u64) -> bool
     ensures { result ≡ is_protocol_error code }
 {
@@ -24,6 +26,7 @@ pub(crate) fn is_protocol_error(code: u64) -> bool
 }
 
 /// The name of a session, where octets are one.
+#[tactic(auto, unfolding(crate::specs::Messages::is_session))]
 pub(crate) fn session_of(octets: &[u8]) -> Option<&str>
     ensures { option_copied result ≡ (if is_session octets.now then Some octets.now else None) }
 {
@@ -37,6 +40,7 @@ pub(crate) fn session_of(octets: &[u8]) -> Option<&str>
 }
 
 /// The argument of a Snd-Msg deed that tells its class, 0 for another deed.
+#[tactic(auto, unfolding(crate::specs::Messages::class_of))]
 pub(crate) fn class_of(deed: &Deed) -> u64
     ensures { result ≡ class_of deed.now }
 {
@@ -49,7 +53,7 @@ pub(crate) fn class_of(deed: &Deed) -> u64
 }
 
 /// The type of a deed's message, where there is such a type.
-#[tactic(auto, unfolding(dia_command::specs::Value::type_coded))]
+#[tactic(auto, unfolding(dia_command::specs::Value::type_coded, crate::specs::Messages::type_of))]
 pub(crate) fn type_of(deed: &Deed) -> Option<RequestType>
     ensures { result ≡ type_of deed.now }
 {

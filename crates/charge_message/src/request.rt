@@ -51,8 +51,9 @@ fn subscriptions(alloc: Global, deed: &Deed) -> Result<TypedAvps<AvpList>, Alloc
     ensures { IfOk result (λ list. list ≡ made (subscription (slice_index deed.now.a ACCOUNT)) ∷ []) }
 {
     deed.known();
+    let one = subscription(alloc, deed.a[session_fact::ACCOUNT])?;
     let mut list = TypedAvps::new(alloc);
-    list.push(made(subscription(alloc, deed.a[session_fact::ACCOUNT])?))?;
+    list.push(made(one))?;
     Ok(list)
 }
 
@@ -60,12 +61,12 @@ fn used_by(alloc: Global, deed: &Deed) -> Result<TypedAvps<AvpList>, AllocError>
     ensures { IfOk result (λ list. list ≡ option_to_list (units_field (slice_index deed.now.a UNIT) (slice_index deed.now.a USED))) }
 {
     deed.known();
-    let mut list = TypedAvps::new(alloc);
     let used = units_field(
         alloc,
         deed.a[session_fact::UNIT],
         deed.a[session_fact::USED],
     )?;
+    let mut list = TypedAvps::new(alloc);
     if let Some(used) = used {
         list.push(used)?;
     }
@@ -95,6 +96,7 @@ fn header_by(deed: &Deed) -> Header
     )
 }
 
+#[tactic(auto, unfolding(crate::specs::Messages::request_of))]
 fn request_of(
     alloc: Global,
     deed: &Deed,

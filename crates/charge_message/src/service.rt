@@ -13,6 +13,7 @@ use dia_command::TypedAvps;
 use std::alloc::{AllocError, Global};
 use tab_law::Deed;
 
+#[tactic(auto, unfolding(crate::specs::Services::rating_avps))]
 fn push_rating(list: &mut AvpList, alloc: Global, group: u64) -> Result<(), AllocError>
     ensures { OnOk result (list.new ≡ list.old ++ rating_avps group) }
 {
@@ -23,6 +24,7 @@ fn push_rating(list: &mut AvpList, alloc: Global, group: u64) -> Result<(), Allo
     list.push(number_avp(alloc, avp_code::RATING_GROUP, rating)?)
 }
 
+#[tactic(auto, unfolding(crate::specs::Services::final_avps))]
 fn push_final(list: &mut AvpList, alloc: Global, last: u64, granted: u64) -> Result<(), AllocError>
     ensures { OnOk result (list.new ≡ list.old ++ final_avps last granted) }
 {
@@ -32,6 +34,7 @@ fn push_final(list: &mut AvpList, alloc: Global, last: u64, granted: u64) -> Res
     list.push(final_avp(alloc)?)
 }
 
+#[tactic(auto, unfolding(crate::specs::Services::asked))]
 fn asked(alloc: Global, deed: &Deed, first: usize) -> Result<AvpList, AllocError>
     requires { first + SIZE ≤ PLACES }
     ensures { IfOk result (λ list. list ≡ asked deed.now.a first) }
@@ -57,6 +60,7 @@ fn asked(alloc: Global, deed: &Deed, first: usize) -> Result<AvpList, AllocError
     Ok(list)
 }
 
+#[tactic(auto, unfolding(crate::specs::Services::answered))]
 fn answered(alloc: Global, deed: &Deed, first: usize) -> Result<AvpList, AllocError>
     requires { first + SIZE ≤ PLACES }
     ensures { IfOk result (λ list. list ≡ answered deed.now.a first) }
@@ -86,6 +90,7 @@ fn first_of(number: usize) -> usize
     slot::FIRST + number.saturating_sub(1) * slot::SIZE
 }
 
+#[tactic(auto, unfolding(crate::specs::Services::is_sent))]
 fn is_sent(deed: &Deed, number: usize) -> bool
     requires { number ≤ MAX_SLOTS }
     ensures { result ≡ is_sent deed.now.a number }
@@ -110,6 +115,7 @@ fn service_of(
     }
 }
 
+#[tactic(auto, unfolding(crate::specs::Services::service))]
 fn push_service(
     list: &mut TypedAvps<AvpList>,
     alloc: Global,
@@ -128,6 +134,7 @@ fn push_service(
 
 /// The instances of a message: in a request, of each slot what is wanted, what was used, and the group; in an answer what is
 /// granted, the group, the result, and whether it is the last.
+#[tactic(auto, unfolding(crate::specs::Services::services))]
 pub(crate) fn services(
     alloc: Global,
     deed: &Deed,

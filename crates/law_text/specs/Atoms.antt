@@ -12,7 +12,7 @@ use Rattle.law_text.specs.declared.words.Reads.{Reads}
 use Rattle.law_text.specs.declared.words.Reads.TheVariants.{Before, After}
 
 -- `r2`: a letter and the place that a number counts round to
-abbrev pub place_text : List ℕ → ℕ → List ℕ
+unfoldable pub place_text : List ℕ → ℕ → List ℕ
 place_text letter number = letter ++ decimal (number % PLACES)
 
 -- a register that is read as the action leaves it, where there is one
@@ -21,21 +21,21 @@ new_text Before number = place_text (codes "r") number
 new_text After number = place_text (codes "r") number ++ codes " after"
 
 -- `30`, `r2`, `f5`, `r2 after`
-abbrev pub atom_text : Reads → Atom → List ℕ
+unfoldable pub atom_text : Reads → Atom → List ℕ
 atom_text reads (Constant value) = decimal value
 atom_text reads (Register number) = place_text (codes "r") number
 atom_text reads (Fact number) = place_text (codes "f") number
 atom_text reads (NewRegister number) = new_text reads number
 
 -- `r2 + 1`, `r2 - 1`, `least of r2 and f5`
-abbrev pub term_text : Reads → Term → List ℕ
+unfoldable pub term_text : Reads → Term → List ℕ
 term_text reads (Just a) = atom_text reads a
 term_text reads (Sum a b) = atom_text reads a ++ codes " + " ++ atom_text reads b
 term_text reads (Difference a b) = atom_text reads a ++ codes " - " ++ atom_text reads b
 term_text reads (Least a b) = codes "least of " ++ atom_text reads a ++ codes " and " ++ atom_text reads b
 
 -- what a test looks at
-abbrev pub field_text : Field → List ℕ
+unfoldable pub field_text : Field → List ℕ
 field_text (fields.Register number) = place_text (codes "r") number
 field_text (fields.Fact number) = place_text (codes "f") number
 

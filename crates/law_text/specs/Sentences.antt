@@ -14,7 +14,7 @@ use Rattle.law_text.specs.Atoms.{atom_text, field_text, place_text, separated, t
 use Rattle.law_text.specs.declared.words.Reads.TheVariants.{Before, After}
 
 -- `f6 = r1`, `f12 <> 5030`, `f6 < r1`, `f13 >= f9`, `f12 in 4010, 5030`
-abbrev pub test_text : Test → List ℕ
+unfoldable pub test_text : Test → List ℕ
 test_text (Equal field atom) = field_text field ++ codes " = " ++ atom_text Before atom
 test_text (Differing field atom) = field_text field ++ codes " <> " ++ atom_text Before atom
 test_text (Below field atom) = field_text field ++ codes " < " ++ atom_text Before atom
@@ -22,15 +22,15 @@ test_text (AtLeast field atom) = field_text field ++ codes " >= " ++ atom_text B
 test_text (Among field numbers) = field_text field ++ codes " in " ++ separated (codes ", ") decimal numbers
 
 -- a deed's name, or its code where it has none
-abbrev pub deed_text : ℕ → List ℕ
+unfoldable pub deed_text : ℕ → List ℕ
 deed_text code = option_map_or name_of (coded code) (decimal code)
 
 -- `Dial(r14, r2 after)`
-abbrev pub emit_text : ℕ → List Term → List ℕ
+unfoldable pub emit_text : ℕ → List Term → List ℕ
 emit_text code terms = deed_text code ++ codes "(" ++ separated (codes ", ") (term_text After) terms ++ codes ")"
 
 -- `r2 := r2 + 1`, `r3 := 1 to f13`, `Dial(r14, r2 after)`, `Debit(f18, f17) unless r17 after is 0`
-abbrev pub change_text : Change → List ℕ
+unfoldable pub change_text : Change → List ℕ
 change_text (Set register term) = place_text (codes "r") register ++ codes " := " ++ term_text Before term
 change_text (Pick register low high) =
     place_text (codes "r") register ++ codes " := " ++ term_text Before low ++ codes " to " ++ term_text Before high
@@ -43,11 +43,11 @@ listed empty separator text [] = empty
 listed empty separator text (first ∷ others) = separated separator text (first ∷ others)
 
 -- `  mine: f6 = r1`
-abbrev pub guard_line : Named (List Test) → List ℕ
+unfoldable pub guard_line : Named (List Test) → List ℕ
 guard_line entry = codes "  " ++ entry.name ++ codes ": " ++ listed (codes "always") (codes " and ") test_text entry.value ++ codes "\n"
 
 -- `  I-Snd-CER: r0 := f1; r7 := r7 + 1; Snd-CER(0, f1, r14, r7 after)`
-abbrev pub act_line : Named (List Change) → List ℕ
+unfoldable pub act_line : Named (List Change) → List ℕ
 act_line entry = codes "  " ++ entry.name ++ codes ": " ++ listed (codes "nothing") (codes "; ") change_text entry.value ++ codes "\n"
 
 -- a kind of events is its name

@@ -48,6 +48,7 @@ fn put_name(out: &mut Vec<u8>, name: &[u8], behind: &[u8]) -> Result<(), AllocEr
 }
 
 /// Puts a guard's line.
+#[tactic(auto, unfolding(crate::specs::Sentences::guard_line))]
 fn put_guard(out: &mut Vec<u8>, guard: &Named<GuardLaw>) -> Result<(), AllocError>
     ensures { OnOk result (out.new.items ≡ out.old.items ++ guard_line guard.now) }
 {
@@ -57,6 +58,7 @@ fn put_guard(out: &mut Vec<u8>, guard: &Named<GuardLaw>) -> Result<(), AllocErro
 }
 
 /// Puts an action's line.
+#[tactic(auto, unfolding(crate::specs::Sentences::act_line))]
 fn put_act(out: &mut Vec<u8>, act: &Named<ActLaw>) -> Result<(), AllocError>
     ensures { OnOk result (out.new.items ≡ out.old.items ++ act_line act.now) }
 {

@@ -39,6 +39,7 @@ fn put_comparison(
 }
 
 /// Puts a test.
+#[tactic(auto, unfolding(crate::specs::Sentences::test_text))]
 pub(crate) fn put_test(out: &mut Vec<u8>, test: &Test) -> Result<(), AllocError>
     ensures { OnOk result (out.new.items ≡ out.old.items ++ test_text test.now) }
 {
@@ -71,6 +72,7 @@ fn put_arguments(out: &mut Vec<u8>, terms: &[Term]) -> Result<(), AllocError>
 }
 
 /// Puts the name of a deed, or its code where it has none.
+#[tactic(auto, unfolding(crate::specs::Sentences::deed_text))]
 fn put_deed_name(out: &mut Vec<u8>, code: u16) -> Result<(), AllocError>
     ensures { OnOk result (out.new.items ≡ out.old.items ++ deed_text code) }
 {
@@ -81,6 +83,7 @@ fn put_deed_name(out: &mut Vec<u8>, code: u16) -> Result<(), AllocError>
 }
 
 /// Puts a deed with its arguments.
+#[tactic(auto, unfolding(crate::specs::Sentences::emit_text))]
 fn put_emit(out: &mut Vec<u8>, code: u16, terms: &[Term]) -> Result<(), AllocError>
     ensures { OnOk result (out.new.items ≡ out.old.items ++ emit_text code terms.now) }
 {
@@ -100,6 +103,7 @@ fn put_set(out: &mut Vec<u8>, register: u8, term: &Term) -> Result<(), AllocErro
 }
 
 /// Puts a change.
+#[tactic(auto, unfolding(crate::specs::Sentences::change_text))]
 pub(crate) fn put_change(out: &mut Vec<u8>, change: &Change) -> Result<(), AllocError>
     ensures { OnOk result (out.new.items ≡ out.old.items ++ change_text change.now) }
 {

@@ -14,6 +14,7 @@ pub(crate) enum Reads {
 }
 
 /// Puts a letter and a place, to which numbers count round.
+#[tactic(auto, unfolding(crate::specs::Atoms::place_text))]
 pub(crate) fn put_place(out: &mut Vec<u8>, letter: &[u8], number: u8) -> Result<(), AllocError>
     ensures { OnOk result (out.new.items ≡ out.old.items ++ place_text letter.now number) }
 {
@@ -21,6 +22,7 @@ pub(crate) fn put_place(out: &mut Vec<u8>, letter: &[u8], number: u8) -> Result<
 }
 
 /// Puts an atom.
+#[tactic(auto, unfolding(crate::specs::Atoms::atom_text))]
 pub(crate) fn put_atom(out: &mut Vec<u8>, reads: Reads, atom: Atom) -> Result<(), AllocError>
     ensures { OnOk result (out.new.items ≡ out.old.items ++ atom_text reads atom) }
 {
@@ -51,6 +53,7 @@ fn put_two(
 }
 
 /// Puts a term.
+#[tactic(auto, unfolding(crate::specs::Atoms::term_text))]
 pub(crate) fn put_term(out: &mut Vec<u8>, reads: Reads, term: &Term) -> Result<(), AllocError>
     ensures { OnOk result (out.new.items ≡ out.old.items ++ term_text reads term.now) }
 {
@@ -63,6 +66,7 @@ pub(crate) fn put_term(out: &mut Vec<u8>, reads: Reads, term: &Term) -> Result<(
 }
 
 /// Puts what a test looks at.
+#[tactic(auto, unfolding(crate::specs::Atoms::field_text))]
 pub(crate) fn put_field(out: &mut Vec<u8>, field: Field) -> Result<(), AllocError>
     ensures { OnOk result (out.new.items ≡ out.old.items ++ field_text field) }
 {

@@ -18,9 +18,10 @@ use Rattle.dia_tree.specs.Faults.{cut_avp}
 use Rattle.dia_tree.specs.declared.fault.MsgFault.{MsgFault}
 use Rattle.msg_explain.specs.Parts.{Piece}
 use Rattle.msg_explain.specs.Lines.{name_text}
+use Rattle.msg_explain.specs.Messages.{numbered}
 
 -- what a fault's Result-Code means of a message (RFC 6733 section 7.1)
-abbrev pub reason : ResultCode → List ℕ
+unfoldable pub reason : ResultCode → List ℕ
 reason CommandUnsupported = codes "no command with this code and flag R is read here"
 reason ApplicationUnsupported = codes "the Application-Id is not that of the command"
 reason AvpUnsupported = codes "an AVP that is not known has flag M"
@@ -90,13 +91,15 @@ abbrev pub failed_text : List Definition → ResultCode → Option Avp → List 
 failed_text definitions code None pieces = []
 failed_text definitions code (Some a) pieces = failed_avp_text definitions code a pieces
 
--- `fault 5004 DIAMETER_INVALID_AVP_VALUE in message 2 at octet 56: `
-unfoldable pub fault_title : ResultCode → ℕ → ℕ → List ℕ
-fault_title code number offset =
-    codes "fault " ++ decimal (number_of code) ++ codes " " ++ name_of code
-    ++ codes " in message " ++ decimal number ++ codes " at octet " ++ decimal offset ++ codes ": "
+-- `fault 5004 DIAMETER_INVALID_AVP_VALUE`
+unfoldable pub fault_name : ResultCode → List ℕ
+fault_name code = codes "fault " ++ decimal (number_of code) ++ codes " " ++ name_of code
+
+-- ` in message 2 at octet 56: `
+unfoldable pub message_place : ℕ → ℕ → List ℕ
+message_place number offset = codes " in " ++ numbered number offset
 
 -- the line of a message's fault
 unfoldable pub fault_line : List Definition → ℕ → ℕ → List Piece → MsgFault → List ℕ
 fault_line definitions number offset pieces f =
-    fault_title f.result number offset ++ reason f.result ++ failed_text definitions f.result f.failed pieces ++ codes "\n"
+    fault_name f.result ++ message_place number offset ++ reason f.result ++ failed_text definitions f.result f.failed pieces ++ codes "\n"

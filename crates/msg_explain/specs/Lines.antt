@@ -23,15 +23,15 @@ unfoldable pub place_text : Piece → List ℕ
 place_text p = indent p.room ++ decimal p.place ++ codes ": "
 
 -- a flag's letter, or `-` where it isn't set
-abbrev pub flag_letter : ℕ → ℕ → ℕ → ℕ
+unfoldable pub flag_letter : ℕ → ℕ → ℕ → ℕ
 flag_letter flags mask sign = if has_flag mask flags then sign else 45
 
 -- `V`, `M`, `P`
-abbrev pub flag_letters : ℕ → List ℕ
+unfoldable pub flag_letters : ℕ → List ℕ
 flag_letters flags = flag_letter flags 128 86 ∷ flag_letter flags 64 77 ∷ flag_letter flags 32 80 ∷ []
 
 -- `/10415` with flag V
-abbrev pub vendor_text : List ℕ → List ℕ
+unfoldable pub vendor_text : List ℕ → List ℕ
 vendor_text octets = if has_flag 128 (slice_index octets 4) then codes "/" ++ decimal (big_number 4 (drop 8 octets)) else []
 
 -- the name of the dictionary
@@ -49,12 +49,12 @@ title_text definition octets =
     code_text definition octets ++ codes " " ++ flag_letters (slice_index octets 4) ++ codes " " ++ decimal (length_at octets)
 
 -- what the data says, behind one blank; a group that is opened has its AVPs below
-abbrev pub data_text : Option Definition → ℕ → List ℕ → List ℕ
+unfoldable pub data_text : Option Definition → ℕ → List ℕ → List ℕ
 data_text definition room octets =
     if is_grouped definition && nat_lt 0 room then [] else codes " " ++ value_text definition octets
 
 -- what is wrong with an AVP that is broken
-abbrev pub broken_words : FaultCode → List ℕ
+unfoldable pub broken_words : FaultCode → List ℕ
 broken_words ShortHeader = codes "its header is cut off"
 broken_words LengthBelowHeader = codes "its length is below that of its header"
 broken_words PastEnd = codes "it runs past the end"

@@ -13,7 +13,7 @@ use Rattle.dia_show.specs.Parts.{quoted, octets_text}
 use Rattle.msg_explain.specs.Lines.{flag_letter}
 
 -- `R`, `P`, `E`, `T`
-abbrev pub header_letters : ℕ → List ℕ
+unfoldable pub header_letters : ℕ → List ℕ
 header_letters flags =
     flag_letter flags 128 82 ∷ flag_letter flags 64 80 ∷ flag_letter flags 32 69 ∷ flag_letter flags 16 84 ∷ []
 

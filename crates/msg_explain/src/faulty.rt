@@ -5,9 +5,10 @@ ghost use Rattle.dia_avp.specs.Reading.{avp_at};
 ghost use Rattle.dia_dict.specs.Dictionary.{known, definition_of};
 ghost use Rattle.msg_explain.specs.Parts.{seen_part};
 ghost use Rattle.msg_explain.specs.Lines.{name_text};
-ghost use Rattle.msg_explain.specs.Faulty.{reason, is_ill_sized, same_code, is_wrong_length, is_failed_itself, is_failed, failed_place, at_text, vendor_of_text, avp_title, failed_avp_text, failed_text, fault_title, fault_line};
+ghost use Rattle.msg_explain.specs.Faulty.{reason, is_ill_sized, same_code, is_wrong_length, is_failed_itself, is_failed, failed_place, at_text, vendor_of_text, avp_title, failed_avp_text, failed_text, fault_name, message_place, fault_line};
 
 use crate::lines::put_name;
+use crate::messages::put_numbered;
 use crate::parts::Part;
 use base_codes::ResultCode;
 use bench_text::put_number;
@@ -18,6 +19,7 @@ use dia_tree::{cut_avp, is_grouped};
 use std::alloc::AllocError;
 
 /// What a fault's Result-Code means of a message (RFC 6733 section 7.1).
+#[tactic(auto, unfolding(crate::specs::Faulty::reason))]
 pub fn reason(code: ResultCode) -> &'static [u8]
     ensures { result.now ≡ reason code }
 {
@@ -160,21 +162,21 @@ fn put_failed(
     }
 }
 
-#[tactic(auto, unfolding(crate::specs::Faulty::fault_title))]
-fn put_fault_title(
-    out: &mut Vec<u8>,
-    code: ResultCode,
-    number: u64,
-    offset: u64,
-) -> Result<(), AllocError>
-    ensures { OnOk result (out.new.items ≡ out.old.items ++ fault_title code number offset) }
+#[tactic(auto, unfolding(crate::specs::Faulty::fault_name))]
+fn put_fault_name(out: &mut Vec<u8>, code: ResultCode) -> Result<(), AllocError>
+    ensures { OnOk result (out.new.items ≡ out.old.items ++ fault_name code) }
 {
     put_number(out, b"fault ", u64::from(code.number()))?;
     out.extend_from_slice(b" ")?;
-    out.extend_from_slice(code.name().as_bytes())?;
-    put_number(out, b" in message ", number)?;
-    put_number(out, b" at octet ", offset)?;
-    out.extend_from_slice(b": ")
+    out.extend_from_slice(code.name().as_bytes())
+}
+
+#[tactic(auto, unfolding(crate::specs::Faulty::message_place))]
+fn put_message_place(out: &mut Vec<u8>, number: u64, offset: u64) -> Result<(), AllocError>
+    ensures { OnOk result (out.new.items ≡ out.old.items ++ message_place number offset) }
+{
+    out.extend_from_slice(b" in ")?;
+    put_numbered(out, number, offset)
 }
 
 /// Puts the line of the fault of a message, the `number`th of an input, which begins at `offset` in it.
@@ -189,7 +191,8 @@ pub(crate) fn put_fault_line(
 ) -> Result<(), AllocError>
     ensures { OnOk result (out.new.items ≡ out.old.items ++ fault_line (known dictionary.now) number offset (map seen_part parts.now) fault.now) }
 {
-    put_fault_title(out, fault.result, number, offset)?;
+    put_fault_name(out, fault.result)?;
+    put_message_place(out, number, offset)?;
     out.extend_from_slice(reason(fault.result))?;
     put_failed(out, dictionary, fault.result, &fault.failed, parts)?;
     out.extend_from_slice(b"\n")

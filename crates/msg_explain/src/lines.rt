@@ -27,12 +27,14 @@ fn put_place(out: &mut Vec<u8>, part: &Part<'_>) -> Result<(), AllocError>
 }
 
 /// A flag's letter, or `-` where it isn't set.
+#[tactic(auto, unfolding(crate::specs::Lines::flag_letter))]
 pub fn flag_letter(flags: u8, mask: u8, sign: u8) -> u8
     ensures { result ≡ flag_letter flags mask sign }
 {
     if flags & mask != 0 { sign } else { b'-' }
 }
 
+#[tactic(auto, unfolding(crate::specs::Lines::flag_letters))]
 fn put_flags(out: &mut Vec<u8>, flags: u8) -> Result<(), AllocError>
     ensures { OnOk result (out.new.items ≡ out.old.items ++ flag_letters flags) }
 {
@@ -43,6 +45,7 @@ fn put_flags(out: &mut Vec<u8>, flags: u8) -> Result<(), AllocError>
     ])
 }
 
+#[tactic(auto, unfolding(crate::specs::Lines::vendor_text))]
 fn put_vendor(out: &mut Vec<u8>, octets: &[u8]) -> Result<(), AllocError>
     ensures { OnOk result (out.new.items ≡ out.old.items ++ vendor_text octets.now) }
 {
@@ -100,6 +103,7 @@ fn is_group(definition: Option<&Definition>) -> bool
     }
 }
 
+#[tactic(auto, unfolding(crate::specs::Lines::data_text))]
 fn put_data(
     out: &mut Vec<u8>,
     definition: Option<&Definition>,
@@ -116,6 +120,7 @@ fn put_data(
 }
 
 /// What is wrong with an AVP that is broken.
+#[tactic(auto, unfolding(crate::specs::Lines::broken_words))]
 pub fn broken_words(code: FaultCode) -> &'static [u8]
     ensures { result.now ≡ broken_words code }
 {

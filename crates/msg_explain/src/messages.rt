@@ -11,6 +11,7 @@ use dia_command::{Header, header_of};
 use dia_show::{put_command, put_octets, put_quoted};
 use std::alloc::AllocError;
 
+#[tactic(auto, unfolding(crate::specs::Messages::header_letters))]
 fn put_letters(out: &mut Vec<u8>, flags: u8) -> Result<(), AllocError>
     ensures { OnOk result (out.new.items ≡ out.old.items ++ header_letters flags) }
 {
@@ -48,8 +49,9 @@ fn put_session(out: &mut Vec<u8>, session: Option<&[u8]>) -> Result<(), AllocErr
     }
 }
 
+/// Puts the number of a message, and where it begins.
 #[tactic(auto, unfolding(crate::specs::Messages::numbered))]
-fn put_numbered(out: &mut Vec<u8>, number: u64, offset: u64) -> Result<(), AllocError>
+pub(crate) fn put_numbered(out: &mut Vec<u8>, number: u64, offset: u64) -> Result<(), AllocError>
     ensures { OnOk result (out.new.items ≡ out.old.items ++ numbered number offset) }
 {
     put_number(out, b"message ", number)?;
