@@ -1,4 +1,4 @@
-use Rattle.std.proofs.Common.{◌≡◌, ℕ, ◌+◌, ◌*◌, ◌<◌, ◌≤◌, ◌||◌, Bool, true, false, cond, nat_lt, List, [], ◌∷◌, ◌++◌, Option, Some, None, length, take, drop, arith, refl, sym, ap, ◌∙◌}
+use Rattle.std.proofs.Common.{◌≡◌, ℕ, ◌+◌, ◌*◌, ◌≤◌, ◌||◌, Bool, true, false, cond, nat_lt, List, Option, Some, None, length, arith, refl, sym, ◌∙◌}
 use Rattle.std.proofs.lemmas.Bool.Decides.{nat_tests}
 use Rattle.std.proofs.lemmas.List.{take_all}
 use Rattle.std.proofs.lemmas.Grind.{common_steps}
@@ -9,7 +9,6 @@ use Rattle.tab_load.specs.declared.counts.Counts.{Counts}
 use Rattle.tab_load.specs.declared.counts.Format.{Format}
 use Rattle.tab_load.specs.declared.counts.Format.TheVariants.{One, Two}
 use Rattle.tab_load.specs.declared.scan.Scan.{Scan}
-use Rattle.tab_load.specs.declared.fault.ImageFault.{ImageFault}
 use Rattle.tab_load.specs.declared.fault.ImageFault.TheVariants.{Cut, Count}
 
 -- code that was read to its end

@@ -1,8 +1,7 @@
-use Rattle.std.proofs.Common.{◌≡◌, ℕ, ◌+◌, ◌*◌, ◌<◌, ◌≤◌, ◌||◌, Bool, true, false, cond, List, Option, Some, None, length, arith, nat_lt, refl}
+use Rattle.std.proofs.Common.{◌≡◌, ℕ, ◌+◌, ◌*◌, ◌≤◌, ◌||◌, Bool, true, false, cond, List, Some, None, length, arith, nat_lt, refl}
 use Rattle.std.proofs.lemmas.Bool.Decides.{nat_tests}
 use Rattle.tab_load.specs.Faults.{count_at, count_fault, least_of, most_of}
 use Rattle.tab_load.specs.declared.counts.Format.{Format}
-use Rattle.tab_load.specs.declared.fault.ImageFault.{ImageFault}
 use Rattle.tab_load.specs.declared.fault.ImageFault.TheVariants.{Cut, Count}
 
 -- a count without a fault is there

@@ -4,3 +4,4 @@ pub mod NameLemmas
 pub mod CheckLemmas
 pub mod RefusalLemmas
 pub mod BodyLemmas
+pub mod PromiseLemmas

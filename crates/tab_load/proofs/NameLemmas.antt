@@ -1,12 +1,11 @@
-use Rattle.std.proofs.Common.{◌≡◌, ℕ, ◌+◌, ◌<◌, ◌≤◌, ◌||◌, Bool, true, false, not, cond, is_none, List, [], ◌∷◌, ◌++◌, Option, Some, None, length, map, take, drop, arith, refl, sym, ap, ◌∙◌}
-use Rattle.std.specs.List.{flat_map, list_any}
+use Rattle.std.proofs.Common.{◌≡◌, ℕ, ◌+◌, ◌≤◌, ◌||◌, Bool, true, false, not, cond, is_none, List, [], ◌∷◌, ◌++◌, Some, None, length, map, take, drop, arith, refl, sym, ap, ◌∙◌}
+use Rattle.std.specs.List.{list_any}
 use Rattle.std.specs.Str.{bytes_eq}
-use Rattle.std.proofs.lemmas.List.{append_assoc, length-append, flat_map_more}
+use Rattle.std.proofs.lemmas.List.{length-append, flat_map_more}
 use Rattle.base_list.specs.declared.named.Named.{Named}
 use Rattle.tab_text.specs.Names.{is_name}
 use Rattle.tab_asm.specs.Images.{name_octets}
-use Rattle.tab_load.specs.Names.{place_in, name_fault, AreNames, NamesOf}
-use Rattle.tab_load.specs.declared.fault.ImageFault.{ImageFault}
+use Rattle.tab_load.specs.Names.{place_in, name_fault, NamesOf}
 use Rattle.tab_load.specs.declared.fault.ImageFault.TheVariants.{Name, Unbound}
 use Rattle.tab_load.proofs.ScanLemmas.{front-more, EachAfter-more}
 

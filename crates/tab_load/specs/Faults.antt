@@ -1,4 +1,4 @@
-use Rattle.std.specs.Prelude.{◌≡◌, ℕ, ◌+◌, ◌*◌, ◌<◌, ◌≤◌, ◌||◌, nat_lt, Bool, List, [], ◌∷◌, ◌++◌, Option, Some, None, length, take, drop, slice_index_or, if◌then◌else◌}
+use Rattle.std.specs.Prelude.{◌≡◌, ℕ, ◌+◌, ◌*◌, ◌<◌, ◌≤◌, ◌||◌, nat_lt, List, [], ◌∷◌, Option, Some, None, length, take, drop, slice_index_or, if◌then◌else◌}
 use Rattle.std.specs.Int.{w16, from_be_bytes}
 use Rattle.tab_text.specs.declared.limits.TheConstants.{MAX_STATES, MAX_KINDS, MAX_GUARDS, MAX_ACTIONS}
 use Rattle.tab_asm.specs.Formats.{Format as FormatSpec, format_1, format_2}

@@ -1,4 +1,4 @@
-use Rattle.std.specs.Prelude.{◌≡◌, ℕ, ◌+◌, ◌*◌, ◌<◌, ◌≤◌, ◌⊎◌, Bool, true, false, List, [], ◌∷◌, ◌++◌, Option, Some, None, length, take, drop, map}
+use Rattle.std.specs.Prelude.{◌≡◌, ℕ, ◌+◌, ◌*◌, ◌<◌, ◌≤◌, ◌⊎◌, true, false, List, ◌++◌, Option, Some, None, length, take, drop, map}
 use Rattle.std.specs.List.{flat_map, list_all, slice_index_or}
 use Rattle.std.specs.Int.{to_be_bytes}
 use Rattle.base_list.specs.Named.{place_of}

@@ -2,6 +2,7 @@ ghost use Rattle.std.specs.Prelude.{◌≡◌, ◌+◌, ◌*◌, ◌<◌, ◌≤
 ghost use Rattle.tab_asm.specs.Formats.{Instruction};
 ghost use Rattle.tab_load.specs.Faults.{format_of, width_of};
 ghost use Rattle.tab_load.specs.Code.{IsRefusal};
+ghost use Rattle.tab_load.specs.Promise.{EachEnds};
 ghost use Rattle.tab_load.specs.Loading.{lists, IsHead, HasBody, HasFault, IsLoaded, IsReadFrom, IsSound, entry_count, code_begin, code_in};
 
 use crate::body::{Body, check_code, read_body};
@@ -87,12 +88,8 @@ fn check_rest(
     Ok(begin)
 }
 
-/// Loads an image of either format, with the book that it is to run with.
-///
-/// An image is refused for its first fault in octet order, at the place where the part begins that is wrong. A part that
-/// the image, or an instruction that the code, ends before is cut off, and is not looked into. Where guards and entries
-/// lead is looked at once nothing else is wrong with the code.
-pub fn load(alloc: Global, octets: &[u8], book: &LawBook) -> Result<Program, LoadError>
+/// The program of an image.
+fn read_program(alloc: Global, octets: &[u8], book: &LawBook) -> Result<Program, LoadError>
     ensures read { IfOk result (IsReadFrom book.now octets.now) }
     ensures loaded { IfOk result (IsLoaded book.now) }
     ensures err { IfErr result (IsRefusal (HasFault book.now octets.now)) }
@@ -115,4 +112,21 @@ pub fn load(alloc: Global, octets: &[u8], book: &LawBook) -> Result<Program, Loa
         entries,
         code,
     })
+}
+
+/// Loads an image of either format, with the book that it is to run with.
+///
+/// An image is refused for its first fault in octet order, at the place where the part begins that is wrong. A part that
+/// the image, or an instruction that the code, ends before is cut off, and is not looked into. Where guards and entries
+/// lead is looked at once nothing else is wrong with the code.
+///
+/// In a program that is loaded each event ends, whatever its guards say: a path of at most as many instructions as the code
+/// has octets leads from its entry to an end, and each of them names what the image has.
+pub fn load(alloc: Global, octets: &[u8], book: &LawBook) -> Result<Program, LoadError>
+    ensures read { IfOk result (IsReadFrom book.now octets.now) }
+    ensures loaded { IfOk result (IsLoaded book.now) }
+    ensures ends { IfOk result EachEnds }
+    ensures err { IfErr result (IsRefusal (HasFault book.now octets.now)) }
+{
+    read_program(alloc, octets, book)
 }

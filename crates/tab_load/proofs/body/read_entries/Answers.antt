@@ -1,4 +1,4 @@
-use Rattle.std.proofs.Common.{◌≡◌, arith, refl, sym, ◌∙◌, ap, ℕ, ◌+◌, ◌∷◌, [], ◌++◌, take, length-append}
+use Rattle.std.proofs.Common.{refl, ◌∙◌, ◌∷◌, [], take, length-append}
 use Rattle.std.proofs.lemmas.List.{flat_map_more}
 use Rattle.tab_asm.specs.Images.{offset_octets}
 use Rattle.tab_load.specs.Faults.{format_of, width_of}

@@ -1,6 +1,4 @@
-use Rattle.std.proofs.Common.{◌≡◌, ◌+◌, ◌-◌, length, arith, sym, ◌∙◌, refl, inr, List, [], ◌∷◌}
-use Rattle.tab_asm.specs.Formats.{octets_of, code_of}
-use Rattle.tab_load.specs.Faults.{format_of}
+use Rattle.std.proofs.Common.{◌-◌, length, arith, sym, ◌∙◌, inr, []}
 use Rattle.tab_load.specs.Code.{instruction_of, instructions_of}
 use Rattle.tab_load.specs.declared.instruction.Step.TheVariants as step
 use Rattle.tab_load.proofs.CheckLemmas.{last-at, ended-at, code-length}

@@ -1,5 +1,5 @@
 use Rattle.std.proofs.lemmas.Result.{err_from_is_err_and}
-use Rattle.tab_load.specs.Loading.{lists, AnyNameWrong, HasFault, InCounts, InNames}
+use Rattle.tab_load.specs.Loading.{AnyNameWrong, HasFault, InCounts, InNames}
 use Rattle.tab_load.proofs.RefusalLemmas.{refusal-weaker}
 use Rattle.tab_load.proofs.BodyLemmas.{few-entries}
 use Rattle.tab_load.proofs.loading.read_head.Goals as goal

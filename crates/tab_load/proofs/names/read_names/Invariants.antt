@@ -1,4 +1,3 @@
-use Rattle.std.proofs.Common.{length}
 use Rattle.tab_load.specs.Names.{NamesOf}
 use Rattle.tab_load.proofs.names.read_names.Given as goal
 

@@ -1,4 +1,4 @@
-use Rattle.std.proofs.Common.{refl, sym, ◌∙◌, arith}
+use Rattle.std.proofs.Common.{refl, ◌∙◌}
 use Rattle.tab_load.specs.Code.{instructions_of}
 use Rattle.tab_load.proofs.ScanLemmas.{is-more, next-wrong}
 use Rattle.tab_load.proofs.scan.read_next.Goals as goal
