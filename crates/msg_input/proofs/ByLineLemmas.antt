@@ -1,7 +1,6 @@
 -- What is printed of the lines of an input, line by line.
-use Rattle.std.proofs.Common.{◌≡◌, ◌≢◌, ◌≤◌, ◌+◌, ℕ, Bool, true, false, List, [], ◌∷◌, ◌++◌, length, take, drop, get_or, ◌<◌, Option, Some, None, Result, Ok, Err, inl, inr, refl, sym, ap, subst, ◌∙◌, append_assoc, arith}
-use Rattle.std.specs.Prelude.{◌||◌, All, IfOk, OnOk, OnErr, is_some}
-use Rattle.std.specs.List.{flat_map}
+use Rattle.std.proofs.Common.{◌≡◌, ◌≢◌, ◌≤◌, ◌+◌, ℕ, Bool, false, List, [], ◌∷◌, ◌++◌, length, take, drop, get_or, ◌<◌, Option, Some, None, Result, Ok, Err, inr, refl, sym, ap, ◌∙◌, append_assoc, arith}
+use Rattle.std.specs.Prelude.{◌||◌, IfOk, OnOk, OnErr, is_some}
 use Rattle.std.proofs.lemmas.List.{append-nil, length-append}
 use Rattle.std.proofs.lemmas.List.Elements.{All-append, All-cons, All-nil}
 use Rattle.std.proofs.lemmas.Grind.{flat_map-append}
@@ -14,7 +13,7 @@ use Rattle.msg_input.specs.Readings.{SoFar, TakesText, place_of}
 use Rattle.msg_input.specs.declared.ends.Refusal.{Refusal}
 use Rattle.msg_input.specs.declared.ends.Refusal.TheVariants as refusals
 use Rattle.msg_input.specs.declared.ends.End.{End}
-use Rattle.msg_input.specs.declared.ends.End.TheVariants.{Whole, Refused, ReadFailed, TooManyReads}
+use Rattle.msg_input.specs.declared.ends.End.TheVariants.{Refused}
 use Rattle.msg_input.specs.declared.ends.Place.{Place}
 use Rattle.msg_input.specs.declared.reading.Reading.{Reading}
 use Rattle.msg_input.specs.declared.by_line.ByLine.{ByLine}

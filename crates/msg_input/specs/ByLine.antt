@@ -1,5 +1,5 @@
 -- What is printed of an input whose lines are each an input by itself.
-use Rattle.std.specs.Prelude.{◌≡◌, ◌≢◌, ◌≤◌, ◌||◌, ℕ, ◌+◌, Bool, true, false, List, [], ◌∷◌, ◌++◌, length, Option, Some, None, All}
+use Rattle.std.specs.Prelude.{◌≡◌, ◌≢◌, ◌≤◌, ◌||◌, ℕ, ◌+◌, Bool, true, false, List, [], ◌∷◌, ◌++◌, length, All}
 use Rattle.std.specs.List.{flat_map}
 use Rattle.msg_input.specs.Inputs.{IsPrintedOf}
 use Rattle.msg_input.specs.Printed.{Saying}

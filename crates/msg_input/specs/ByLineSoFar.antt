@@ -1,5 +1,5 @@
 -- What is known of the lines of an input that was read so far.
-use Rattle.std.specs.Prelude.{◌≡◌, ◌+◌, ◌||◌, ℕ, Bool, List, [], ◌∷◌, ◌++◌, length, Option, Some, None, Result, Ok, Err, All}
+use Rattle.std.specs.Prelude.{◌≡◌, ◌+◌, ◌||◌, ℕ, Bool, List, [], ◌++◌, length, Option, Some, None, Result, Ok, Err, All}
 use Rattle.msg_input.specs.ByLine.{AllLines, FrontLines, IsLine, PrintsLine, PrintsLines, ended}
 use Rattle.msg_input.specs.Inputs.{BadText, FaultyText}
 use Rattle.msg_input.specs.Printed.{Saying}

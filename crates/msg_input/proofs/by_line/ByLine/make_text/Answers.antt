@@ -1,4 +1,4 @@
-use Rattle.std.proofs.Common.{◌≡◌, ◌++◌, ◌+◌, ℕ, Bool, List, refl, subst, sym}
+use Rattle.std.proofs.Common.{◌≡◌, ◌++◌, ◌+◌, Bool, refl, subst, sym}
 use Rattle.msg_input.specs.ByLineSoFar.{IsAlong}
 use Rattle.msg_input.specs.Inputs.{IsPrintedOf}
 use Rattle.msg_input.specs.Readings.{place_of}
