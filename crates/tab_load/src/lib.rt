@@ -1,7 +1,7 @@
-//! Images of state tables loaded to programs, and run.
+//! Images of state tables loaded to programs.
 //!
-//! [`load`] takes both formats, by the octets that an image begins with. The definitions of faults and of what an event
-//! does stand in `specs/`; those of images and of paths through their code in `tab_asm`.
+//! [`load`] takes both formats, by the octets that an image begins with. The definitions of faults and of what a program
+//! promises stand in `specs/`; those of images and of paths through their code in `tab_asm`.
 #![tactic(auto)]
 
 mod body;
