@@ -1,0 +1,5 @@
+//! The program of a bound table.
+#![tactic(auto)]
+
+/// Nothing yet.
+fn nothing() {}
