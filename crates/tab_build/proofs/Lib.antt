@@ -1,3 +1,8 @@
+pub mod FrontLemmas
+pub mod OctetLemmas
+pub mod PartLemmas
+pub mod HeadLemmas
+pub mod KnownLemmas
 pub mod CodeList
 pub mod CodeFine
 pub mod CodeLands
@@ -5,3 +10,4 @@ pub mod CodeOnly
 pub mod CodeSpelt
 pub mod CodeSound
 pub mod CodeFaults
+pub mod BuildLemmas

@@ -1,4 +1,4 @@
-use Rattle.std.specs.Prelude.{ℕ, ◌<◌, length}
+use Rattle.std.specs.Prelude.{◌<◌, length}
 use Rattle.tab_text.specs.Contents.{Contents}
 use Rattle.tab_text.specs.Rows.{IsNumberedTable}
 use Rattle.tab_asm.specs.Assembled.{code_to, entry_count}

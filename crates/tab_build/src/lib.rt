@@ -1,5 +1,8 @@
 //! The program of a bound table.
+//!
+//! [`build`] assembles a table and loads its image with the book that it is bound to.
 #![tactic(auto)]
 
-/// Nothing yet.
-fn nothing() {}
+mod building;
+
+pub use building::build;
