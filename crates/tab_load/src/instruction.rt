@@ -10,7 +10,7 @@ use crate::counts::{Counts, Format, width_of};
 use crate::fault::ImageFault;
 
 /// An instruction with its operands.
-#[derive(Clone, Copy, Debug, PartialEq, Eq)]
+#[derive(Clone, Copy, PartialEq, Eq)]
 pub enum Step {
     /// Begins that row anew.
     Begin(u16),

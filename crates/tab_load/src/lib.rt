@@ -13,7 +13,6 @@ mod loading;
 mod names;
 mod program;
 mod scan;
-mod spelling;
 
 pub use counts::Format;
 pub use fault::{ImageFault, LoadError, LoadFault};

@@ -10,10 +10,10 @@ ghost use Rattle.tab_load.specs.Loading.{lists, NamesAre, AnyNameWrong};
 
 use crate::counts::Counts;
 use crate::fault::{ImageFault, LoadError, fault_at};
-use crate::spelling::is_name;
 use base_list::{NamedList, Octets};
 use std::alloc::Global;
 use tab_law::LawBook;
+use tab_text::is_name;
 
 /// Names in order, and their places in a book.
 #[derive(Drop)]
