@@ -14,7 +14,9 @@ mod names;
 mod program;
 mod scan;
 
-pub use counts::Format;
+pub use counts::{Format, width_of};
 pub use fault::{ImageFault, LoadError, LoadFault};
+pub use instruction::{Step, step_in};
 pub use loading::load;
+pub use names::{ImageNames, Names};
 pub use program::Program;
