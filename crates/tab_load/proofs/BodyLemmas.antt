@@ -14,7 +14,7 @@ use Rattle.tab_load.specs.declared.fault.ImageFault.TheVariants.{Cut, Count}
 -- code that was read to its end
 pub whole-code : (format : Format) (counts : Counts) (code : List ℕ) (scan : Scan) → IsScanned format counts code scan → scan.at ≡ length code → IsCode format counts code (instructions_of scan.steps.items)
 whole-code format counts code scan is end =
-    record { whole = sym (take_all scan.at code (omega (arith, end))) ∙ is.front; fine = is.fine }
+    record { whole = sym (take_all scan.at code (omega (arith, end))) ∙ is.front; fits = is.fits; fine = is.fine }
 
 -- where one more entry ends
 pub width-more : (format : Format) (begin n : ℕ) → (begin + width_of format * n) + width_of format ≡ begin + width_of format * (n + 1)

@@ -36,7 +36,7 @@ abbrev pub width_of : Format → ℕ
 width_of One = 2
 width_of Two = 4
 
--- the code is shorter than this: its length has as many octets as an offset
+-- numbers that fit the octets of an offset, or of the code's length, are below this one
 abbrev pub code_limit : Format → ℕ
 code_limit One = 65536
 code_limit Two = 4294967296

@@ -1,4 +1,4 @@
-use Rattle.std.specs.Prelude.{◌≡◌, ℕ, ◌+◌, ◌*◌, ◌<◌, ◌≤◌, ◌⊎◌, true, false, List, ◌++◌, Option, Some, None, length, take, drop, map}
+use Rattle.std.specs.Prelude.{◌≡◌, ℕ, ◌+◌, ◌*◌, ◌<◌, ◌≤◌, ◌⊎◌, true, false, List, ◌++◌, All, Option, Some, None, length, take, drop, map}
 use Rattle.std.specs.List.{flat_map, list_all, slice_index_or}
 use Rattle.std.specs.Int.{to_be_bytes}
 use Rattle.base_list.specs.Named.{place_of}
@@ -72,9 +72,16 @@ pub data AnyNameWrong (laws : Laws) (octets : List ℕ) (counts : Counts) (at : 
       → NamesWrong true laws.acts octets guards.end counts.actions at fault
       → AnyNameWrong laws octets counts at fault
 
+-- an offset is a number that its octets hold, and not the one that stands for none
+abbrev pub IsOffset : Format → Option ℕ → Type 0
+IsOffset format None = Unit {0}
+IsOffset format (Some offset) = offset < (format_of format).no_offset
+
 -- the entries begin there in the image: one for each state and kind, and behind them the code's length
 pub record EntriesOf (format : Format) (octets : List ℕ) (begin count : ℕ) (entries : List (Option ℕ)) (size : ℕ) : Type 0 where
   pub many : length entries ≡ count
+  pub fits : All (IsOffset format) entries
+  pub size_fits : size < code_limit format
   pub front : take (begin + width_of format * count) octets ≡ take begin octets ++ flat_map (offset_octets (format_of format)) entries
   pub stated : drop (begin + width_of format * count) octets ≡ to_be_bytes (format_of format).width size ++ drop (begin + width_of format * count + width_of format) octets
   pub inside : begin + width_of format * count + width_of format ≤ length octets
