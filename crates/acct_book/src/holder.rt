@@ -1,7 +1,7 @@
 //! Whose reservation an operation is on.
 
 /// Who holds a reservation: a session and group, on an account.
-#[derive(Clone, Copy, Debug, PartialEq, Eq, Hash)]
+#[derive(Clone, Copy, PartialEq, Eq, Hash)]
 pub(crate) struct Holder {
     pub(crate) account: u64,
     pub(crate) session: u64,
@@ -9,7 +9,7 @@ pub(crate) struct Holder {
 }
 
 /// A session on an account, with all its groups.
-#[derive(Clone, Copy, Debug, PartialEq, Eq, Hash)]
+#[derive(Clone, Copy, PartialEq, Eq, Hash)]
 pub(crate) struct Session {
     pub(crate) account: u64,
     pub(crate) session: u64,

@@ -13,21 +13,21 @@ use indexmap::IndexMap;
 use std::alloc::Global;
 
 /// A reservation as it was last written. It stands while no more rounds of its session are over than `round` less one.
-#[derive(Clone, Copy, Debug, PartialEq, Eq)]
+#[derive(Clone, Copy, PartialEq, Eq)]
 pub(crate) struct Held {
     pub(crate) amount: u64,
     pub(crate) round: u64,
 }
 
 /// What is reserved in a session over all its groups, and how many rounds of it a Release has ended.
-#[derive(Clone, Copy, Debug, PartialEq, Eq)]
+#[derive(Clone, Copy, PartialEq, Eq)]
 pub(crate) struct Rounds {
     pub(crate) total: u64,
     pub(crate) over: u64,
 }
 
 /// What an operation wrote over: a reservation, where it was on one, and its session.
-#[derive(Clone, Copy, Debug, PartialEq, Eq)]
+#[derive(Clone, Copy, PartialEq, Eq)]
 pub(crate) struct Before {
     pub(crate) held: Held,
     pub(crate) rounds: Rounds,

@@ -5,7 +5,7 @@ ghost use Rattle.acct_totals.specs.Answers.{quote_from, unknown};
 use base_codes::ResultCode;
 
 /// What the account would answer to used and wanted units.
-#[derive(Clone, Copy, Debug, PartialEq, Eq)]
+#[derive(Clone, Copy, PartialEq, Eq)]
 pub struct Quote {
     /// `Success`, `CreditLimitReached` where units are wanted and there are none, or `UserUnknown` where there is no such account
     /// (RFC 6733 section 7.1, RFC 8506 section 9).
@@ -54,7 +54,7 @@ impl Quote {
 }
 
 /// Sums over an account, in service units.
-#[derive(Clone, Copy, Debug, PartialEq, Eq)]
+#[derive(Clone, Copy, PartialEq, Eq)]
 pub struct Totals {
     /// What the account was opened with.
     pub given: u64,

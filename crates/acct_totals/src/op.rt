@@ -4,7 +4,7 @@ ghost use Rattle.acct_totals.specs.Amounts.{account_of, amount_of, unpaid_of};
 
 /// An operation on an account. A `session` is the number of a Session-Id (RFC 6733 section 8.8), a `group` that of a Rating-Group
 /// (RFC 8506 section 8.29) or 0, and the amounts are service units (RFC 8506 sections 8.17 to 8.19).
-#[derive(Clone, Copy, Debug, PartialEq, Eq)]
+#[derive(Clone, Copy, PartialEq, Eq)]
 pub enum Op {
     /// Sets units aside for a session (RFC 8506 sections 5.2 and 5.3).
     Reserve {
@@ -53,7 +53,7 @@ impl Op {
 }
 
 /// What became of an operation.
-#[derive(Clone, Copy, Debug, PartialEq, Eq)]
+#[derive(Clone, Copy, PartialEq, Eq)]
 pub enum Outcome {
     /// The units that were moved, and of a Debit those that were used and could not be paid.
     Done { amount: u64, unpaid: u64 },
@@ -84,7 +84,7 @@ impl Outcome {
 }
 
 /// An operation with what became of it, as the journal has it.
-#[derive(Clone, Copy, Debug, PartialEq, Eq)]
+#[derive(Clone, Copy, PartialEq, Eq)]
 pub struct Booked {
     pub op: Op,
     pub outcome: Outcome,

@@ -9,7 +9,7 @@ use base_codes::ResultCode;
 
 /// One service of a request (Multiple-Services-Credit-Control, RFC 8506 section 8.16): its group, and the service units that it used and
 /// wants.
-#[derive(Clone, Copy, Debug, PartialEq, Eq)]
+#[derive(Clone, Copy, PartialEq, Eq)]
 pub struct Slot {
     pub group: u64,
     pub used: u64,

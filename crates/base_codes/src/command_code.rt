@@ -2,7 +2,7 @@ ghost use Rattle.std.specs.Prelude.{◌≡◌};
 ghost use Rattle.base_codes.specs.CommandCodes.{number_of, name_of, coded};
 
 /// A Command Code (RFC 6733 section 3.1, RFC 8506 section 3). A request and its answer share one.
-#[derive(Clone, Copy, Debug, PartialEq, Eq)]
+#[derive(Clone, Copy, PartialEq, Eq)]
 pub enum CommandCode {
     /// CER and CEA (RFC 6733 section 5.3).
     CapabilitiesExchange,

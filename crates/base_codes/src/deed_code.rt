@@ -2,7 +2,7 @@ ghost use Rattle.std.specs.Prelude.{◌≡◌};
 ghost use Rattle.base_codes.specs.DeedCodes.{number_of, name_of, coded};
 
 /// What a machine has done outside itself. Numbers and names are this project's own.
-#[derive(Clone, Copy, Debug, PartialEq, Eq)]
+#[derive(Clone, Copy, PartialEq, Eq)]
 pub enum DeedCode {
     /// No row took the event; the arguments are its facts.
     Unlisted,

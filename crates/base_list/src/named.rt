@@ -9,14 +9,14 @@ use std::alloc::Global;
 use std::marker::Model;
 
 /// A value under its name, which is any octets; case counts.
-#[derive(Debug, Drop)]
+#[derive(Drop)]
 pub struct Named<T> {
     pub name: Octets,
     pub value: T,
 }
 
 /// A refused call, with what it was handed.
-#[derive(Debug, Drop)]
+#[derive(Drop)]
 pub struct Refused<T> {
     pub error: AddError,
     pub back: T,
@@ -32,7 +32,7 @@ impl<T: Drop> From<Refused<T>> for AddError {
 
 /// Values under names of their own, numbered from 0 in order of adding. Only the last ones are ever taken out, so a
 /// place stays that of its name. Looking for a name takes time in proportion to the list: it is for lists that are made once.
-#[derive(Debug, Drop)]
+#[derive(Drop)]
 pub struct NamedList<T> {
     alloc: Global,
     entries: Vec<Named<T>>,

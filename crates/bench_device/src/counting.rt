@@ -7,7 +7,7 @@ use std::io::{ErrorKind, Read, Write};
 /// Makes a `ByteSource` of any `Read`, and a `ByteSink` of any `Write`.
 ///
 /// `flush` is never called: hand in a writer that keeps nothing back.
-#[derive(Debug, Drop)]
+#[derive(Drop)]
 pub struct Counting<T> {
     pub device: T,
     pub reads: u64,

@@ -6,7 +6,7 @@ ghost use Rattle.bench_text.specs.Digits.{is_blank, Means};
 ghost use Rattle.bench_text.specs.Stops.{Stops};
 
 /// Why `decode` went no further.
-#[derive(Clone, Copy, Debug, PartialEq, Eq)]
+#[derive(Clone, Copy, PartialEq, Eq)]
 pub enum Stop {
     /// The whole text is used.
     TextEnds,
@@ -17,7 +17,7 @@ pub enum Stop {
 }
 
 /// How far `decode` came.
-#[derive(Clone, Copy, Debug, PartialEq, Eq)]
+#[derive(Clone, Copy, PartialEq, Eq)]
 pub struct Decoded {
     /// Characters that were used.
     pub used: usize,

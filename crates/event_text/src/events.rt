@@ -11,7 +11,7 @@ use tab_step::Event;
 use text_parts::{Pieces, Words};
 
 /// Why a text holds no list of events.
-#[derive(Clone, Copy, Debug, PartialEq, Eq)]
+#[derive(Clone, Copy, PartialEq, Eq)]
 pub enum EventsError {
     NoMemory,
     /// The line, from 1, isn't of the form, its kind isn't in the book, or a fact's number is too large or stands twice.

@@ -8,7 +8,7 @@ use dia_frame::{FeedError, FrameFault};
 use std::alloc::AllocError;
 
 /// Why the input is read no further.
-#[derive(Clone, Copy, Debug, PartialEq, Eq)]
+#[derive(Clone, Copy, PartialEq, Eq)]
 pub enum Refusal {
     /// A character is neither a digit nor a blank, or a digit is left over at the end.
     BadHex,
@@ -37,7 +37,7 @@ impl From<FeedError> for Refusal {
 }
 
 /// How reading came to its end.
-#[derive(Clone, Copy, Debug, PartialEq, Eq)]
+#[derive(Clone, Copy, PartialEq, Eq)]
 pub enum End {
     /// All was read.
     Whole,
@@ -48,7 +48,7 @@ pub enum End {
 }
 
 /// How far an input was read.
-#[derive(Clone, Copy, Debug, PartialEq, Eq)]
+#[derive(Clone, Copy, PartialEq, Eq)]
 pub struct Place {
     /// Octets of the whole messages so far: where the next one begins.
     pub octets: u64,
@@ -57,7 +57,7 @@ pub struct Place {
 }
 
 /// A text with a number in it, or without.
-#[derive(Clone, Copy, Debug)]
+#[derive(Clone, Copy)]
 pub struct EndWords {
     pub before: &'static [u8],
     pub place: Option<u64>,

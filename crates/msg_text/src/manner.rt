@@ -1,7 +1,7 @@
 //! The styles of what is printed.
 
 /// The styles of what is printed.
-#[derive(Clone, Copy, Debug, PartialEq, Eq)]
+#[derive(Clone, Copy, PartialEq, Eq)]
 pub enum Style {
     /// Numbers and hexadecimal: a line for the header, for each AVP and for the encoding; `fault` with its Result-Code.
     Plain,

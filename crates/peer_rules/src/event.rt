@@ -10,7 +10,7 @@ use base_codes::{CommandCode, ResultCode};
 use dia_command::{Command, ErrorAnswer};
 
 /// Who opened a connection (RFC 6733 section 5.6).
-#[derive(Clone, Copy, Debug, PartialEq, Eq)]
+#[derive(Clone, Copy, PartialEq, Eq)]
 pub enum Side {
     /// This node, the initiator.
     I,

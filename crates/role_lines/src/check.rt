@@ -7,7 +7,7 @@ use std::alloc::{AllocError, Global};
 use tab_law::{Atom, Field, GuardLaw, Numbers, Test};
 
 /// The one thing that a guard asks of a field: a fact of the event or a register.
-#[derive(Clone, Copy, Debug)]
+#[derive(Clone, Copy)]
 pub enum Check {
     Equal(Field, Atom),
     Differing(Field, Atom),

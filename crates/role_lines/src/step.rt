@@ -28,7 +28,7 @@ const SIZE: u8 = slot::SIZE as u8;
 const WANT: u8 = slot::WANT as u8;
 
 /// Whose services a message has.
-#[derive(Clone, Copy, Debug)]
+#[derive(Clone, Copy)]
 pub enum Services {
     /// Those of the event.
     OfEvent,
@@ -39,7 +39,7 @@ pub enum Services {
 }
 
 /// One thing that an action does.
-#[derive(Clone, Copy, Debug)]
+#[derive(Clone, Copy)]
 pub enum Step {
     /// The register becomes that.
     Set(u8, Atom),

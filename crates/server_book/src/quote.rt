@@ -9,7 +9,7 @@ use tab_law::PLACES;
 
 /// What the account book answers a server's event: a quote of the request, or one of each of its services by slot, none where a
 /// slot has no service (RFC 8506 section 5.1.2).
-#[derive(Clone, Copy, Debug, PartialEq, Eq)]
+#[derive(Clone, Copy, PartialEq, Eq)]
 pub enum Quotes {
     One(Quote),
     Several([Option<Quote>; slot::MAX_SLOTS]),

@@ -7,7 +7,7 @@ ghost use Rattle.server_rules.specs.Kinds.{name_of, all, kinds};
 
 /// A kind of events, in the order of the first appearance in the table: a request by its CC-Request-Type (RFC 8506
 /// section 8.3), or the timer.
-#[derive(Clone, Copy, Debug, PartialEq, Eq)]
+#[derive(Clone, Copy, PartialEq, Eq)]
 pub enum ServerKind {
     /// INITIAL_REQUEST came.
     Initial,

@@ -10,7 +10,7 @@ use tab_law::PLACES;
 use tab_step::{Event, MachineState};
 
 /// What a request used and wants.
-#[derive(Clone, Copy, Debug, PartialEq, Eq)]
+#[derive(Clone, Copy, PartialEq, Eq)]
 pub enum Asked {
     /// One service: that of a request without Multiple-Services-Credit-Control, whose group is 0.
     One(Slot),
@@ -20,7 +20,7 @@ pub enum Asked {
 
 /// What is asked of the account book: the quote that the facts of a server's event tell, and the account and the session that its
 /// deeds are booked on.
-#[derive(Clone, Copy, Debug, PartialEq, Eq)]
+#[derive(Clone, Copy, PartialEq, Eq)]
 pub struct Want {
     /// The account, 0 for none.
     pub account: u64,

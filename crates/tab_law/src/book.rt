@@ -12,7 +12,6 @@ use std::marker::Model;
 /// ones are ever taken out, so a place stays that of its name.
 ///
 /// In: `add_kind`, `add_guard`, `add_act`. Out: `truncate`. Looks: `kinds`, `guards`, `acts`.
-#[derive(Debug)]
 pub struct LawBook {
     kinds: NamedList<()>,
     guards: NamedList<GuardLaw>,

@@ -6,7 +6,7 @@ use std::alloc::{AllocError, Global};
 use std::marker::Model;
 
 /// A number that a law reads. Numbers of registers and facts count round.
-#[derive(Clone, Copy, PartialEq, Eq, Debug)]
+#[derive(Clone, Copy, PartialEq, Eq)]
 pub enum Atom {
     Constant(u64),
     /// A register before the action.
@@ -18,7 +18,7 @@ pub enum Atom {
 }
 
 /// A number that a law makes of one or two atoms.
-#[derive(Clone, Copy, Debug)]
+#[derive(Clone, Copy)]
 pub enum Term {
     Just(Atom),
     /// Their sum, at most 2^64 - 1.
@@ -45,14 +45,14 @@ impl Term {
 }
 
 /// What a test looks at. Numbers count round.
-#[derive(Clone, Copy, PartialEq, Eq, Debug)]
+#[derive(Clone, Copy, PartialEq, Eq)]
 pub enum Field {
     Register(u8),
     Fact(u8),
 }
 
 /// At most [`MAX_NUMBERS`] numbers.
-#[derive(Debug, Drop)]
+#[derive(Drop)]
 pub struct Numbers {
     items: Vec<u64>,
 }
@@ -98,7 +98,7 @@ impl Numbers {
 }
 
 /// A condition on a field of a scene.
-#[derive(Debug, Drop)]
+#[derive(Drop)]
 pub enum Test {
     Equal(Field, Atom),
     Differing(Field, Atom),
@@ -139,7 +139,7 @@ impl Test {
 }
 
 /// When a guard says yes: where all its tests are met, of which it has at most [`MAX_TESTS`].
-#[derive(Debug, Drop)]
+#[derive(Drop)]
 pub struct GuardLaw {
     tests: Vec<Test>,
 }
@@ -198,7 +198,7 @@ impl GuardLaw {
 }
 
 /// The arguments of a deed, in order: at most [`PLACES`] terms. Arguments behind them are 0.
-#[derive(Debug, Drop)]
+#[derive(Drop)]
 pub struct Terms {
     items: Vec<Term>,
 }
@@ -263,7 +263,7 @@ impl Terms {
 }
 
 /// What an action may do to a register, or has to do to the outside.
-#[derive(Debug, Drop)]
+#[derive(Drop)]
 pub enum Change {
     /// The register becomes the term.
     Set(u8, Term),
@@ -307,7 +307,7 @@ impl Change {
 
 /// What an action may answer: of a register the last Set or Pick counts, of Emits and EmitIfs the
 /// first four, and registers without a change stay.
-#[derive(Debug, Drop)]
+#[derive(Drop)]
 pub struct ActLaw {
     changes: Vec<Change>,
 }

@@ -4,14 +4,14 @@ use crate::limits::{MAX_DEEDS, MAX_EMITS, MAX_ROW_ACTIONS, PLACES};
 use base_fixed::FixedList;
 
 /// What a guard or an action sees: the machine's registers and the event's facts.
-#[derive(Clone, Copy, PartialEq, Eq, Debug)]
+#[derive(Clone, Copy, PartialEq, Eq)]
 pub struct Scene {
     pub regs: [u64; PLACES],
     pub facts: [u64; PLACES],
 }
 
 /// What an action has done outside its machine: a code, and arguments `a`.
-#[derive(Clone, Copy, PartialEq, Eq, Debug)]
+#[derive(Clone, Copy, PartialEq, Eq)]
 pub struct Deed {
     pub code: u16,
     pub a: [u64; PLACES],

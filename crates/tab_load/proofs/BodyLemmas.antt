@@ -14,7 +14,7 @@ use Rattle.tab_load.specs.declared.fault.ImageFault.TheVariants.{Cut, Count}
 -- code that was read to its end
 pub whole-code : (format : Format) (counts : Counts) (code : List ℕ) (scan : Scan) → IsScanned format counts code scan → scan.at ≡ length code → IsCode format counts code (instructions_of scan.steps.items)
 whole-code format counts code scan is end =
-    record { whole = sym (take_all scan.at code (omega (arith, end))) ∙ is.front; fine = is.fine }
+    record { whole = sym (take_all scan.at code (omega (arith, end))) ∙ is.front; fits = is.fits; fine = is.fine }
 
 -- where one more entry ends
 pub width-more : (format : Format) (begin n : ℕ) → (begin + width_of format * n) + width_of format ≡ begin + width_of format * (n + 1)
@@ -38,6 +38,11 @@ count-in format octets number none =
     by_tests false true high is none = cc
     by_tests false false true is none = cc
     by_tests false false false is none = grind (arith, nat_tests)
+
+-- an image has few rows
+pub few-rows : (format : Format) (octets : List ℕ) (counts : Counts) → CountsOf format octets counts → counts.rows ≤ 65536
+few-rows One octets counts is = let most = count-in One octets 4 (is.fine 4 (omega arith)) in omega (arith, is.rows, most)
+few-rows Two octets counts is = let most = count-in Two octets 4 (is.fine 4 (omega arith)) in omega (arith, is.rows, most)
 
 -- an image has few entries
 pub few-entries : (format : Format) (octets : List ℕ) (counts : Counts) → CountsOf format octets counts → counts.states * counts.kinds ≤ 65536

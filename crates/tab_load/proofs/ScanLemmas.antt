@@ -1,10 +1,11 @@
-use Rattle.std.proofs.Common.{◌≡◌, ℕ, ◌+◌, ◌-◌, ◌≤◌, ◌&&◌, suc, zero, Bool, true, false, not, cond, List, [], ◌∷◌, ◌++◌, Option, Some, None, length, map, take, drop, replicate, refl, sym, ap, subst, ◌∙◌, ◌⊎◌, inl, inr}
+use Rattle.std.proofs.Common.{◌≡◌, ℕ, ◌+◌, ◌-◌, ◌≤◌, ◌&&◌, suc, zero, Bool, true, false, not, cond, All, List, [], ◌∷◌, ◌++◌, Option, Some, None, length, map, take, drop, replicate, refl, sym, ap, subst, ◌∙◌, ◌⊎◌, inl, inr}
 use Rattle.std.specs.List.{slice_index_or}
 use Rattle.std.proofs.lemmas.List.{append-nil, append_assoc, length-append, flat_map_more, length-take-le}
+use Rattle.std.proofs.lemmas.List.Elements.{All-append, All-cons, All-nil}
 use Rattle.std.proofs.Math.Seq.{take-add, take-append_seam}
 use Rattle.tab_asm.specs.Formats.{Instruction, BeginRow, TestGuard, RunAction, GoTo, NoRow, octets_of, code_of}
 use Rattle.tab_load.specs.Faults.{format_of}
-use Rattle.tab_load.specs.Code.{instruction_of, instructions_of, size_of, counted, count_behind, is_in_range, is_in_row, is_forward, instruction_fault, EachAfter, IsFine, AreFine, is_landing, landings, NextWrong, octets_fault}
+use Rattle.tab_load.specs.Code.{instruction_of, Fits, instructions_of, size_of, counted, count_behind, is_in_range, is_in_row, is_forward, instruction_fault, EachAfter, IsFine, AreFine, is_landing, landings, NextWrong, octets_fault}
 use Rattle.tab_load.specs.declared.counts.Counts.{Counts}
 use Rattle.tab_load.specs.declared.counts.Format.{Format}
 use Rattle.tab_load.specs.declared.counts.Format.TheVariants.{One, Two}
@@ -107,11 +108,17 @@ is-more format counts code at size steps step rest count front inside fine count
       marks = ap (landings format) all ∙ sym (flat_map_more (λ instruction. is_landing instruction ∷ replicate (length (octets_of (format_of format) instruction) - 1) false) [] before i) ∙ ap (λ (n : ℕ). landings format before ++ is_landing i ∷ replicate (n - 1) false) long;
     }
 
+-- the numbers of instructions with one more
+pub fits-more : (format : Format) (steps : List Step) (step : Step) → All (Fits format) (instructions_of steps) → Fits format (instruction_of step) → All (Fits format) (instructions_of (steps ++ step ∷ []))
+fits-more format steps step before fits =
+    rw (map-more instruction_of steps step)
+    (All-append (Fits format) (instructions_of steps) (instruction_of step ∷ []) before (All-cons (Fits format) (instruction_of step) [] fits (All-nil (Fits format))))
+
 -- what is wrong with the next instruction
-pub next-wrong : (format : Format) (counts : Counts) (code : List ℕ) (at : ℕ) (steps : List Step) (count : Option ℕ) (fault : ImageFault) → take at code ≡ code_of (format_of format) (instructions_of steps) → at ≤ length code → count ≡ count_behind None (instructions_of steps) → (octets_fault format (drop at code) ≡ Some fault) ⊎ ((step : Step) × (octets_fault format (drop at code) ≡ None) × (drop at code ≡ octets_of (format_of format) (instruction_of step) ++ drop (size_of format (slice_index_or code at 0)) (drop at code)) × (instruction_fault counts count (at + size_of format (slice_index_or code at 0)) (instruction_of step) ≡ Some fault)) → NextWrong format counts (instructions_of steps) (drop at code) fault
+pub next-wrong : (format : Format) (counts : Counts) (code : List ℕ) (at : ℕ) (steps : List Step) (count : Option ℕ) (fault : ImageFault) → take at code ≡ code_of (format_of format) (instructions_of steps) → at ≤ length code → count ≡ count_behind None (instructions_of steps) → (octets_fault format (drop at code) ≡ Some fault) ⊎ ((step : Step) × (octets_fault format (drop at code) ≡ None) × (drop at code ≡ octets_of (format_of format) (instruction_of step) ++ drop (size_of format (slice_index_or code at 0)) (drop at code)) × Fits format (instruction_of step) × (instruction_fault counts count (at + size_of format (slice_index_or code at 0)) (instruction_of step) ≡ Some fault)) → NextWrong format counts (instructions_of steps) (drop at code) fault
 next-wrong format counts code at steps count fault front inside counts_to (inl octets) = inl octets
 next-wrong format counts code at steps count fault front inside counts_to (inr wrong) =
     let i = instruction_of wrong.0 in
     let long = sym (size-at format i code at (drop (size_of format (slice_index_or code at 0)) (drop at code)) wrong.2) in
     let end = ends-at format code at (size_of format (slice_index_or code at 0)) (instructions_of steps) i front inside long in
-    inr (i, drop (size_of format (slice_index_or code at 0)) (drop at code), wrong.1, wrong.2, rw (end, ← counts_to) wrong.3)
+    inr (i, drop (size_of format (slice_index_or code at 0)) (drop at code), wrong.1, wrong.2, wrong.3, rw (end, ← counts_to) wrong.4)

@@ -1,11 +1,11 @@
-use Rattle.std.specs.Prelude.{◌≡◌, ℕ, ◌+◌, ◌*◌, ◌<◌, ◌≤◌, ◌⊎◌, true, false, List, ◌++◌, Option, Some, None, length, take, drop, map}
+use Rattle.std.specs.Prelude.{◌≡◌, ℕ, ◌+◌, ◌*◌, ◌<◌, ◌≤◌, ◌⊎◌, true, false, List, ◌++◌, All, Option, Some, None, length, take, drop, map}
 use Rattle.std.specs.List.{flat_map, list_all, slice_index_or}
 use Rattle.std.specs.Int.{to_be_bytes}
 use Rattle.base_list.specs.Named.{place_of}
 use Rattle.tab_law.specs.Books.{Laws}
 use Rattle.tab_asm.specs.Formats.{Instruction}
 use Rattle.tab_asm.specs.Images.{Image, offset_octets}
-use Rattle.tab_load.specs.Faults.{format_of, width_of, BeginsWith, MagicWrong, CountsWrong, CountsOf}
+use Rattle.tab_load.specs.Faults.{format_of, width_of, code_limit, BeginsWith, MagicWrong, CountsWrong, CountsOf}
 use Rattle.tab_load.specs.Names.{NamesWrong, NamesOf}
 use Rattle.tab_load.specs.Code.{ScanWrong, IsCode, EndWrong, IsEnded, GuardWrong, EntryWrong, landings, leads, is_entry}
 use Rattle.tab_load.specs.declared.counts.Counts.{Counts}
@@ -72,9 +72,16 @@ pub data AnyNameWrong (laws : Laws) (octets : List ℕ) (counts : Counts) (at : 
       → NamesWrong true laws.acts octets guards.end counts.actions at fault
       → AnyNameWrong laws octets counts at fault
 
+-- an offset is a number that its octets hold, and not the one that stands for none
+abbrev pub IsOffset : Format → Option ℕ → Type 0
+IsOffset format None = Unit {0}
+IsOffset format (Some offset) = offset < (format_of format).no_offset
+
 -- the entries begin there in the image: one for each state and kind, and behind them the code's length
 pub record EntriesOf (format : Format) (octets : List ℕ) (begin count : ℕ) (entries : List (Option ℕ)) (size : ℕ) : Type 0 where
   pub many : length entries ≡ count
+  pub fits : All (IsOffset format) entries
+  pub size_fits : size < code_limit format
   pub front : take (begin + width_of format * count) octets ≡ take begin octets ++ flat_map (offset_octets (format_of format)) entries
   pub stated : drop (begin + width_of format * count) octets ≡ to_be_bytes (format_of format).width size ++ drop (begin + width_of format * count + width_of format) octets
   pub inside : begin + width_of format * count + width_of format ≤ length octets
@@ -182,10 +189,12 @@ pub record Loaded : Type 0 where
 abbrev pub counts_of : Image → Counts
 counts_of image = record { states = length image.states; kinds = length image.kinds; guards = length image.guards; actions = length image.actions; rows = image.rows }
 
--- a program fits a book: its code is sound, and each of its kinds, guards and actions has its place there
+-- a program fits a book: its code is sound and its offsets and rows have room in its instructions, and each of its kinds, guards and actions has its place there
 pub record IsLoaded (laws : Laws) (program : Loaded) : Type 0 where
   pub instructions : List Instruction
   pub sound : IsSound program.format (counts_of program.image) program.image.code program.image.entries instructions
+  pub short : length program.image.code < code_limit program.format
+  pub few_rows : program.image.rows ≤ 65536
   pub many : length program.image.entries ≡ length program.image.states * length program.image.kinds
   pub kinds : map (λ name. place_of name laws.kinds) program.image.kinds ≡ map Some program.kind_places
   pub guards : map (λ name. place_of name laws.guards) program.image.guards ≡ map Some program.guard_places

@@ -8,14 +8,14 @@ use crate::fault::{ImageFault, LoadFault, fault_at};
 use tab_text::{MAX_ACTIONS, MAX_GUARDS, MAX_KINDS, MAX_ROWS, MAX_STATES};
 
 /// The formats of images.
-#[derive(Clone, Copy, Debug, PartialEq, Eq)]
+#[derive(Clone, Copy, PartialEq, Eq)]
 pub enum Format {
     One,
     Two,
 }
 
 /// How many names and rows an image has.
-#[derive(Clone, Copy, Debug, PartialEq, Eq)]
+#[derive(Clone, Copy, PartialEq, Eq)]
 pub(crate) struct Counts {
     pub states: usize,
     pub kinds: usize,
@@ -25,7 +25,7 @@ pub(crate) struct Counts {
 }
 
 /// How many octets an offset has.
-pub(crate) fn width_of(format: Format) -> usize
+pub fn width_of(format: Format) -> usize
     ensures { result ≡ width_of format }
 {
     match format {

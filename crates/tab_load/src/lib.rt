@@ -13,9 +13,10 @@ mod loading;
 mod names;
 mod program;
 mod scan;
-mod spelling;
 
-pub use counts::Format;
+pub use counts::{Format, width_of};
 pub use fault::{ImageFault, LoadError, LoadFault};
+pub use instruction::{Step, step_in};
 pub use loading::load;
+pub use names::{ImageNames, Names};
 pub use program::Program;

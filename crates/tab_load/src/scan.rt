@@ -3,7 +3,7 @@
 ghost use Rattle.std.specs.Prelude.{◌≡◌, ◌++◌, ◌∷◌, ◌<◌, ◌+◌, ◌-◌, ◌≤◌, [], drop, take, length, map, true, false, None, Some, OnOk, IfOk, IfErr, replicate, slice_index_or, ◌⊎◌};
 ghost use Rattle.tab_asm.specs.Formats.{octets_of, code_of};
 ghost use Rattle.tab_load.specs.Faults.{format_of};
-ghost use Rattle.tab_load.specs.Code.{instruction_of, instructions_of, size_of, is_landing, landings, count_behind, NextWrong, IsScanned, ScanWrong, IsRefusal, instruction_fault, octets_fault};
+ghost use Rattle.tab_load.specs.Code.{instruction_of, Fits, instructions_of, size_of, is_landing, landings, count_behind, NextWrong, IsScanned, ScanWrong, IsRefusal, instruction_fault, octets_fault};
 
 use crate::counts::{Counts, Format};
 use crate::fault::{ImageFault, LoadError, fault_at};
@@ -50,8 +50,9 @@ fn read_step(
     at: usize,
 ) -> Result<Step, ImageFault>
     requires { at < length code.now }
-    ensures octets { IfErr result (λ fault. (octets_fault format (drop at code.now) ≡ Some fault) ⊎ ((step : Step) × (octets_fault format (drop at code.now) ≡ None) × (drop at code.now ≡ octets_of (format_of format) (instruction_of step) ++ drop (size_of format (slice_index_or code.now at 0)) (drop at code.now)) × (instruction_fault counts.now count (at + size_of format (slice_index_or code.now at 0)) (instruction_of step) ≡ Some fault))) }
+    ensures octets { IfErr result (λ fault. (octets_fault format (drop at code.now) ≡ Some fault) ⊎ ((step : Step) × (octets_fault format (drop at code.now) ≡ None) × (drop at code.now ≡ octets_of (format_of format) (instruction_of step) ++ drop (size_of format (slice_index_or code.now at 0)) (drop at code.now)) × Fits format (instruction_of step) × (instruction_fault counts.now count (at + size_of format (slice_index_or code.now at 0)) (instruction_of step) ≡ Some fault))) }
     ensures stands { IfOk result (λ step. drop at code.now ≡ octets_of (format_of format) (instruction_of step) ++ drop (size_of format (slice_index_or code.now at 0)) (drop at code.now)) }
+    ensures fits { IfOk result (λ step. Fits format (instruction_of step)) }
     ensures whole { OnOk result (at + size_of format (slice_index_or code.now at 0) ≤ length code.now) }
     ensures fine { IfOk result (λ step. instruction_fault counts.now count (at + size_of format (slice_index_or code.now at 0)) (instruction_of step) ≡ None) }
 {

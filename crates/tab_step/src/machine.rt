@@ -4,14 +4,14 @@ ghost use Rattle.tab_law.specs.declared.limits.TheConstants.{PLACES};
 use tab_law::{Acted, Chain, Deeds, PLACES};
 
 /// Where a machine stands: the number of its state in its table, and its registers.
-#[derive(Clone, Copy, PartialEq, Eq, Debug)]
+#[derive(Clone, Copy, PartialEq, Eq)]
 pub struct MachineState {
     pub state: u8,
     pub regs: [u64; PLACES],
 }
 
 /// Something that happens to a machine: the place of its kind in the book of laws, and facts.
-#[derive(Clone, Copy, PartialEq, Eq, Debug)]
+#[derive(Clone, Copy, PartialEq, Eq)]
 pub struct Event {
     pub kind: u8,
     pub facts: [u64; PLACES],

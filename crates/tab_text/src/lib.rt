@@ -21,4 +21,5 @@ pub use limits::{
 pub use name::NameList;
 pub use parsing::parse;
 pub use row::{Places, Row};
+pub use spelling::is_name;
 pub use table::Table;

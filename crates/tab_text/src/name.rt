@@ -5,7 +5,7 @@ use std::marker::Model;
 
 /// Names in order of their numbers, from 0: what the states, the kinds of events, the guards or the
 /// actions are called, each 1 to 40 bytes of ASCII.
-#[derive(Debug, Drop)]
+#[derive(Drop)]
 pub struct NameList {
     items: Vec<Octets>,
 }

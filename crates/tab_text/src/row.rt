@@ -5,7 +5,7 @@ use base_fixed::FixedList;
 pub type Places = FixedList<u8, MAX_ROW_ACTIONS>;
 
 /// A row of a table. Its names are given by their numbers in the table's lists.
-#[derive(Debug, Drop)]
+#[derive(Drop)]
 pub struct Row {
     pub state: u8,
     pub kind: u8,

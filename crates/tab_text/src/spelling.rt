@@ -35,9 +35,9 @@ fn is_spelled(octets: &[u8]) -> bool
     }
 }
 
-/// Whether these are the bytes of a name.
+/// Whether these are the bytes of a name: a letter, then letters, digits, `-`, `/` and `_`, 40 bytes at most, and not `when` or `and`.
 #[tactic(auto, unfolding(crate::specs::Names::is_name))]
-pub(crate) fn is_name(octets: &[u8]) -> bool
+pub fn is_name(octets: &[u8]) -> bool
     ensures { result ≡ is_name octets.now }
 {
     is_spelled(octets)

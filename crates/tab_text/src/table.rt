@@ -7,7 +7,6 @@ use std::marker::Model;
 
 /// A state machine's table: names, numbered by first appearance, and rows in text order.
 /// State 0 is the state in which a machine starts.
-#[derive(Debug)]
 pub struct Table {
     states: NameList,
     kinds: NameList,

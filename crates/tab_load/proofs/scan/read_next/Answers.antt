@@ -1,6 +1,6 @@
 use Rattle.std.proofs.Common.{refl, ◌∙◌}
 use Rattle.tab_load.specs.Code.{instructions_of}
-use Rattle.tab_load.proofs.ScanLemmas.{is-more, next-wrong}
+use Rattle.tab_load.proofs.ScanLemmas.{is-more, next-wrong, fits-more}
 use Rattle.tab_load.proofs.scan.read_next.Goals as goal
 
 pub returns-in-Err-clause-err : goal.returns-in-Err-clause-err
@@ -23,6 +23,7 @@ returns-clause-ok c =
     record {
       front = rw c.in_ok-push.ensures.items more.front;
       inside = rw c.size_of-size.ensures.value c.in-Ok.ensures.whole;
+      fits = rw c.in_ok-push.ensures.items (fits-more c.args.format c.args.scan.now.steps.items c.in-Ok.step before.fits c.in-Ok.ensures.fits);
       fine = rw c.in_ok-push.ensures.items more.fine;
       count = rw (c.in_ok-push.ensures.items, more.count, ← before.count) c.counted-scan.ensures;
       landings = c.in_ok-put_landings.ensures ∙ rw (c.in_ok-push.ensures.items, more.marks, before.landings) refl;

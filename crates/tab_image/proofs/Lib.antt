@@ -1,0 +1,5 @@
+pub mod OctetLemmas
+pub mod OnceLemmas
+pub mod WalkLemmas
+pub mod EntryLemmas
+pub mod TextLemmas
