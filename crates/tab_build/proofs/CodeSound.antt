@@ -4,13 +4,13 @@ use Rattle.std.proofs.lemmas.Bool.{and_parts}
 use Rattle.std.proofs.lemmas.List.{append-nil, append_assoc, length-append, length-drop, get_or_at, take-append-drop}
 use Rattle.tab_asm.specs.Formats.{format_2, Instruction, octets_of, code_of}
 use Rattle.tab_asm.specs.Images.{Image}
-use Rattle.tab_load.specs.Code.{EachAfter, IsFine, AreFine, landings, leads, is_entry, is_end, octets_fault, NextWrong, ScanWrong, IsCode, EndWrong, IsEnded, GuardWrong, EntryWrong}
+use Rattle.tab_load.specs.Code.{Fits, EachAfter, IsFine, AreFine, landings, leads, is_entry, is_end, octets_fault, NextWrong, ScanWrong, IsCode, EndWrong, IsEnded, GuardWrong, EntryWrong}
 use Rattle.tab_load.specs.Loading.{CodeWrong, AtStep, AtEnd, AtGuard, AtEntry, IsSound, counts_of}
 use Rattle.tab_load.specs.declared.counts.Format.TheVariants.{Two}
 use Rattle.tab_load.specs.declared.fault.ImageFault.{ImageFault}
 use Rattle.tab_load.specs.declared.fault.ImageFault.TheVariants.{NoEnd}
 use Rattle.tab_build.proofs.CodeList.{code-append}
-use Rattle.tab_build.proofs.CodeOnly.{IsSpelt, only-one, front-of, only-code, whole-octets}
+use Rattle.tab_build.proofs.CodeOnly.{only-one, front-of, only-code, whole-octets}
 use Rattle.tab_build.proofs.CodeSpelt.{as_spelt, spelt-code, spelt-count, are-spelt}
 
 -- what holds of each, holds of the one behind these
@@ -28,15 +28,10 @@ last-ends [] last ended = ended
 last-ends (first ∷ []) last ended = ended
 last-ends (first ∷ second ∷ before) last ended = last-ends (second ∷ before) last ended
 
-spelt-at : (a : List Instruction) (x : Instruction) (b : List Instruction) → All IsSpelt (a ++ x ∷ b) → IsSpelt x
+spelt-at : (a : List Instruction) (x : Instruction) (b : List Instruction) → All (Fits Two) (a ++ x ∷ b) → Fits Two x
 spelt-at a x b all =
     let inside : length a < length (a ++ x ∷ b) = omega (arith, length-append a (x ∷ b)) in
-    subst (λ (one : Instruction). IsSpelt one) (get_or_at a x b x (length a) refl) (all (length a) x inside)
-
--- the operands of the instruction that is wrong are numbers that its octets can hold
-abbrev pub IsSpeltNext : (image : Image) (before : List Instruction) (rest : List ℕ) (fault : ImageFault) → NextWrong Two (counts_of image) before rest fault → Type 0
-IsSpeltNext image before rest fault (inl octets) = Unit {0}
-IsSpeltNext image before rest fault (inr wrong) = IsSpelt wrong.0
+    subst (λ (one : Instruction). Fits Two one) (get_or_at a x b x (length a) refl) (all (length a) x inside)
 
 -- what is known behind instructions is known behind those that the same octets spell
 behind-spelt : (image : Image) (before : List Instruction) (one : Instruction) → IsFine Two (counts_of image) (map as_spelt before) one → IsFine Two (counts_of image) before one
@@ -45,31 +40,31 @@ behind-spelt image before one fine =
     rw (spelt-count, long) at fine
 
 -- instructions without a fault have none
-no-scan-fault : (image : Image) (code : List ℕ) (instructions : List Instruction) → IsCode Two (counts_of image) code instructions → All IsSpelt instructions → (begin whole at : ℕ) (fault : ImageFault) (wrong : ScanWrong Two (counts_of image) code begin whole at fault) → IsSpeltNext image wrong.before (drop wrong.part code) fault wrong.wrong → ⊥
-no-scan-fault image code instructions is spelt begin whole at fault wrong spelt_next =
+no-scan-fault : (image : Image) (code : List ℕ) (instructions : List Instruction) → IsCode Two (counts_of image) code instructions → (begin whole at : ℕ) (fault : ImageFault) (wrong : ScanWrong Two (counts_of image) code begin whole at fault) → ⊥
+no-scan-fault image code instructions is begin whole at fault wrong =
     let before = map as_spelt wrong.before in
     let apart : code_of format_2 instructions ≡ code_of format_2 before ++ drop wrong.part code = sym is.whole ∙ sym (take-append-drop wrong.part code) ∙ ap (λ (front : List ℕ). front ++ drop wrong.part code) (wrong.front ∙ sym (spelt-code wrong.before)) in
-    let found = front-of instructions before (drop wrong.part code) spelt (are-spelt wrong.before) apart in
-    by_rest found.0 found.1 found.2 wrong.wrong spelt_next
+    let found = front-of instructions before (drop wrong.part code) is.fits (are-spelt wrong.before) apart in
+    by_rest found.0 found.1 found.2 wrong.wrong
   where
-    by_next : (one : Instruction) (more : List ℕ) → IsSpelt one → drop wrong.part code ≡ octets_of format_2 one ++ more → IsFine Two (counts_of image) wrong.before one → (next : NextWrong Two (counts_of image) wrong.before (drop wrong.part code) fault) → IsSpeltNext image wrong.before (drop wrong.part code) fault next → ⊥
-    by_next one more spelt_one stands fine (inl octets) spelt_too =
+    by_next : (one : Instruction) (more : List ℕ) → Fits Two one → drop wrong.part code ≡ octets_of format_2 one ++ more → IsFine Two (counts_of image) wrong.before one → NextWrong Two (counts_of image) wrong.before (drop wrong.part code) fault → ⊥
+    by_next one more spelt_one stands fine (inl octets) =
         let none : octets_fault Two (drop wrong.part code) ≡ None = rw stands (whole-octets one more) in
         cc
-    by_next one more spelt_one stands fine (inr other) spelt_too =
-        let same : one ≡ other.0 = (only-one one other.0 more other.1 spelt_one spelt_too (sym stands ∙ other.3)).0 in
+    by_next one more spelt_one stands fine (inr other) =
+        let same : one ≡ other.0 = (only-one one other.0 more other.1 spelt_one other.4 (sym stands ∙ other.3)).0 in
         let none = subst (λ (i : Instruction). IsFine Two (counts_of image) wrong.before i) same fine in
         cc
 
-    by_rest : (after : List Instruction) → instructions ≡ map as_spelt wrong.before ++ after → code_of format_2 after ≡ drop wrong.part code → (next : NextWrong Two (counts_of image) wrong.before (drop wrong.part code) fault) → IsSpeltNext image wrong.before (drop wrong.part code) fault next → ⊥
-    by_rest [] joined octets next spelt_too =
+    by_rest : (after : List Instruction) → instructions ≡ map as_spelt wrong.before ++ after → code_of format_2 after ≡ drop wrong.part code → NextWrong Two (counts_of image) wrong.before (drop wrong.part code) fault → ⊥
+    by_rest [] joined octets next =
         let none : 0 ≡ length (drop wrong.part code) = ap length octets in
         omega (arith, none, length-drop wrong.part code, wrong.inside)
-    by_rest (one ∷ after) joined octets next spelt_too =
+    by_rest (one ∷ after) joined octets next =
         let before = map as_spelt wrong.before in
         let fine = each-at (IsFine Two (counts_of image)) [] before one after (subst (λ (all : List Instruction). AreFine Two (counts_of image) all) joined is.fine) in
-        let each = subst (λ (all : List Instruction). All IsSpelt all) joined spelt in
-        by_next one (code_of format_2 after) (spelt-at before one after each) (sym octets) (behind-spelt image wrong.before one fine) next spelt_too
+        let each = subst (λ (all : List Instruction). All (Fits Two) all) joined is.fits in
+        by_next one (code_of format_2 after) (spelt-at before one after each) (sym octets) (behind-spelt image wrong.before one fine) next
 
 -- whether there is an entry
 some-entry : (entries : List (Option ℕ)) → list_any is_some entries ≡ true → (number : ℕ) × (number < length entries) × (offset : ℕ) × (slice_index_or entries number None ≡ Some offset)
@@ -105,27 +100,20 @@ no-entry-fault image code entries instructions sound begin at fault wrong =
     cc
 
 -- code has one list of instructions alone
-one-code : (image : Image) (code : List ℕ) (instructions other : List Instruction) → IsCode Two (counts_of image) code instructions → IsCode Two (counts_of image) code other → All IsSpelt instructions → All IsSpelt other → other ≡ instructions
-one-code image code instructions other is also spelt spelt_too =
-    sym (only-code instructions other spelt spelt_too (sym is.whole ∙ also.whole))
-
--- the operands of the instructions that a fault speaks of are numbers that their octets can hold
-abbrev pub IsSpeltFault : (image : Image) (code : List ℕ) (entries : List (Option ℕ)) (begin table whole at : ℕ) (fault : ImageFault) → CodeWrong Two (counts_of image) code entries begin table whole at fault → Type 0
-IsSpeltFault image code entries begin table whole at fault (AtStep wrong) = IsSpeltNext image wrong.before (drop wrong.part code) fault wrong.wrong
-IsSpeltFault image code entries begin table whole at fault (AtEnd instructions is wrong) = All IsSpelt instructions
-IsSpeltFault image code entries begin table whole at fault (AtGuard instructions is ended wrong) = All IsSpelt instructions
-IsSpeltFault image code entries begin table whole at fault (AtEntry instructions is ended lead wrong) = All IsSpelt instructions
+one-code : (image : Image) (code : List ℕ) (instructions other : List Instruction) → IsCode Two (counts_of image) code instructions → IsCode Two (counts_of image) code other → other ≡ instructions
+one-code image code instructions other is also =
+    sym (only-code instructions other is.fits also.fits (sym is.whole ∙ also.whole))
 
 -- sound code has no fault
-pub sound-no-fault : (image : Image) (code : List ℕ) (entries : List (Option ℕ)) (instructions : List Instruction) → IsSound Two (counts_of image) code entries instructions → All IsSpelt instructions → (begin table whole at : ℕ) (fault : ImageFault) (wrong : CodeWrong Two (counts_of image) code entries begin table whole at fault) → IsSpeltFault image code entries begin table whole at fault wrong → ⊥
-sound-no-fault image code entries instructions sound spelt begin table whole at fault (AtStep wrong) spelt_too =
-    no-scan-fault image code instructions sound.is_code spelt begin whole at fault wrong spelt_too
-sound-no-fault image code entries instructions sound spelt begin table whole at fault (AtEnd other is wrong) spelt_too =
-    let same = one-code image code instructions other sound.is_code is spelt spelt_too in
+pub sound-no-fault : (image : Image) (code : List ℕ) (entries : List (Option ℕ)) (instructions : List Instruction) → IsSound Two (counts_of image) code entries instructions → (begin table whole at : ℕ) (fault : ImageFault) → CodeWrong Two (counts_of image) code entries begin table whole at fault → ⊥
+sound-no-fault image code entries instructions sound begin table whole at fault (AtStep wrong) =
+    no-scan-fault image code instructions sound.is_code begin whole at fault wrong
+sound-no-fault image code entries instructions sound begin table whole at fault (AtEnd other is wrong) =
+    let same = one-code image code instructions other sound.is_code is in
     no-end-fault image code entries instructions sound begin at fault (subst (λ (all : List Instruction). EndWrong Two all entries begin at fault) same wrong)
-sound-no-fault image code entries instructions sound spelt begin table whole at fault (AtGuard other is ended wrong) spelt_too =
-    let same = one-code image code instructions other sound.is_code is spelt spelt_too in
+sound-no-fault image code entries instructions sound begin table whole at fault (AtGuard other is ended wrong) =
+    let same = one-code image code instructions other sound.is_code is in
     no-guard-fault instructions sound.guards begin at fault (subst (λ (all : List Instruction). GuardWrong Two all begin at fault) same wrong)
-sound-no-fault image code entries instructions sound spelt begin table whole at fault (AtEntry other is ended lead wrong) spelt_too =
-    let same = one-code image code instructions other sound.is_code is spelt spelt_too in
+sound-no-fault image code entries instructions sound begin table whole at fault (AtEntry other is ended lead wrong) =
+    let same = one-code image code instructions other sound.is_code is in
     no-entry-fault image code entries instructions sound table at fault (subst (λ (all : List Instruction). EntryWrong Two all entries table at fault) same wrong)

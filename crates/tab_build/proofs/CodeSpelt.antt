@@ -8,10 +8,9 @@ use Rattle.std.proofs.lemmas.List.Elements.{All-cons, All-nil}
 use Rattle.tab_asm.specs.Formats.{format_2, Instruction, BeginRow, TestGuard, RunAction, GoTo, NoRow, octets_of, code_of}
 use Rattle.tab_asm.specs.Images.{Image}
 use Rattle.tab_load.specs.Loading.{counts_of}
-use Rattle.tab_load.specs.Code.{counted, count_behind, is_in_range, is_in_row, is_forward, instruction_fault, EachAfter, IsFine, leads}
+use Rattle.tab_load.specs.Code.{Fits, counted, count_behind, is_in_range, is_in_row, is_forward, instruction_fault, EachAfter, IsFine, leads}
 use Rattle.tab_load.specs.declared.counts.Format.TheVariants.{Two}
 use Rattle.tab_load.specs.declared.fault.ImageFault.TheVariants.{Count, BackJump}
-use Rattle.tab_build.proofs.CodeOnly.{IsSpelt}
 
 -- an instruction with the numbers that its octets spell
 abbrev pub as_spelt : Instruction → Instruction
@@ -55,16 +54,16 @@ spelt-count count (RunAction action ∷ rest) = spelt-count (counted count (RunA
 spelt-count count (GoTo state ∷ rest) = spelt-count count rest
 spelt-count count (NoRow ∷ rest) = spelt-count count rest
 
-is-spelt : (one : Instruction) → IsSpelt (as_spelt one)
+is-spelt : (one : Instruction) → Fits Two (as_spelt one)
 is-spelt (BeginRow row) = omega arith
 is-spelt (TestGuard guard otherwise) = omega arith
 is-spelt (RunAction action) = tt
 is-spelt (GoTo state) = tt
 is-spelt NoRow = tt
 
-pub are-spelt : (instructions : List Instruction) → All IsSpelt (map as_spelt instructions)
-are-spelt [] = All-nil IsSpelt
-are-spelt (one ∷ rest) = All-cons IsSpelt (as_spelt one) (map as_spelt rest) (is-spelt one) (are-spelt rest)
+pub are-spelt : (instructions : List Instruction) → All (Fits Two) (map as_spelt instructions)
+are-spelt [] = All-nil (Fits Two)
+are-spelt (one ∷ rest) = All-cons (Fits Two) (as_spelt one) (map as_spelt rest) (is-spelt one) (are-spelt rest)
 
 -- where a jump may lead, there is a mark
 mark-inside : (marks : List Bool) (offset : ℕ) → get_or marks offset false ≡ true → offset < length marks
@@ -82,7 +81,7 @@ in-range image count behind one none =
     by_tests true row range none = range
     by_tests false row range none = cc
 
-spelt-one : (image : Image) (marks : List Bool) (one : Instruction) → image.rows ≤ 65536 → length marks ≤ 4294967296 → is_in_range (counts_of image) one ≡ true → leads marks one ≡ true → IsSpelt one
+spelt-one : (image : Image) (marks : List Bool) (one : Instruction) → image.rows ≤ 65536 → length marks ≤ 4294967296 → is_in_range (counts_of image) one ≡ true → leads marks one ≡ true → Fits Two one
 spelt-one image marks (BeginRow row) few_rows few range lead = grind (arith, nat_tests)
 spelt-one image marks (TestGuard guard otherwise) few_rows few range lead = let inside = mark-inside marks otherwise lead in omega (arith, inside, few)
 spelt-one image marks (RunAction action) few_rows few range lead = tt
@@ -90,10 +89,10 @@ spelt-one image marks (GoTo state) few_rows few range lead = tt
 spelt-one image marks NoRow few_rows few range lead = tt
 
 -- the operands of instructions in range that lead where a jump may lead are numbers that their octets can hold
-pub all-spelt : (image : Image) (marks : List Bool) (before instructions : List Instruction) → image.rows ≤ 65536 → length marks ≤ 4294967296 → EachAfter (IsFine Two (counts_of image)) before instructions → list_all (leads marks) instructions ≡ true → All IsSpelt instructions
-all-spelt image marks before [] few_rows few fine lead = All-nil IsSpelt
+pub all-spelt : (image : Image) (marks : List Bool) (before instructions : List Instruction) → image.rows ≤ 65536 → length marks ≤ 4294967296 → EachAfter (IsFine Two (counts_of image)) before instructions → list_all (leads marks) instructions ≡ true → All (Fits Two) instructions
+all-spelt image marks before [] few_rows few fine lead = All-nil (Fits Two)
 all-spelt image marks before (one ∷ rest) few_rows few fine lead =
     let both = and_parts (leads marks one) (list_all (leads marks) rest) lead in
-    All-cons IsSpelt one rest
+    All-cons (Fits Two) one rest
     (spelt-one image marks one few_rows few (in-range image _ _ one fine.0) both.0)
     (all-spelt image marks (before ++ one ∷ []) rest few_rows few fine.1 both.1)

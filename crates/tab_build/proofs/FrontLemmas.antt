@@ -6,8 +6,7 @@ use Rattle.std.proofs.lemmas.List.Elements.{All-head, All-tail}
 use Rattle.std.proofs.lemmas.Nat.{from_be_bytes-to_be_bytes_4}
 use Rattle.tab_asm.specs.Formats.{format_2}
 use Rattle.tab_asm.specs.Images.{name_octets, offset_octets}
-use Rattle.tab_load.specs.Faults.{format_of}
-use Rattle.tab_load.specs.declared.counts.Format.{Format}
+use Rattle.tab_load.specs.Loading.{IsOffset}
 use Rattle.tab_load.specs.declared.counts.Format.TheVariants.{Two}
 
 -- what stands behind a part, where the octets to its end are those before it and its own
@@ -38,14 +37,30 @@ names-same (one ∷ names) (name ∷ actual) other rest many is =
     let later = names-same names actual other rest (omega (arith, many)) first.1 in
     (rw (first.0, later.0) refl, later.1)
 
+cons-same : (one name : List ℕ) (names all : List (List ℕ)) → one ≡ name → all ≡ names → name ∷ all ≡ one ∷ names
+cons-same one name names all same rest = rw (same, rest) refl
+
+-- fewer names than these are a front of these, and behind them stands the next one
+pub record NextName (before all : List (List ℕ)) (other rest : List ℕ) : Type 0 where
+  pub name : List ℕ
+  pub after : List (List ℕ)
+  pub joined : all ≡ before ++ name ∷ after
+  pub next : other ≡ name_octets name ++ (flat_map name_octets after ++ rest)
+
+pub next-name : (before all : List (List ℕ)) (other rest : List ℕ) → length before < length all → flat_map name_octets before ++ other ≡ flat_map name_octets all ++ rest → NextName before all other rest
+next-name [] [] other rest few is = absurd (omega (arith, few))
+next-name [] (name ∷ all) other rest few is = record { name = name; after = all; joined = refl; next = is ∙ append_assoc (name_octets name) (flat_map name_octets all) rest }
+next-name (one ∷ before) [] other rest few is = absurd (omega (arith, few))
+next-name (one ∷ before) (name ∷ all) other rest few is =
+    let own : one ++ (flat_map name_octets before ++ other) ≡ name ++ (flat_map name_octets all ++ rest) = sym (append_assoc one (flat_map name_octets before) other) ∙ ap (drop 1) is ∙ append_assoc name (flat_map name_octets all) rest in
+    let long : length one ≡ length name = ap (λ (l : List ℕ). slice_index_or l 0 0) is in
+    let first = parts-same one (flat_map name_octets before ++ other) name (flat_map name_octets all ++ rest) long own in
+    let later = next-name before all other rest (omega (arith, few)) first.1 in
+    record { name = later.name; after = later.after; joined = cons-same one name (before ++ later.name ∷ later.after) all first.0 later.joined; next = later.next }
+
 -- numbers below 2^32 with the same octets are one number
 pub number-same : (a b : ℕ) → a < 4294967296 → b < 4294967296 → to_be_bytes w32 a ≡ to_be_bytes w32 b → a ≡ b
 number-same a b small few is = sym (from_be_bytes-to_be_bytes_4 a small) ∙ ap (from_be_bytes w32) is ∙ from_be_bytes-to_be_bytes_4 b few
-
--- an offset is a number that its octets hold, and not the one that stands for none
-abbrev pub IsOffset : Format → Option ℕ → Type 0
-IsOffset format None = Unit {0}
-IsOffset format (Some offset) = offset < (format_of format).no_offset
 
 -- an entry is known by its octets
 offset-same : (a b : Option ℕ) → IsOffset Two a → IsOffset Two b → offset_octets format_2 a ≡ offset_octets format_2 b → a ≡ b

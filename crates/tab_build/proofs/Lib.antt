@@ -1,4 +1,5 @@
 pub mod FrontLemmas
+pub mod TableNames
 pub mod OctetLemmas
 pub mod PartLemmas
 pub mod HeadLemmas

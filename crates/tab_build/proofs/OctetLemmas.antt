@@ -12,9 +12,9 @@ use Rattle.tab_text.specs.declared.row.Row.{Row}
 use Rattle.tab_asm.specs.Formats.{format_2, NoRow, octets_of, code_of}
 use Rattle.tab_asm.specs.Assembled.{is_in, rows_in, row_size, row_instructions, rows_instructions, entry_instructions, offset_of, code_to, entry_offset, entry_count}
 use Rattle.tab_asm.proofs.CodeLemmas.{row-length}
+use Rattle.tab_load.specs.Loading.{IsOffset}
 use Rattle.tab_load.specs.declared.counts.Format.TheVariants.{Two}
 use Rattle.tab_build.specs.Tables.{HasImage}
-use Rattle.tab_build.proofs.FrontLemmas.{IsOffset}
 
 -- a row whose instructions have at most 69 octets
 abbrev IsSmall : ℕ × Row → Type 0

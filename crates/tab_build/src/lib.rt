@@ -1,6 +1,6 @@
 //! The program of a bound table.
 //!
-//! [`build`] assembles a table and loads its image with the book that it is bound to.
+//! [`build`] assembles a table and loads its image with the book that it is bound to. Such an image is never refused.
 #![tactic(auto)]
 
 mod building;
