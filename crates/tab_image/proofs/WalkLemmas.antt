@@ -10,7 +10,7 @@ use Rattle.base_list.specs.Named.{place_of}
 use Rattle.tab_step.specs.Moves.{name_at}
 use Rattle.tab_step.proofs.BindLemmas.{as-many, map-more}
 use Rattle.tab_load.specs.Faults.{format_of, width_of, code_limit}
-use Rattle.tab_load.specs.Code.{Fits, octets_fault, is_end, is_landing, counted, count_behind, landings, lands, IsEnded}
+use Rattle.tab_load.specs.Code.{Fits, is_end, is_landing, counted, count_behind, landings, lands, IsEnded}
 use Rattle.tab_load.specs.Loading.{Loaded, IsLoaded, IsSound, counts_of}
 use Rattle.tab_load.specs.declared.counts.Format.{Format}
 use Rattle.tab_load.specs.declared.counts.Format.TheVariants.{One, Two}
@@ -244,25 +244,3 @@ begins laws program scene walk loaded number offset inside is begin at no_acts =
       placed = rw no_acts refl;
       leads = λ path outcome is_path few end. record { path = path; is_path = rw (begin, ← at) is_path; few = omega (arith, few); end = end };
     }
-
-not-short : (n m : ℕ) → m ≤ n → nat_lt n m ≡ false
-not-short n m enough = grind (arith, nat_tests)
-
--- octets that begin with an instruction have no fault
-no-fault : (format : Format) (one : Instruction) (octets more : List ℕ) → octets ≡ octets_of (format_of format) one ++ more → octets_fault format octets ≡ None
-no-fault format one octets more is = rw is (by_one format one)
-  where
-    by_one : (f : Format) (i : Instruction) → octets_fault f (octets_of (format_of f) i ++ more) ≡ None
-    by_one f (BeginRow row) = rw (not-short (length (octets_of (format_of f) (BeginRow row) ++ more)) 3 (omega arith)) refl
-    by_one One (TestGuard guard otherwise) = rw (not-short (length (octets_of (format_of One) (TestGuard guard otherwise) ++ more)) 4 (omega arith)) refl
-    by_one Two (TestGuard guard otherwise) = rw (not-short (length (octets_of (format_of Two) (TestGuard guard otherwise) ++ more)) 6 (omega arith)) refl
-    by_one f (RunAction action) = rw (not-short (length (octets_of (format_of f) (RunAction action) ++ more)) 2 (omega arith)) refl
-    by_one f (GoTo state) = rw (not-short (length (octets_of (format_of f) (GoTo state) ++ more)) 2 (omega arith)) refl
-    by_one f NoRow = rw (not-short (length (octets_of (format_of f) NoRow ++ more)) 1 (omega arith)) refl
-
--- the octets at which a walk stands have no fault
-pub stands : (laws : Laws) (program : Loaded) (scene : Scene) (walk : Walk) → IsAt laws program scene walk → (octets_fault program.format (drop walk.at program.image.code) ≡ None) × (walk.at < length program.image.code)
-stands laws program scene walk at =
-    let h = here program.format (counts_of program.image) program.image.code program.image.entries at.instructions at.before at.one at.rest at.sound at.split in
-    let octets = ap (λ (n : ℕ). drop n program.image.code) (sym at.place) ∙ h.at in
-    (no-fault program.format at.one (drop walk.at program.image.code) (code_of (format_of program.format) at.rest) octets, omega (arith, h.long, at.place, some-octets program.format at.one))
