@@ -2,4 +2,5 @@ pub mod OctetLemmas
 pub mod OnceLemmas
 pub mod WalkLemmas
 pub mod EntryLemmas
+pub mod RunLemmas
 pub mod TextLemmas

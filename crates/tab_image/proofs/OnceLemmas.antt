@@ -1,4 +1,4 @@
-use Rattle.std.proofs.Common.{◌≡◌, ℕ, ◌<◌, ◌++◌, Bool, List, [], ◌∷◌, Option, Some, None, length, drop, refl, sym, subst, ap, ◌∙◌}
+use Rattle.std.proofs.Common.{◌≡◌, ℕ, ◌<◌, Bool, List, [], ◌∷◌, Option, Some, None, length, refl, sym, subst, ap, ◌∙◌}
 use Rattle.tab_asm.specs.Formats.{Instruction}
 use Rattle.tab_asm.specs.Paths.{StandsAt, IsPath, GoesOn, next_of, Outcome, end_of, LeadsTo, Reaches}
 use Rattle.tab_load.specs.Faults.{format_of, code_limit}

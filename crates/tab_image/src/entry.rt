@@ -21,13 +21,13 @@ pub(crate) fn entry_of(program: &Program, book: &LawBook, state: u8, kind: u8) -
     ensures { result ≡ entry_of book.now program.now.image state kind }
 {
     book.known();
-    let kinds = program.names().kinds.places.as_slice();
-    let number = number_of(kinds, kind)?;
-    let entries = program.entries();
-    let entry = state as usize * kinds.len() + number;
-    if entry < entries.len() {
-        entries[entry]
-    } else {
-        None
+    let names = program.names();
+    if names.states.names.len() <= state as usize {
+        return None;
     }
+    let kinds = names.kinds.places.as_slice();
+    let Some(number) = number_of(kinds, kind) else {
+        return None;
+    };
+    program.entries()[state as usize * kinds.len() + number]
 }

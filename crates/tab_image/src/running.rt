@@ -16,6 +16,35 @@ use tab_law::Scene;
 use tab_load::Program;
 use tab_step::{Event, MachineState, Stepped, act_all, stay};
 
+/// Writes what an event leaves by the entry of its state and kind.
+fn run_into(
+    program: &Program,
+    registry: &Registry,
+    machine: &MachineState,
+    event: &Event,
+    room: &mut Stepped,
+)
+    requires loaded { IsLoaded registry.now.book program.now }
+    ensures { IsRunBy (NamedPermits registry.now.book) program.now registry.now.book machine.now event.now room.new }
+{
+    let Some(begin) = entry_of(program, registry.laws(), machine.state, event.kind) else {
+        stay(machine, event, room);
+        return;
+    };
+    let regs = machine.regs;
+    let facts = event.facts;
+    let mut scene = Scene { regs, facts };
+    let mut walk = Walk::new(begin);
+    match finish(&mut walk, program, registry, &scene) {
+        Ending::Row(row, next) => {
+            act_all(registry, walk.acts.as_slice(), &mut scene, room);
+            room.after.state = next;
+            room.row = Some(row);
+        }
+        Ending::NoRow => stay(machine, event, room),
+    }
+}
+
 /// One step of a machine by a loaded image, written into room that the caller keeps; what stood there before is gone.
 ///
 /// The entry of the machine's state and of the event's kind leads to an end, by what the guards' callbacks say on the scene
@@ -36,22 +65,7 @@ pub fn run_event_into(
     ensures run { IsRunBy (NamedPermits registry.now.book) program.now registry.now.book machine.now event.now room.new }
     ensures text { (table : Contents) → IsTable table → (program.now.format ≡ Two) → (program.now.image ≡ image_of table) → Means program.now.image table → IsStep (NamedPermits registry.now.book) table registry.now.book machine.now event.now room.new }
 {
-    let Some(begin) = entry_of(program, registry.laws(), machine.state, event.kind) else {
-        stay(machine, event, room);
-        return;
-    };
-    let regs = machine.regs;
-    let facts = event.facts;
-    let mut scene = Scene { regs, facts };
-    let mut walk = Walk::new(begin);
-    match finish(&mut walk, program, registry, &scene) {
-        Ending::Row(row, next) => {
-            act_all(registry, walk.acts.as_slice(), &mut scene, room);
-            room.after.state = next;
-            room.row = Some(row);
-        }
-        Ending::NoRow => stay(machine, event, room),
-    }
+    run_into(program, registry, machine, event, room);
 }
 
 /// One step of a machine by a loaded image. `run_event_into` does the same without 24 kilobytes of new room.

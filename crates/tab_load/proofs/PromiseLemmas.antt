@@ -6,13 +6,13 @@ use Rattle.std.proofs.lemmas.List.Concat.{flat_map-append}
 use Rattle.std.proofs.Math.Seq.{drop-append_seam}
 use Rattle.tab_asm.specs.Formats.{Instruction, BeginRow, TestGuard, RunAction, GoTo, NoRow, octets_of, code_of}
 use Rattle.tab_asm.specs.Paths.{IsPath, Outcome, Taken, Unlisted, end_of}
-use Rattle.tab_load.specs.Faults.{format_of, CountsOf}
-use Rattle.tab_load.specs.Code.{is_in_range, is_in_row, is_forward, instruction_fault, EachAfter, IsFine, is_landing, landings, lands, leads, IsEnded}
+use Rattle.tab_load.specs.Faults.{format_of}
+use Rattle.tab_load.specs.Code.{is_in_range, is_in_row, is_forward, instruction_fault, count_behind, EachAfter, IsFine, is_landing, landings, lands, leads, IsEnded}
 use Rattle.tab_law.specs.Books.{Laws}
-use Rattle.tab_load.specs.Loading.{IsSound, Loaded, IsLoaded, IsReadFrom, counts_of}
+use Rattle.tab_load.specs.Loading.{IsSound, Loaded, IsLoaded, counts_of}
 use Rattle.tab_load.specs.Promise.{Ends, EachEnds}
 use Rattle.tab_load.specs.declared.fault.LoadError.{LoadError}
-use Rattle.tab_load.proofs.BodyLemmas.{count-in}
+use Rattle.tab_load.proofs.ScanLemmas.{in-row}
 use Rattle.tab_load.specs.declared.counts.Counts.{Counts}
 use Rattle.tab_load.specs.declared.counts.Format.{Format}
 use Rattle.tab_load.specs.declared.counts.Format.TheVariants.{One, Two}
@@ -117,6 +117,7 @@ pub record Here (format : Format) (counts : Counts) (code : List ℕ) (instructi
   pub long : length code ≡ length (code_of (format_of format) before) + (length (octets_of (format_of format) one) + length (code_of (format_of format) rest))
   pub next : length (code_of (format_of format) (before ++ one ∷ [])) ≡ length (code_of (format_of format) before) + length (octets_of (format_of format) one)
   pub fine : WithoutFault counts (length (code_of (format_of format) (before ++ one ∷ []))) one
+  pub in_row : is_in_row (count_behind None before) one ≡ true
   pub ended : IsEnded (one ∷ rest)
   pub leads_on : leads (landings format instructions) one ≡ true
 
@@ -132,6 +133,7 @@ here format counts code entries instructions before one rest sound is =
       long = ap length sound.is_code.whole ∙ code-length format instructions before one rest is;
       next = code-length format (before ++ one ∷ []) before one [] refl ∙ omega arith;
       fine = without-fault counts _ _ one (each-at (IsFine format counts) [] before one rest fine);
+      in_row = in-row counts _ _ one (each-at (IsFine format counts) [] before one rest fine);
       ended = ended-suffix before one rest ended;
       leads_on = all-at (leads (landings format instructions)) before one rest guards;
     }

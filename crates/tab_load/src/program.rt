@@ -52,6 +52,7 @@ impl Program {
 
     /// The names of states, kinds, guards and actions, and the places of the last three in the book.
     pub fn names(&self) -> &ImageNames
+        ensures states { result.now.states.names.items ≡ self.now.image.states }
         ensures kinds { result.now.kinds.places.items ≡ self.now.kind_places }
         ensures guards { result.now.guards.places.items ≡ self.now.guard_places }
         ensures actions { result.now.actions.places.items ≡ self.now.act_places }

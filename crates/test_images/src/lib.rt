@@ -3,3 +3,4 @@
 
 mod assembled;
 mod loaded;
+mod run;

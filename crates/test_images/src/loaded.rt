@@ -9,7 +9,7 @@ use tab_load::{LoadError, load};
 use tab_text::parse;
 
 /// The image of the client in format 1, by hand: 98 octets, the last 23 of them code.
-const IMAGE_1: [u8; 98] = [
+pub(crate) const IMAGE_1: [u8; 98] = [
     68, 84, 73, 49, 0, 2, 0, 1, 0, 2, 0, 2, 0, 2, 4, 87, 97, 105, 116, 4, 68, 111, 110, 101, 5, 67,
     67, 65, 45, 73, 4, 109, 105, 110, 101, 7, 115, 117, 99, 99, 101, 115, 115, 13, 71, 114, 97,
     110, 116, 45, 83, 101, 114, 118, 105, 99, 101, 11, 69, 110, 100, 45, 83, 101, 114, 118, 105,
