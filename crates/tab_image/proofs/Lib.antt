@@ -4,3 +4,17 @@ pub mod WalkLemmas
 pub mod EntryLemmas
 pub mod RunLemmas
 pub mod TextLemmas
+pub mod FrontLemmas
+pub mod TableNames
+pub mod ImageOctets
+pub mod PartLemmas
+pub mod HeadLemmas
+pub mod KnownLemmas
+pub mod CodeList
+pub mod CodeFine
+pub mod CodeLands
+pub mod CodeOnly
+pub mod CodeSpelt
+pub mod CodeSound
+pub mod CodeFaults
+pub mod BuildLemmas

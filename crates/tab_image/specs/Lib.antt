@@ -1,2 +1,3 @@
 pub mod RunBy
 pub mod Walks
+pub mod Tables

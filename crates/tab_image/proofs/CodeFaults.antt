@@ -8,12 +8,12 @@ use Rattle.tab_load.specs.Code.{Fits, landings}
 use Rattle.tab_load.specs.Loading.{CodeWrong, IsSound, counts_of}
 use Rattle.tab_load.specs.declared.counts.Format.TheVariants.{Two}
 use Rattle.tab_load.specs.declared.fault.ImageFault.{ImageFault}
-use Rattle.tab_build.specs.Tables.{HasImage}
-use Rattle.tab_build.proofs.CodeList.{instructions_to, code-is}
-use Rattle.tab_build.proofs.CodeFine.{table-fine}
-use Rattle.tab_build.proofs.CodeLands.{table-leads, table-entries, table-ended, marks-length}
-use Rattle.tab_build.proofs.CodeSound.{sound-no-fault}
-use Rattle.tab_build.proofs.CodeSpelt.{all-spelt}
+use Rattle.tab_image.specs.Tables.{HasImage}
+use Rattle.tab_image.proofs.CodeList.{instructions_to, code-is}
+use Rattle.tab_image.proofs.CodeFine.{table-fine}
+use Rattle.tab_image.proofs.CodeLands.{table-leads, table-entries, table-ended, marks-length}
+use Rattle.tab_image.proofs.CodeSound.{sound-no-fault}
+use Rattle.tab_image.proofs.CodeSpelt.{all-spelt}
 
 -- the instructions of a table
 abbrev pub instructions_in : Contents → List Instruction

@@ -9,9 +9,9 @@ use Rattle.tab_load.specs.Loading.{CodeWrong, AtStep, AtEnd, AtGuard, AtEntry, I
 use Rattle.tab_load.specs.declared.counts.Format.TheVariants.{Two}
 use Rattle.tab_load.specs.declared.fault.ImageFault.{ImageFault}
 use Rattle.tab_load.specs.declared.fault.ImageFault.TheVariants.{NoEnd}
-use Rattle.tab_build.proofs.CodeList.{code-append}
-use Rattle.tab_build.proofs.CodeOnly.{only-one, front-of, only-code, whole-octets}
-use Rattle.tab_build.proofs.CodeSpelt.{as_spelt, spelt-code, spelt-count, are-spelt}
+use Rattle.tab_image.proofs.CodeList.{code-append}
+use Rattle.tab_image.proofs.CodeOnly.{only-one, front-of, only-code, whole-octets}
+use Rattle.tab_image.proofs.CodeSpelt.{as_spelt, spelt-code, spelt-count, are-spelt}
 
 -- what holds of each, holds of the one behind these
 each-at : {X : Type 0} (P : List X → X → Type 0) (before a : List X) (x : X) (b : List X) → EachAfter P before (a ++ x ∷ b) → P (before ++ a) x

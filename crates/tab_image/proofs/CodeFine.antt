@@ -12,7 +12,7 @@ use Rattle.tab_load.specs.Code.{is_in_range, is_in_row, is_forward, counted, cou
 use Rattle.tab_load.specs.Loading.{counts_of}
 use Rattle.tab_load.specs.declared.counts.Format.TheVariants.{Two}
 use Rattle.tab_load.proofs.ScanLemmas.{count-more}
-use Rattle.tab_build.proofs.CodeList.{instructions_to, code-append, row-behind, IsRowIn}
+use Rattle.tab_image.proofs.CodeList.{instructions_to, code-append, row-behind, IsRowIn}
 
 -- each of two lists, the second behind the first
 each-append : {X : Type 0} (P : List X → X → Type 0) (before xs ys : List X) → EachAfter P before xs → EachAfter P (before ++ xs) ys → EachAfter P before (xs ++ ys)

@@ -14,7 +14,7 @@ use Rattle.tab_asm.specs.Assembled.{is_in, rows_in, row_size, row_instructions, 
 use Rattle.tab_asm.proofs.CodeLemmas.{row-length}
 use Rattle.tab_load.specs.Loading.{IsOffset}
 use Rattle.tab_load.specs.declared.counts.Format.TheVariants.{Two}
-use Rattle.tab_build.specs.Tables.{HasImage}
+use Rattle.tab_image.specs.Tables.{HasImage}
 
 -- a row whose instructions have at most 69 octets
 abbrev IsSmall : ℕ × Row → Type 0

@@ -10,7 +10,7 @@ use Rattle.tab_asm.specs.Formats.{format_2, Instruction, BeginRow, TestGuard, Ru
 use Rattle.tab_asm.specs.Assembled.{rows_in, entry_offset, offset_of, row_size, row_instructions, rows_instructions, entry_instructions}
 use Rattle.tab_load.specs.Code.{is_landing, landings, lands, leads, is_entry, is_end, IsEnded}
 use Rattle.tab_load.specs.declared.counts.Format.TheVariants.{Two}
-use Rattle.tab_build.proofs.CodeList.{instructions_to, code-is, row-behind}
+use Rattle.tab_image.proofs.CodeList.{instructions_to, code-is, row-behind}
 
 -- the marks of an instruction's octets
 abbrev marks_of : Instruction → List Bool

@@ -12,8 +12,8 @@ use Rattle.tab_load.specs.Names.{name_fault, next_fault, AreNames, NamesOf, Name
 use Rattle.tab_load.specs.Loading.{counts_of}
 use Rattle.tab_load.specs.declared.counts.Format.TheVariants.{One, Two}
 use Rattle.tab_load.specs.declared.fault.ImageFault.{ImageFault}
-use Rattle.tab_build.proofs.FrontLemmas.{behind-part, names-same, next-name}
-use Rattle.tab_build.proofs.PartLemmas.{Parts}
+use Rattle.tab_image.proofs.FrontLemmas.{behind-part, names-same, next-name}
+use Rattle.tab_image.proofs.PartLemmas.{Parts}
 
 -- octets of one format are not those of the other
 pub not-one : (octets : List ℕ) → take 4 octets ≡ format_2.magic → BeginsWith One octets → ⊥

@@ -15,13 +15,13 @@ use Rattle.tab_load.specs.declared.counts.Format.{Format}
 use Rattle.tab_load.specs.declared.counts.Format.TheVariants.{One, Two}
 use Rattle.tab_load.specs.declared.fault.ImageFault.{ImageFault}
 use Rattle.tab_load.specs.declared.fault.ImageFault.TheVariants.{Magic, Cut, Count, Name, Unbound, Offset, BackJump, OpCode, NoEnd, Trailing}
-use Rattle.tab_build.specs.Tables.{HasImage}
-use Rattle.tab_build.proofs.CodeFaults.{no-code-fault}
-use Rattle.tab_build.proofs.HeadLemmas.{not-one, counts-same}
-use Rattle.tab_build.proofs.KnownLemmas.{AreThese, these-names, no-name-fault, HasBodyAt, body-long, this-body, not-cut}
-use Rattle.tab_build.proofs.OctetLemmas.{has-image, offsets-fit}
-use Rattle.tab_build.proofs.PartLemmas.{Parts, HasFew, parts-of, no-count-fault}
-use Rattle.tab_build.proofs.TableNames.{HasFineNames, fine-table}
+use Rattle.tab_image.specs.Tables.{HasImage}
+use Rattle.tab_image.proofs.CodeFaults.{no-code-fault}
+use Rattle.tab_image.proofs.HeadLemmas.{not-one, counts-same}
+use Rattle.tab_image.proofs.KnownLemmas.{AreThese, these-names, no-name-fault, HasBodyAt, body-long, this-body, not-cut}
+use Rattle.tab_image.proofs.ImageOctets.{has-image, offsets-fit}
+use Rattle.tab_image.proofs.PartLemmas.{Parts, HasFew, parts-of, no-count-fault}
+use Rattle.tab_image.proofs.TableNames.{HasFineNames, fine-table}
 
 has-few : (table : Contents) → HasImage table → HasFew (image_of table)
 has-few table has =

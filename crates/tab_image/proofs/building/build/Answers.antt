@@ -1,5 +1,5 @@
-use Rattle.tab_build.proofs.BuildLemmas.{no-fault, read-back}
-use Rattle.tab_build.proofs.building.build.Goals as goal
+use Rattle.tab_image.proofs.BuildLemmas.{no-fault, read-back}
+use Rattle.tab_image.proofs.building.build.Goals as goal
 
 pub unreachable-requires : goal.unreachable-requires
 unreachable-requires c =

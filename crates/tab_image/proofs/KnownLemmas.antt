@@ -11,10 +11,10 @@ use Rattle.tab_load.specs.Loading.{Lists, NamesAre, AnyNameWrong, AtState, AtKin
 use Rattle.tab_load.specs.declared.counts.Format.TheVariants.{Two}
 use Rattle.tab_load.specs.declared.fault.ImageFault.{ImageFault}
 use Rattle.tab_load.specs.declared.fault.ImageFault.TheVariants.{Magic, Cut, Count, Name, Unbound, Offset, BackJump, OpCode, NoEnd, Trailing}
-use Rattle.tab_build.proofs.FrontLemmas.{behind-part, parts-same, number-same, entries-same, entries-length}
-use Rattle.tab_build.proofs.HeadLemmas.{list-same, list-fine}
-use Rattle.tab_build.proofs.PartLemmas.{Parts, body_octets}
-use Rattle.tab_build.proofs.TableNames.{HasFineNames}
+use Rattle.tab_image.proofs.FrontLemmas.{behind-part, parts-same, number-same, entries-same, entries-length}
+use Rattle.tab_image.proofs.HeadLemmas.{list-same, list-fine}
+use Rattle.tab_image.proofs.PartLemmas.{Parts, body_octets}
+use Rattle.tab_image.proofs.TableNames.{HasFineNames}
 
 -- names that were read are those of the image, and behind them stands what follows there
 pub record AreThese (image : Image) (octets : List ℕ) (names : Lists) : Type 0 where

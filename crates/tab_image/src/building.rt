@@ -1,3 +1,5 @@
+//! The program of a bound table.
+
 ghost use Rattle.std.specs.Prelude.{◌≡◌, IfOk};
 ghost use Rattle.tab_step.specs.Bind.{IsBoundTo};
 ghost use Rattle.tab_asm.specs.Assembled.{image_of, Means};
