@@ -1,7 +1,7 @@
 use Rattle.std.specs.Prelude.{◌≡◌, ℕ, ◌+◌, ◌-◌, ◌*◌, ◌<◌, ◌≤◌, ◌==◌, ◌||◌, ◌&&◌, not, nat_lt, nat_le, Bool, true, false, List, [], ◌∷◌, ◌++◌, Option, Some, None, length, take, drop, replicate, option_map, is_some, map, ◌⊎◌, if◌then◌else◌}
 use Rattle.std.specs.List.{flat_map, slice_index_or, list_any, list_all}
 use Rattle.tab_asm.specs.Formats.{Instruction, BeginRow, TestGuard, RunAction, GoTo, NoRow, octets_of, code_of}
-use Rattle.tab_load.specs.Faults.{format_of, width_of, at_of}
+use Rattle.tab_load.specs.Faults.{format_of, width_of, code_limit, at_of}
 use Rattle.tab_load.specs.declared.counts.Counts.{Counts}
 use Rattle.tab_load.specs.declared.counts.Format.{Format}
 use Rattle.tab_load.specs.declared.instruction.Step.{Step}
@@ -23,6 +23,14 @@ instruction_of step.End = NoRow
 -- the octet that instructions of a kind begin with, by which they have that many octets
 abbrev pub size_of : Format → ℕ → ℕ
 size_of format op = if op == 1 then 3 else if op == 2 then 2 + width_of format else if op == 5 then 1 else 2
+
+-- the operands of an instruction are numbers that its octets can hold
+abbrev pub Fits : Format → Instruction → Type 0
+Fits format (BeginRow row) = row < 65536
+Fits format (TestGuard guard otherwise) = otherwise < code_limit format
+Fits format (RunAction action) = Unit {0}
+Fits format (GoTo state) = Unit {0}
+Fits format NoRow = Unit {0}
 
 -- what is wrong with octets that are to begin with an instruction: none begins with the first of them, or it is cut off
 abbrev pub octets_fault : Format → List ℕ → Option ImageFault

@@ -36,6 +36,11 @@ abbrev pub width_of : Format → ℕ
 width_of One = 2
 width_of Two = 4
 
+-- the code is shorter than this: its length has as many octets as an offset
+abbrev pub code_limit : Format → ℕ
+code_limit One = 65536
+code_limit Two = 4294967296
+
 -- an image begins with the octets of a format
 abbrev pub BeginsWith : Format → List ℕ → Type 0
 BeginsWith format octets = take 4 octets ≡ (format_of format).magic

@@ -25,7 +25,7 @@ pub(crate) struct Counts {
 }
 
 /// How many octets an offset has.
-pub(crate) fn width_of(format: Format) -> usize
+pub fn width_of(format: Format) -> usize
     ensures { result ≡ width_of format }
 {
     match format {

@@ -3,8 +3,8 @@
 ghost use Rattle.std.specs.Prelude.{◌≡◌, ◌++◌, ◌<◌, ◌≤◌, drop, length, None, true, slice_index_or};
 ghost use Rattle.std.specs.Int.{to_be_bytes};
 ghost use Rattle.tab_asm.specs.Formats.{octets_of};
-ghost use Rattle.tab_load.specs.Faults.{format_of, width_of};
-ghost use Rattle.tab_load.specs.Code.{instruction_of, size_of, octets_fault, counted, instruction_fault, is_in_range, is_in_row, is_forward};
+ghost use Rattle.tab_load.specs.Faults.{format_of, width_of, code_limit};
+ghost use Rattle.tab_load.specs.Code.{instruction_of, size_of, Fits, octets_fault, counted, instruction_fault, is_in_range, is_in_row, is_forward};
 
 use crate::counts::{Counts, Format, width_of};
 use crate::fault::ImageFault;
@@ -54,7 +54,8 @@ pub(crate) fn octets_fault(format: Format, octets: &[u8]) -> Option<ImageFault>
 /// The offset at the front of octets.
 pub(crate) fn offset_in(format: Format, octets: &[u8]) -> u32
     requires { width_of format ≤ length octets.now }
-    ensures { octets.now ≡ to_be_bytes (format_of format).width result ++ drop (width_of format) octets.now }
+    ensures octets { octets.now ≡ to_be_bytes (format_of format).width result ++ drop (width_of format) octets.now }
+    ensures small { result < code_limit format }
 {
     match format {
         Format::One => u16::from_be_bytes([octets[0], octets[1]]) as u32,
@@ -63,9 +64,10 @@ pub(crate) fn offset_in(format: Format, octets: &[u8]) -> u32
 }
 
 /// The instruction that octets begin with.
-pub(crate) fn step_in(format: Format, octets: &[u8]) -> Step
+pub fn step_in(format: Format, octets: &[u8]) -> Step
     requires { octets_fault format octets.now ≡ None }
-    ensures { octets.now ≡ octets_of (format_of format) (instruction_of result) ++ drop (size_of format (slice_index_or octets.now 0 0)) octets.now }
+    ensures octets { octets.now ≡ octets_of (format_of format) (instruction_of result) ++ drop (size_of format (slice_index_or octets.now 0 0)) octets.now }
+    ensures fits { Fits format (instruction_of result) }
 {
     match octets[0] {
         1 => Step::Begin(u16::from_be_bytes([octets[1], octets[2]])),

@@ -15,7 +15,10 @@ mod program;
 mod scan;
 mod spelling;
 
-pub use counts::Format;
+pub use checks::size_of_step;
+pub use counts::{Format, width_of};
 pub use fault::{ImageFault, LoadError, LoadFault};
+pub use instruction::{Step, step_in};
 pub use loading::load;
+pub use names::{ImageNames, Names};
 pub use program::Program;

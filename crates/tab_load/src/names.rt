@@ -17,7 +17,7 @@ use tab_law::LawBook;
 
 /// Names in order, and their places in a book.
 #[derive(Drop)]
-pub(crate) struct Names {
+pub struct Names {
     pub names: Vec<Octets>,
     pub places: Vec<u8>,
     /// Where they end in the image.
@@ -150,7 +150,7 @@ pub(crate) fn read_names<T: Drop>(
 
 /// The names of states, kinds, guards and actions.
 #[derive(Drop)]
-pub(crate) struct ImageNames {
+pub struct ImageNames {
     pub states: Names,
     pub kinds: Names,
     pub guards: Names,

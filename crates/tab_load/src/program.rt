@@ -1,7 +1,6 @@
 //! A loaded image.
 
-ghost use Rattle.std.specs.Prelude.{◌≡◌, length};
-ghost use Rattle.tab_load.specs.Loading.{lists};
+ghost use Rattle.std.specs.Prelude.{◌≡◌};
 
 use crate::counts::Format;
 use crate::names::ImageNames;
@@ -26,6 +25,42 @@ impl Drop for Program {
             entries,
             code,
         } = self;
+    }
+}
+
+impl Program {
+    /// The format of its image.
+    pub fn format(&self) -> Format
+        ensures { result ≡ self.now.format }
+    {
+        self.format
+    }
+
+    /// The octets of the code.
+    pub fn code(&self) -> &[u8]
+        ensures { result.now ≡ self.now.image.code }
+    {
+        self.code.as_slice()
+    }
+
+    /// For each state and in it for each kind of events the offset at which the code of its rows begins.
+    pub fn entries(&self) -> &[Option<u32>]
+        ensures { result.now ≡ self.now.image.entries }
+    {
+        self.entries.as_slice()
+    }
+
+    /// The names of states, kinds, guards and actions, and the places of the last three in the book.
+    pub fn names(&self) -> &ImageNames
+        ensures states { result.now.states.names.items ≡ self.now.image.states }
+        ensures kinds { result.now.kinds.names.items ≡ self.now.image.kinds }
+        ensures guards { result.now.guards.names.items ≡ self.now.image.guards }
+        ensures actions { result.now.actions.names.items ≡ self.now.image.actions }
+        ensures kind_places { result.now.kinds.places.items ≡ self.now.kind_places }
+        ensures guard_places { result.now.guards.places.items ≡ self.now.guard_places }
+        ensures act_places { result.now.actions.places.items ≡ self.now.act_places }
+    {
+        &self.names
     }
 }
 
