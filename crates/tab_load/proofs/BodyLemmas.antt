@@ -39,6 +39,11 @@ count-in format octets number none =
     by_tests false false true is none = cc
     by_tests false false false is none = grind (arith, nat_tests)
 
+-- an image has few rows
+pub few-rows : (format : Format) (octets : List ℕ) (counts : Counts) → CountsOf format octets counts → counts.rows ≤ 65536
+few-rows One octets counts is = let most = count-in One octets 4 (is.fine 4 (omega arith)) in omega (arith, is.rows, most)
+few-rows Two octets counts is = let most = count-in Two octets 4 (is.fine 4 (omega arith)) in omega (arith, is.rows, most)
+
 -- an image has few entries
 pub few-entries : (format : Format) (octets : List ℕ) (counts : Counts) → CountsOf format octets counts → counts.states * counts.kinds ≤ 65536
 few-entries format octets counts is =

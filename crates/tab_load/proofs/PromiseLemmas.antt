@@ -6,13 +6,13 @@ use Rattle.std.proofs.lemmas.List.Concat.{flat_map-append}
 use Rattle.std.proofs.Math.Seq.{drop-append_seam}
 use Rattle.tab_asm.specs.Formats.{Instruction, BeginRow, TestGuard, RunAction, GoTo, NoRow, octets_of, code_of}
 use Rattle.tab_asm.specs.Paths.{IsPath, Outcome, Taken, Unlisted, end_of}
-use Rattle.tab_load.specs.Faults.{format_of, CountsOf}
-use Rattle.tab_load.specs.Code.{is_in_range, is_in_row, is_forward, instruction_fault, EachAfter, IsFine, is_landing, landings, lands, leads, IsEnded}
+use Rattle.tab_load.specs.Faults.{format_of}
+use Rattle.tab_load.specs.Code.{is_in_range, is_in_row, is_forward, instruction_fault, count_behind, EachAfter, IsFine, is_landing, landings, lands, leads, IsEnded}
 use Rattle.tab_law.specs.Books.{Laws}
-use Rattle.tab_load.specs.Loading.{IsSound, Loaded, IsLoaded, IsReadFrom, counts_of}
+use Rattle.tab_load.specs.Loading.{IsSound, Loaded, IsLoaded, counts_of}
 use Rattle.tab_load.specs.Promise.{Ends, EachEnds}
 use Rattle.tab_load.specs.declared.fault.LoadError.{LoadError}
-use Rattle.tab_load.proofs.BodyLemmas.{count-in}
+use Rattle.tab_load.proofs.ScanLemmas.{in-row}
 use Rattle.tab_load.specs.declared.counts.Counts.{Counts}
 use Rattle.tab_load.specs.declared.counts.Format.{Format}
 use Rattle.tab_load.specs.declared.counts.Format.TheVariants.{One, Two}
@@ -38,9 +38,9 @@ all-at p (y ∷ a) x b all = all-at p a x b (and-right (p y) (list_all p (a ++ x
     and-right false two is = cc
 
 -- an instruction without a fault
-record WithoutFault (counts : Counts) (behind : ℕ) (instruction : Instruction) : Type 0 where
-  range : is_in_range counts instruction ≡ true
-  forward : is_forward behind instruction ≡ true
+pub record WithoutFault (counts : Counts) (behind : ℕ) (instruction : Instruction) : Type 0 where
+  pub range : is_in_range counts instruction ≡ true
+  pub forward : is_forward behind instruction ≡ true
 
 without-fault : (counts : Counts) (count : Option ℕ) (behind : ℕ) (instruction : Instruction) → instruction_fault counts count behind instruction ≡ None → WithoutFault counts behind instruction
 without-fault counts count behind instruction none =
@@ -52,7 +52,7 @@ without-fault counts count behind instruction none =
     by_tests true false forward range is none = cc
     by_tests false row forward range is none = cc
 
-some-octets : (format : Format) (instruction : Instruction) → 0 < length (octets_of (format_of format) instruction)
+pub some-octets : (format : Format) (instruction : Instruction) → 0 < length (octets_of (format_of format) instruction)
 some-octets format (BeginRow row) = omega arith
 some-octets format (TestGuard guard otherwise) = omega arith
 some-octets format (RunAction action) = omega arith
@@ -65,13 +65,13 @@ ended-suffix (first ∷ []) instruction rest ended = ended
 ended-suffix (first ∷ second ∷ before) instruction rest ended = ended-suffix (second ∷ before) instruction rest ended
 
 -- where a jump may lead, there an instruction stands to which it may lead
-record LandsAt (format : Format) (instructions : List Instruction) (offset : ℕ) : Type 0 where
-  before : List Instruction
-  one : Instruction
-  rest : List Instruction
-  joined : instructions ≡ before ++ one ∷ rest
-  landing : is_landing one ≡ true
-  place : length (code_of (format_of format) before) ≡ offset
+pub record LandsAt (format : Format) (instructions : List Instruction) (offset : ℕ) : Type 0 where
+  pub before : List Instruction
+  pub one : Instruction
+  pub rest : List Instruction
+  pub joined : instructions ≡ before ++ one ∷ rest
+  pub landing : is_landing one ≡ true
+  pub place : length (code_of (format_of format) before) ≡ offset
 
 -- what stands in a row of no landings, or behind it
 past : (n offset : ℕ) (rest : List Bool) → get_or (replicate n false ++ rest) offset false ≡ true → (behind : ℕ) × (offset ≡ n + behind) × (get_or rest behind false ≡ true)
@@ -81,7 +81,7 @@ past (suc n) (suc offset) rest is =
     let later = past n offset rest is in
     (later.0, omega (arith, later.1), later.2)
 
-lands-at : (format : Format) (instructions : List Instruction) (offset : ℕ) → lands (landings format instructions) offset ≡ true → LandsAt format instructions offset
+pub lands-at : (format : Format) (instructions : List Instruction) (offset : ℕ) → lands (landings format instructions) offset ≡ true → LandsAt format instructions offset
 lands-at format [] offset is = cc
 lands-at format (one ∷ rest) zero is = record { before = []; one = one; rest = rest; joined = refl; landing = is; place = refl }
 lands-at format (one ∷ rest) (suc offset) is =
@@ -112,15 +112,16 @@ moved format counts code says one other row actions same found =
     subst (λ (n : ℕ). Found format counts code says n row actions) same found
 
 -- what is known of the instruction behind these
-record Here (format : Format) (counts : Counts) (code : List ℕ) (instructions before : List Instruction) (one : Instruction) (rest : List Instruction) : Type 0 where
-  at : drop (length (code_of (format_of format) before)) code ≡ octets_of (format_of format) one ++ code_of (format_of format) rest
-  long : length code ≡ length (code_of (format_of format) before) + (length (octets_of (format_of format) one) + length (code_of (format_of format) rest))
-  next : length (code_of (format_of format) (before ++ one ∷ [])) ≡ length (code_of (format_of format) before) + length (octets_of (format_of format) one)
-  fine : WithoutFault counts (length (code_of (format_of format) (before ++ one ∷ []))) one
-  ended : IsEnded (one ∷ rest)
-  leads_on : leads (landings format instructions) one ≡ true
+pub record Here (format : Format) (counts : Counts) (code : List ℕ) (instructions before : List Instruction) (one : Instruction) (rest : List Instruction) : Type 0 where
+  pub at : drop (length (code_of (format_of format) before)) code ≡ octets_of (format_of format) one ++ code_of (format_of format) rest
+  pub long : length code ≡ length (code_of (format_of format) before) + (length (octets_of (format_of format) one) + length (code_of (format_of format) rest))
+  pub next : length (code_of (format_of format) (before ++ one ∷ [])) ≡ length (code_of (format_of format) before) + length (octets_of (format_of format) one)
+  pub fine : WithoutFault counts (length (code_of (format_of format) (before ++ one ∷ []))) one
+  pub in_row : is_in_row (count_behind None before) one ≡ true
+  pub ended : IsEnded (one ∷ rest)
+  pub leads_on : leads (landings format instructions) one ≡ true
 
-here : (format : Format) (counts : Counts) (code : List ℕ) (entries : List (Option ℕ)) (instructions before : List Instruction) (one : Instruction) (rest : List Instruction) → IsSound format counts code entries instructions → instructions ≡ before ++ one ∷ rest → Here format counts code instructions before one rest
+pub here : (format : Format) (counts : Counts) (code : List ℕ) (entries : List (Option ℕ)) (instructions before : List Instruction) (one : Instruction) (rest : List Instruction) → IsSound format counts code entries instructions → instructions ≡ before ++ one ∷ rest → Here format counts code instructions before one rest
 here format counts code entries instructions before one rest sound is =
     let spec = format_of format in
     let split = sound.is_code.whole ∙ ap (code_of spec) is ∙ flat_map-append (octets_of spec) before (one ∷ rest) in
@@ -132,6 +133,7 @@ here format counts code entries instructions before one rest sound is =
       long = ap length sound.is_code.whole ∙ code-length format instructions before one rest is;
       next = code-length format (before ++ one ∷ []) before one [] refl ∙ omega arith;
       fine = without-fault counts _ _ one (each-at (IsFine format counts) [] before one rest fine);
+      in_row = in-row counts _ _ one (each-at (IsFine format counts) [] before one rest fine);
       ended = ended-suffix before one rest ended;
       leads_on = all-at (leads (landings format instructions)) before one rest guards;
     }
@@ -253,16 +255,11 @@ each-ends format counts code entries instructions says sound few_rows number off
       end = found.end;
     }
 
--- a program that was read and fits its book ends each event
-ends-all : (laws : Laws) (octets : List ℕ) (program : Loaded) → IsLoaded laws program → IsReadFrom laws octets program → EachEnds program
-ends-all laws octets program loaded from = λ says number offset inside is.
-    let few : program.image.rows ≤ 65536 = few-rows program.format octets from.counts program.image.rows from.rows from.head.counts_are in
-    each-ends program.format (counts_of program.image) program.image.code program.image.entries loaded.instructions says loaded.sound few number offset inside is
-  where
-    few-rows : (format : Format) (octets : List ℕ) (counts : Counts) (rows : ℕ) → rows ≡ counts.rows → CountsOf format octets counts → rows ≤ 65536
-    few-rows One octets counts rows same are = let most = count-in One octets 4 (are.fine 4 (omega arith)) in omega (arith, same, are.rows, most)
-    few-rows Two octets counts rows same are = let most = count-in Two octets 4 (are.fine 4 (omega arith)) in omega (arith, same, are.rows, most)
+-- a program that fits its book ends each event
+ends-all : (laws : Laws) (program : Loaded) → IsLoaded laws program → EachEnds program
+ends-all laws program loaded = λ says number offset inside is.
+    each-ends program.format (counts_of program.image) program.image.code program.image.entries loaded.instructions says loaded.sound loaded.few_rows number offset inside is
 
-pub ok-ends : (laws : Laws) (octets : List ℕ) (result : Result Loaded LoadError) → IfOk result (IsLoaded laws) → IfOk result (IsReadFrom laws octets) → IfOk result EachEnds
-ok-ends laws octets (Ok program) loaded from = ends-all laws octets program loaded from
-ok-ends laws octets (Err error) loaded from = tt
+pub ok-ends : (laws : Laws) (result : Result Loaded LoadError) → IfOk result (IsLoaded laws) → IfOk result EachEnds
+ok-ends laws (Ok program) loaded = ends-all laws program loaded
+ok-ends laws (Err error) loaded = tt

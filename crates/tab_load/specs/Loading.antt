@@ -5,7 +5,7 @@ use Rattle.base_list.specs.Named.{place_of}
 use Rattle.tab_law.specs.Books.{Laws}
 use Rattle.tab_asm.specs.Formats.{Instruction}
 use Rattle.tab_asm.specs.Images.{Image, offset_octets}
-use Rattle.tab_load.specs.Faults.{format_of, width_of, BeginsWith, MagicWrong, CountsWrong, CountsOf}
+use Rattle.tab_load.specs.Faults.{format_of, width_of, code_limit, BeginsWith, MagicWrong, CountsWrong, CountsOf}
 use Rattle.tab_load.specs.Names.{NamesWrong, NamesOf}
 use Rattle.tab_load.specs.Code.{ScanWrong, IsCode, EndWrong, IsEnded, GuardWrong, EntryWrong, landings, leads, is_entry}
 use Rattle.tab_load.specs.declared.counts.Counts.{Counts}
@@ -182,10 +182,12 @@ pub record Loaded : Type 0 where
 abbrev pub counts_of : Image → Counts
 counts_of image = record { states = length image.states; kinds = length image.kinds; guards = length image.guards; actions = length image.actions; rows = image.rows }
 
--- a program fits a book: its code is sound, and each of its kinds, guards and actions has its place there
+-- a program fits a book: its code is sound and its offsets and rows have room in its instructions, and each of its kinds, guards and actions has its place there
 pub record IsLoaded (laws : Laws) (program : Loaded) : Type 0 where
   pub instructions : List Instruction
   pub sound : IsSound program.format (counts_of program.image) program.image.code program.image.entries instructions
+  pub short : length program.image.code < code_limit program.format
+  pub few_rows : program.image.rows ≤ 65536
   pub many : length program.image.entries ≡ length program.image.states * length program.image.kinds
   pub kinds : map (λ name. place_of name laws.kinds) program.image.kinds ≡ map Some program.kind_places
   pub guards : map (λ name. place_of name laws.guards) program.image.guards ≡ map Some program.guard_places

@@ -1,10 +1,10 @@
 //! What stands behind the names: the entries, the code's length and the code.
 
-ghost use Rattle.std.specs.Prelude.{◌≡◌, ◌++◌, ◌+◌, ◌*◌, ◌≤◌, drop, take, length, IfOk, IfErr, OnOk, ℕ, Bool, List, Option, Some, None};
+ghost use Rattle.std.specs.Prelude.{◌≡◌, ◌++◌, ◌+◌, ◌*◌, ◌≤◌, ◌<◌, drop, take, length, IfOk, IfErr, OnOk, ℕ, Bool, List, Option, Some, None};
 ghost use Rattle.std.specs.List.{flat_map};
 ghost use Rattle.tab_asm.specs.Images.{offset_octets};
 ghost use Rattle.tab_asm.specs.Formats.{Instruction, code_of};
-ghost use Rattle.tab_load.specs.Faults.{format_of, width_of};
+ghost use Rattle.tab_load.specs.Faults.{format_of, width_of, code_limit};
 ghost use Rattle.tab_load.specs.Code.{IsRefusal, IsScanned, instructions_of};
 ghost use Rattle.tab_load.specs.Loading.{EntriesOf, CutWrong, CodeWrong, IsSound};
 ghost use Rattle.tab_load.specs.declared.fault.LoadError.TheVariants.{Refused};
@@ -79,6 +79,7 @@ pub(crate) fn read_body(
     requires small { count ≤ 65536 }
     ensures ok { IfOk result (λ body. EntriesOf format octets.now begin count body.entries.items body.size) }
     ensures whole { IfOk result (λ body. begin + width_of format * count + width_of format + body.size ≤ length octets.now) }
+    ensures short { IfOk result (λ body. body.size < code_limit format) }
     ensures err { IfErr result (IsRefusal (CutWrong format octets.now begin count)) }
 {
     let width = width_of(format);

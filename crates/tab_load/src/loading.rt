@@ -1,6 +1,6 @@
 ghost use Rattle.std.specs.Prelude.{◌≡◌, ◌+◌, ◌*◌, ◌<◌, ◌≤◌, length, IfOk, IfErr, OnOk, List};
 ghost use Rattle.tab_asm.specs.Formats.{Instruction};
-ghost use Rattle.tab_load.specs.Faults.{format_of, width_of};
+ghost use Rattle.tab_load.specs.Faults.{format_of, width_of, code_limit};
 ghost use Rattle.tab_load.specs.Code.{IsRefusal};
 ghost use Rattle.tab_load.specs.Promise.{EachEnds};
 ghost use Rattle.tab_load.specs.Loading.{lists, IsHead, HasBody, HasFault, IsLoaded, IsReadFrom, IsSound, entry_count, code_begin, code_in};
@@ -42,6 +42,7 @@ fn read_rest(alloc: Global, octets: &[u8], book: &LawBook, head: &Head) -> Resul
     requires head { IsHead book.now octets.now head.now.format head.now.counts (lists head.now.names) }
     requires few { entry_count head.now.counts ≤ 65536 }
     ensures ok { IfOk result (λ body. HasBody octets.now head.now.format head.now.counts (lists head.now.names) body.entries.items body.size) }
+    ensures short { IfOk result (λ body. body.size < code_limit head.now.format) }
     ensures err { IfErr result (IsRefusal (HasFault book.now octets.now)) }
 {
     let count = head.counts.states * head.counts.kinds;

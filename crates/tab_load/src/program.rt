@@ -53,12 +53,12 @@ impl Program {
     /// The names of states, kinds, guards and actions, and the places of the last three in the book.
     pub fn names(&self) -> &ImageNames
         ensures states { result.now.states.names.items ≡ self.now.image.states }
-        ensures kinds { result.now.kinds.names.items ≡ self.now.image.kinds }
-        ensures guards { result.now.guards.names.items ≡ self.now.image.guards }
-        ensures actions { result.now.actions.names.items ≡ self.now.image.actions }
-        ensures kind_places { result.now.kinds.places.items ≡ self.now.kind_places }
-        ensures guard_places { result.now.guards.places.items ≡ self.now.guard_places }
-        ensures act_places { result.now.actions.places.items ≡ self.now.act_places }
+        ensures kind_names { result.now.kinds.names.items ≡ self.now.image.kinds }
+        ensures guard_names { result.now.guards.names.items ≡ self.now.image.guards }
+        ensures act_names { result.now.actions.names.items ≡ self.now.image.actions }
+        ensures kinds { result.now.kinds.places.items ≡ self.now.kind_places }
+        ensures guards { result.now.guards.places.items ≡ self.now.guard_places }
+        ensures actions { result.now.actions.places.items ≡ self.now.act_places }
     {
         &self.names
     }

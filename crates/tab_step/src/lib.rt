@@ -19,4 +19,4 @@ pub use bound::{Bound, RowPlaces};
 pub use judging::is_step;
 pub use machine::{Event, MachineState, Stepped};
 pub use running::run;
-pub use stepping::{step, step_into};
+pub use stepping::{act_all, stay, step, step_into};

@@ -11,8 +11,9 @@ use base_codes::DeedCode;
 use tab_call::Registry;
 use tab_law::{Deed, MAX_ROW_ACTIONS, Scene};
 
-/// Runs the callbacks of the actions at these places in order, each on the registers that the one before left.
-fn act_all(registry: &Registry, actions: &[u8], scene: &mut Scene, room: &mut Stepped)
+/// Runs the callbacks of the actions at these places in order, each on the registers that the one before left. What stood
+/// in the room's chain and deeds before is gone; its state and row stay for the caller to write.
+pub fn act_all(registry: &Registry, actions: &[u8], scene: &mut Scene, room: &mut Stepped)
     requires few { length actions.now ≤ MAX_ROW_ACTIONS }
     requires registered { All (λ place. place < length registry.now.book.acts) actions.now }
     ensures runs { Runs (ActPermits registry.now.book) scene.old.facts actions.now scene.old.regs room.new.chain room.new.deeds }
@@ -29,8 +30,8 @@ fn act_all(registry: &Registry, actions: &[u8], scene: &mut Scene, room: &mut St
     room.after.regs = scene.regs;
 }
 
-/// What an event leaves that no row takes.
-fn stay(machine: &MachineState, event: &Event, room: &mut Stepped)
+/// Writes what an event leaves that no row takes: the machine as it was, and one deed, Unlisted.
+pub fn stay(machine: &MachineState, event: &Event, room: &mut Stepped)
     ensures row { room.new.row ≡ None }
     ensures stays { Stays machine.now event.now room.new.after room.new.chain room.new.deeds }
 {

@@ -1,0 +1,6 @@
+pub mod OctetLemmas
+pub mod OnceLemmas
+pub mod WalkLemmas
+pub mod EntryLemmas
+pub mod RunLemmas
+pub mod TextLemmas
