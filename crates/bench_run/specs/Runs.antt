@@ -5,6 +5,7 @@ use Rattle.bench_device.specs.Devices.{Tells}
 use Rattle.bench_device.specs.Inputs.{IsInput}
 use Rattle.bench_device.specs.declared.status.Status.{Status}
 use Rattle.bench_device.specs.declared.status.Status.TheVariants as statuses
+use Rattle.image_list.specs.Listed.{IsListedOn}
 use Rattle.image_text.specs.Assembled.{IsAssembledOn}
 use Rattle.law_text.specs.Sentences.{book_text}
 use Rattle.msg_text.specs.Inputs.{IsReport}
@@ -14,7 +15,7 @@ use Rattle.role_tables.specs.Roles.{all_laws, table_named}
 use Rattle.tab_draw.specs.Runs.{graph_status, graph_text}
 use Rattle.tab_text.specs.Faults.{first_fault}
 use Rattle.tab_walk.specs.Walks.{IsWalkedOn}
-use Rattle.bench_words.specs.Words.{Wanted, Read, Walk, Names, Table, Draw, Assemble, Nothing}
+use Rattle.bench_words.specs.Words.{Wanted, Read, Walk, Names, Table, Draw, Assemble, ListImage, Nothing}
 
 -- Messages of a file or of standard input were read: what was written out is what the text prints in the style, each of its lines by itself or not. Without a file the text
 -- is that of the source. It is done only where nothing is left to read, and refused only where something was read.
@@ -47,6 +48,12 @@ pub record AssemblesTable {I O : Type 0} (remaining : I → Option (List ℕ)) (
   pub read : IsInput remaining reads failures source source' table
   pub told : IsAssembledOn contents write_failures idle all_laws table sink sink' answer
 
+-- An image's text was read whole, and what is told is its listing, over all laws, or why it has none.
+pub record ListsImage {I O : Type 0} (remaining : I → Option (List ℕ)) (reads failures : I → ℕ) (contents : O → Option (List ℕ)) (write_failures idle : O → ℕ) (source source' : I) (sink sink' : O) (answer : Status) : Type 0 where
+  pub image : List ℕ
+  pub read : IsInput remaining reads failures source source' image
+  pub told : IsListedOn contents write_failures idle all_laws image sink sink' answer
+
 -- a table that is there is told; one that isn't is refused with some text
 abbrev pub TellsTable : {O : Type 0} → (contents : O → Option (List ℕ)) → (failures idle : O → ℕ) → Option (List ℕ) → (old new : O) → Status → Type 0
 TellsTable contents failures idle (Some table) old new answer = Tells contents failures idle old new table statuses.Done answer
@@ -71,5 +78,7 @@ IsMet remaining reads failures contents write_failures idle (Draw table) source 
     DrawsTable remaining reads failures contents write_failures idle source source' sink sink' answer ⊎ TellsNoMemory contents write_failures idle sink sink' answer
 IsMet remaining reads failures contents write_failures idle (Assemble table) source source' sink sink' answer =
     AssemblesTable remaining reads failures contents write_failures idle source source' sink sink' answer ⊎ TellsNoMemory contents write_failures idle sink sink' answer
+IsMet remaining reads failures contents write_failures idle (ListImage image) source source' sink sink' answer =
+    ListsImage remaining reads failures contents write_failures idle source source' sink sink' answer ⊎ TellsNoMemory contents write_failures idle sink sink' answer
 IsMet remaining reads failures contents write_failures idle Nothing source source' sink sink' answer =
     (source' ≡ source) × (text : List ℕ) × Tells contents write_failures idle sink sink' text statuses.Usage answer

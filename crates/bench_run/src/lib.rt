@@ -6,10 +6,12 @@
 //! | `walk` | the runs of `walk`, over callbacks that are made here |
 //! | `draw` | the runs of `draw` |
 //! | `asm` | the runs of `asm` |
+//! | `list` | the runs of `list` |
 #![tactic(auto)]
 
 mod asm;
 mod draw;
+mod list;
 mod run;
 mod walk;
 

@@ -11,6 +11,7 @@ ghost use Rattle.bench_run.specs.Ends.{AsksInVain, no_words_status, no_words_tex
 
 use crate::asm::assemble;
 use crate::draw::draw;
+use crate::list::list;
 use crate::walk::{tell_names, tell_table, walk};
 use bench_device::{
     ByteSink, ByteSource, FileSource, MAX_IDLE_WRITES, MAX_READS, Status, tell, tell_not_opened,
@@ -147,6 +148,7 @@ fn run<I: FileSource, O: ByteSink>(
         Task::Table(name) => tell_table(name, sink),
         Task::Draw(table) => draw(alloc, table, source, sink),
         Task::Assemble(table) => assemble(alloc, table, source, sink),
+        Task::ListImage(image) => list(alloc, image, source, sink),
         Task::Nothing(usage) => tell(sink, usage.as_bytes(), Status::Usage),
     }
 }

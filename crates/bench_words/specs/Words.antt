@@ -34,14 +34,18 @@ draw_app = with_rule (new_app (codes "draw")) (new_rule (codes "TABLE"))
 abbrev pub asm_app : App
 asm_app = with_rule (new_app (codes "asm")) (new_rule (codes "TABLE"))
 
+-- `list`, with one FILE at most
+abbrev pub list_app : App
+list_app = with_rule (new_app (codes "list")) (new_rule (codes "FILE"))
+
 -- `dbench`, with a version, of which a command is required: `read` and `walk`
 abbrev pub walking_app : App
 walking_app =
     with_subcommand (with_subcommand (on_top (λ s. record s { has_version = true; subcommand_required = true }) (new_app (codes "dbench"))) read_app.top) walk_app.top
 
--- the same, and what else is done with a table: `draw` and `asm`
+-- the same, and what else is done with a table and with its image: `draw`, `asm` and `list`
 abbrev pub dbench_app : App
-dbench_app = with_subcommand (with_subcommand walking_app draw_app.top) asm_app.top
+dbench_app = with_subcommand (with_subcommand (with_subcommand walking_app draw_app.top) asm_app.top) list_app.top
 
 -- what is wrong with the words, or which text they ask for; nothing where they are a command
 unfoldable pub word_faults : List Text → Kinds
@@ -49,7 +53,7 @@ word_faults words = fault_of dbench_app words
 
 -- what a command asks for: messages in a style, each line by itself or not, of this file or of standard input; a walk of a table
 -- over events of a file or of standard input; the names that tables may use; the table of a role; the graph or the image of a table
--- of a file or of standard input; or not one thing
+-- of a file or of standard input; what such an image holds, in words; or not one thing
 pub data Wanted : Type 0 where
   Read : Style → Bool → Option Text → Wanted
   Walk : Text → Option Text → Wanted
@@ -57,6 +61,7 @@ pub data Wanted : Type 0 where
   Table : Text → Wanted
   Draw : Option Text → Wanted
   Assemble : Option Text → Wanted
+  ListImage : Option Text → Wanted
   Nothing : Wanted
 
 -- what `walk` asks for: by its flag, NAME, TABLE and EVENTS
@@ -83,6 +88,7 @@ wanted_of None = Read Plain false None
 wanted_of (Some used) =
     if bytes_eq used.0 (codes "draw") then Draw (first_of (codes "TABLE") used.1)
     else if bytes_eq used.0 (codes "asm") then Assemble (first_of (codes "TABLE") used.1)
+    else if bytes_eq used.0 (codes "list") then ListImage (first_of (codes "FILE") used.1)
     else if bytes_eq used.0 (codes "walk")
     then walk_wanted (is_given (first_of (codes "names") used.1)) (first_of (codes "NAME") used.1) (first_of (codes "TABLE") used.1) (first_of (codes "EVENTS") used.1)
     else read_wanted (is_given (first_of (codes "explain") used.1)) (is_given (first_of (codes "json") used.1)) (is_given (first_of (codes "lines") used.1)) (first_of (codes "FILE") used.1)

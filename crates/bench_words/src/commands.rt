@@ -2,11 +2,11 @@
 ghost use Rattle.std.specs.Prelude.{◌≡◌, IfOk, false};
 ghost use Rattle.clap.specs.Words.{app_of, new_app, new_rule, rule_of, with_rule};
 ghost use Rattle.clap.specs.declared.builder.command.Command.TheViews.{out-Command};
-ghost use Rattle.bench_words.specs.Words.{dbench_app, asm_app, draw_app, flag_rule, option_rule, read_app, walk_app, walking_app};
+ghost use Rattle.bench_words.specs.Words.{dbench_app, asm_app, draw_app, flag_rule, list_app, option_rule, read_app, walk_app, walking_app};
 
 use crate::texts::{
-    ABOUT, ASM_ABOUT, ASM_LONG_ABOUT, DRAW_ABOUT, DRAW_LONG_ABOUT, READ_ABOUT, READ_LONG_ABOUT,
-    STATUSES, WALK_ABOUT, WALK_LONG_ABOUT,
+    ABOUT, ASM_ABOUT, ASM_LONG_ABOUT, DRAW_ABOUT, DRAW_LONG_ABOUT, LIST_ABOUT, LIST_LONG_ABOUT,
+    READ_ABOUT, READ_LONG_ABOUT, STATUSES, WALK_ABOUT, WALK_LONG_ABOUT,
 };
 use clap::{Arg, ArgAction, Command};
 use std::alloc::{AllocError, Global};
@@ -141,6 +141,18 @@ fn asm_command<'a>(alloc: Global) -> Result<Command<'a>, AllocError>
     with(bare(alloc, "asm", ASM_ABOUT, ASM_LONG_ABOUT), table)
 }
 
+fn list_command<'a>(alloc: Global) -> Result<Command<'a>, AllocError>
+    ensures app { IfOk result (λ c. app_of c ≡ list_app) }
+    ensures local { IfOk result (λ c. (out-Command c).has_globals ≡ false) }
+{
+    let file = value(
+        alloc,
+        "FILE",
+        "The file of the image; without it, standard input",
+    );
+    with(bare(alloc, "list", LIST_ABOUT, LIST_LONG_ABOUT), file)
+}
+
 fn walking_command<'a>(alloc: Global) -> Result<Command<'a>, AllocError>
     ensures { IfOk result (λ c. app_of c ≡ walking_app) }
 {
@@ -159,5 +171,6 @@ pub(crate) fn command<'a>(alloc: Global) -> Result<Command<'a>, AllocError>
 {
     walking_command(alloc)?
         .subcommand(draw_command(alloc)?)?
-        .subcommand(asm_command(alloc)?)
+        .subcommand(asm_command(alloc)?)?
+        .subcommand(list_command(alloc)?)
 }

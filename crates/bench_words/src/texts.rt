@@ -75,6 +75,28 @@ the code of its rows alone, so a step costs the rows of one state and kind and n
 `line N fault C` is the first fault of the table, `unbound NAME` a name of the table that `walk --names` doesn't list; the
 line below says what was wanted.";
 
+pub(crate) const LIST_ABOUT: &str = "List the image of a state table in words";
+
+pub(crate) const LIST_LONG_ABOUT: &str = "\
+List the image of a state table in words.
+
+Reads FILE, an image in hexadecimal as `asm` prints it, of format 1 or 2: digits of either case, two for each octet; blanks
+and newlines between them don't count. First comes a line STATE KIND OFFSET for each state and kind of events that has rows,
+with the offset at which their code begins, then a line for each instruction of the code, with its own offset in front:
+
+  ROW R           begins row R (from 0)
+  GUARD NAME N    goes on at offset N where the guard says no
+  ACT NAME        runs the action
+  GOTO STATE      ends in that state
+  NONE            ends without a row
+
+  dbench asm peer.tbl | dbench list
+
+`bad hex` is a text that isn't digits, two for each octet. `at N fault C` is the first fault of the image, and N the octet at
+which the part begins that is wrong. C is 1: no image, 2: the image is cut off, and has N octets, 3: a number is out of range,
+4: a name is misspelled or stands there twice, 5: `walk --names` doesn't list the name, 6: no row begins at the offset and no
+code ends there, 7: a guard leads back, 8: no instruction, 9: the code doesn't end, 10: octets stand behind the code.";
+
 /// What is told where `read` asks for two styles.
 pub(crate) const READ_USAGE: &str = "\
 wanted at most one of: --explain, --json

@@ -56,6 +56,8 @@ pub enum Task<'a> {
     Draw(Option<&'a str>),
     /// `asm`, of the table of this file or of standard input.
     Assemble(Option<&'a str>),
+    /// `list`, of the image of this file or of standard input.
+    ListImage(Option<&'a str>),
     /// Not one thing: what is told then.
     Nothing(&'static str),
 }
@@ -160,6 +162,9 @@ fn task_of<'a>(name: &str, found: &ArgMatches<'a>) -> Task<'a>
     }
     if name == "asm" {
         return Task::Assemble(value_of(found, "TABLE"));
+    }
+    if name == "list" {
+        return Task::ListImage(value_of(found, "FILE"));
     }
     if name == "walk" {
         let names = is_given(value_of(found, "names"));

@@ -12,7 +12,7 @@ use crate::instruction::Step;
 use crate::scan::Scan;
 
 /// How many octets an instruction has.
-fn size_of_step(format: Format, step: Step) -> usize
+pub fn size_of_step(format: Format, step: Step) -> usize
     ensures { result ≡ length (octets_of (format_of format) (instruction_of step)) }
 {
     match step {

@@ -14,6 +14,7 @@ mod names;
 mod program;
 mod scan;
 
+pub use checks::size_of_step;
 pub use counts::{Format, width_of};
 pub use fault::{ImageFault, LoadError, LoadFault};
 pub use instruction::{Step, step_in};

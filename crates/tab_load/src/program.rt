@@ -53,6 +53,9 @@ impl Program {
     /// The names of states, kinds, guards and actions, and the places of the last three in the book.
     pub fn names(&self) -> &ImageNames
         ensures states { result.now.states.names.items ≡ self.now.image.states }
+        ensures kind_names { result.now.kinds.names.items ≡ self.now.image.kinds }
+        ensures guard_names { result.now.guards.names.items ≡ self.now.image.guards }
+        ensures act_names { result.now.actions.names.items ≡ self.now.image.actions }
         ensures kinds { result.now.kinds.places.items ≡ self.now.kind_places }
         ensures guards { result.now.guards.places.items ≡ self.now.guard_places }
         ensures actions { result.now.actions.places.items ≡ self.now.act_places }

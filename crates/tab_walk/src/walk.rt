@@ -1,26 +1,38 @@
-//! A walk: a table stepped over a list of events, printed event by event.
-ghost use Rattle.std.specs.Prelude.{◌≡◌, ◌≢◌, ◌<◌, ◌≤◌, ◌-◌, ◌^◌, ◌++◌, ℕ, List, Bool, max, true, length, codes, decimal, if◌then◌else◌, IfOk, OnOk};
-ghost use Rattle.std.specs.List.{flat_map, slice_get};
-ghost use Rattle.std.specs.Option.{option_map};
-ghost use Rattle.tab_step.specs.Bind.{IsBoundTo};
+//! A walk: a table, or its image, stepped over a list of events, printed event by event.
+ghost use Rattle.std.specs.Prelude.{◌≡◌, ◌≢◌, ◌<◌, ◌≤◌, ◌-◌, ◌^◌, max, if◌then◌else◌, true, IfOk};
 ghost use Rattle.bench_device.specs.Devices.{HasWriteCause};
-ghost use Rattle.tab_walk.specs.Walks.{IsRefused, IsWalked, IsWalkedBound, IsWalkedOn, RunText, bind_text, kind_text, parse_text, row_text, state_text, step_text};
+ghost use Rattle.bench_text.specs.Digits.{is_blank};
+ghost use Rattle.hex.specs.Hex.{is_hex_digit};
+ghost use Rattle.tab_walk.specs.Walks.{IsImageWalked, IsReady, IsRefused, IsRunOver, IsWalked, IsWalkedOf, IsWalkedOn, RunText, StepBy, bind_text, is_image, names_of, parse_text};
 
+use crate::steps::{Rules, names_of, put_step, step_by};
 use bench_device::{ByteSink, MAX_IDLE_WRITES, Status, tell};
-use bench_text::put_number;
-use event_text::{EventsError, put_deeds, put_name, read_events};
+use event_text::{EventsError, read_events};
 use fault_text::{bad_line, table_fault, unbound_text};
+use image_list::{read_image, refusal_text};
 use std::alloc::{AllocError, Global};
 use tab_call::Registry;
-use tab_law::LawBook;
-use tab_step::{Bound, Event, Stepped, Unbound, bind, step_into};
-use tab_text::{ParseError, Table, parse};
+use tab_step::{Event, Stepped, Unbound, bind};
+use tab_text::{ParseError, parse};
 
 /// What is printed, and whether it is a refusal.
 #[derive(Drop)]
 struct Outcome {
     text: Vec<u8>,
     refused: bool,
+}
+
+/// Whether a character may stand between digits.
+fn is_blank(c: u8) -> bool
+    ensures { result ≡ is_blank c }
+{
+    matches!(c, b' ' | b'\t' | b'\n' | b'\r')
+}
+
+fn is_hex_digit(c: u8) -> bool
+    ensures { result ≡ is_hex_digit c }
+{
+    matches!(c, b'0'..=b'9' | b'a'..=b'f' | b'A'..=b'F')
 }
 
 fn refusal(text: Vec<u8>) -> Outcome
@@ -32,83 +44,25 @@ fn refusal(text: Vec<u8>) -> Outcome
     }
 }
 
-/// The name of a state, if the table has one.
-fn state_name(table: &Table, state: u8) -> Option<&[u8]>
-    ensures { option_map (λ name. name.now) result ≡ slice_get table.now.states state }
-{
-    let names = table.states().as_slice();
-    let place = state as usize;
-    if place < names.len() {
-        Some(names[place].as_slice())
-    } else {
-        None
-    }
-}
-
-fn put_state(out: &mut Vec<u8>, table: &Table, state: u8) -> Result<(), AllocError>
-    ensures { OnOk result (out.new.items ≡ out.old.items ++ state_text table.now state) }
-{
-    put_name(out, b" ", state_name(table, state), u64::from(state))
-}
-
-fn put_row(out: &mut Vec<u8>, row: Option<u16>) -> Result<(), AllocError>
-    ensures { OnOk result (out.new.items ≡ out.old.items ++ row_text row) }
-{
-    match row {
-        Some(row) => put_number(out, b" row ", u64::from(row)),
-        None => out.extend_from_slice(b" row -"),
-    }
-}
-
-/// The name of a kind of events in the book.
-fn kind_name(book: &LawBook, kind: u8) -> &[u8]
-    ensures { result.now ≡ kind_text book.now kind }
-{
-    let place = kind as usize;
-    if place < book.kinds().len() {
-        book.kinds().at(place).name.as_slice()
-    } else {
-        b""
-    }
-}
-
-/// A step: the kind, the states before and after it, the row; and a line for each deed.
-fn put_step(
-    out: &mut Vec<u8>,
-    table: &Table,
-    book: &LawBook,
-    before: u8,
-    event: &Event,
-    step: &Stepped,
-) -> Result<(), AllocError>
-    ensures { OnOk result (out.new.items ≡ out.old.items ++ step_text table.now book.now before event.now step.now) }
-{
-    out.extend_from_slice(kind_name(book, event.kind))?;
-    put_state(out, table, before)?;
-    put_state(out, table, step.after.state)?;
-    put_row(out, step.row)?;
-    out.extend_from_slice(b"\n")?;
-    put_deeds(out, step.deeds.as_slice())
-}
-
-/// The text of a bound table's run on events. Each step is printed when it is taken, so room for one is enough.
+/// The text of a machine's run on events. Each step is printed when it is taken, so room for one is enough.
 fn run_text(
     alloc: Global,
-    bound: &Bound,
+    rules: Rules<'_>,
     registry: &Registry,
     events: &[Event],
 ) -> Result<Vec<u8>, AllocError>
-    requires { IsBoundTo bound.now registry.now.book }
-    ensures { IfOk result (λ text. RunText bound.now.table registry.now.book events.now text.items) }
+    requires { IsReady registry.now.book rules }
+    ensures { IfOk result (λ text. RunText (StepBy registry.now.book rules.entry) (names_of rules.entry) registry.now.book events.now text.items) }
 {
     let mut text = Vec::new(alloc);
     let mut room = Stepped::new();
     let mut machine = room.after;
+    let names = names_of(rules);
     for event in events {
-        step_into(bound, registry, &machine, event, &mut room);
+        step_by(rules, registry, &machine, event, &mut room);
         put_step(
             &mut text,
-            bound.table(),
+            names,
             registry.laws(),
             machine.state,
             event,
@@ -119,19 +73,19 @@ fn run_text(
     Ok(text)
 }
 
-/// The walk of a bound table over the events of a text.
-fn walk_bound(
+/// The walk of a machine over the events of a text.
+fn walk_by(
     alloc: Global,
-    bound: &Bound,
+    rules: Rules<'_>,
     registry: &Registry,
     events: &[u8],
 ) -> Result<Outcome, AllocError>
-    requires { IsBoundTo bound.now registry.now.book }
-    ensures { IfOk result (λ walk. IsWalkedBound bound.now.table registry.now.book events.now walk.text.items walk.refused) }
+    requires { IsReady registry.now.book rules }
+    ensures { IfOk result (λ walk. IsRunOver (StepBy registry.now.book rules.entry) (names_of rules.entry) registry.now.book events.now walk.text.items walk.refused) }
 {
     match read_events(alloc, registry.laws(), events) {
         Ok(events) => Ok(Outcome {
-            text: run_text(alloc, bound, registry, &events)?,
+            text: run_text(alloc, rules, registry, &events)?,
             refused: false,
         }),
         Err(EventsError::NoMemory) => Err(AllocError),
@@ -159,8 +113,8 @@ fn unbound(alloc: Global, why: &Unbound) -> Result<Outcome, AllocError>
     }
 }
 
-/// The text of a walk, or of what was refused.
-fn text_of(
+/// The text of a walk of a table, or of what was refused.
+fn walk_table(
     alloc: Global,
     table: &[u8],
     registry: &Registry,
@@ -173,8 +127,51 @@ fn text_of(
         Err(error) => return unparsed(alloc, &error),
     };
     match bind(alloc, table, registry.laws()) {
-        Ok(bound) => walk_bound(alloc, &bound, registry, events),
+        Ok(bound) => walk_by(alloc, Rules::Rows(&bound), registry, events),
         Err(why) => unbound(alloc, &why),
+    }
+}
+
+/// The text of a walk of an image, or of what was refused.
+fn walk_image(
+    alloc: Global,
+    image: &[u8],
+    registry: &Registry,
+    events: &[u8],
+) -> Result<Outcome, AllocError>
+    ensures { IfOk result (λ walk. IsImageWalked registry.now.book image.now events.now walk.text.items walk.refused) }
+{
+    match read_image(alloc, image, registry.laws()) {
+        Ok(program) => walk_by(alloc, Rules::Image(&program), registry, events),
+        Err(error) => Ok(refusal(refusal_text(alloc, error)?)),
+    }
+}
+
+/// Whether a text is that of an image: its first character that is no blank is a hexadecimal digit.
+fn is_image(text: &[u8]) -> bool
+    ensures { result ≡ is_image text.now }
+{
+    for c in text {
+        if !is_blank(*c) {
+            return is_hex_digit(*c);
+        }
+    }
+    false
+}
+
+/// The text of a walk, or of what was refused.
+fn text_of(
+    alloc: Global,
+    input: &[u8],
+    registry: &Registry,
+    events: &[u8],
+) -> Result<Outcome, AllocError>
+    ensures { IfOk result (λ walk. IsWalkedOf (is_image input.now) registry.now.book input.now events.now walk.text.items walk.refused) }
+{
+    if is_image(input) {
+        walk_image(alloc, input, registry, events)
+    } else {
+        walk_table(alloc, input, registry, events)
     }
 }
 
@@ -190,11 +187,13 @@ fn walk_status(refused: bool) -> Status
 }
 
 /// Steps a table over events from state 0 with all registers 0, by the callbacks of a registry, and prints each step: the kind, the states before and
-/// after it, the row, and a line for each deed.
+/// after it, the row, and a line for each deed. The table is its text, or its image in hexadecimal digits: that is what a text is whose first character
+/// that is no blank is a digit.
 ///
 /// A line of `events` is `KIND N=V ..`: a kind of the registry, and facts by number. Refused, with status `Refused`, are a
 /// table with a fault (`line N fault C`), one that names what the registry lacks (`unbound NAME`), and a line of another
-/// form (`bad line N`), each with what was wanted; nothing is stepped then.
+/// form (`bad line N`), each with what was wanted, an image that isn't digits, two for each octet (`bad hex`), and one with a fault
+/// (`at N fault C`); nothing is stepped then.
 pub fn walk_on<O: ByteSink>(
     alloc: Global,
     table: &[u8],

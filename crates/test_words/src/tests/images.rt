@@ -1,5 +1,6 @@
-//! What assembling a table's text prints.
+//! What assembling a table's text prints, and listing an image's.
 use bench_device::{Counting, Status};
+use image_list::list_on;
 use image_text::assemble_on;
 use role_tables::all_laws;
 use std::test::Fail;
@@ -53,6 +54,58 @@ fn a_text_is_assembled_or_its_first_refusal_told(rt: HostRuntime) -> Result<(), 
         ),
     ] {
         assert!(rt; assembles(&laws, &rt, table, printed, status));
+    }
+    Ok(())
+}
+
+const LISTING: &str = "Wait CCA-I 0
+0 ROW 0
+3 GUARD mine 19
+9 GUARD success 19
+15 ACT Grant-Service
+17 GOTO Done
+19 ROW 1
+22 ACT End-Service
+24 GOTO Wait
+26 NONE
+";
+
+/// The image above in format 1, with digits of both cases.
+const FORMAT_1: &str = "4454493100020001000200020002
+0457616974 04446F6E65 054343412D49 046D696E65 0773756363657373 0d4772616e742d53657276696365 0b456e642d53657276696365
+0000ffff0017 010000 0200000f 0201000f 0300 0401 010001 0301 0400 05";
+
+const LISTING_1: &str = "Wait CCA-I 0
+0 ROW 0
+3 GUARD mine 15
+7 GUARD success 15
+11 ACT Grant-Service
+13 GOTO Done
+15 ROW 1
+18 ACT End-Service
+20 GOTO Wait
+22 NONE
+";
+
+/// Whether listing an image prints this, and ends so.
+fn lists(laws: &LawBook, rt: &HostRuntime, image: &str, printed: &str, wanted: Status) -> bool {
+    let mut sink = Counting::new(Vec::new(rt.alloc()));
+    let status = list_on(rt.alloc(), image.as_bytes(), laws, &mut sink);
+    sink.device.as_slice() == printed.as_bytes() && status == wanted
+}
+
+#[test]
+fn an_image_is_listed_or_its_first_refusal_told(rt: HostRuntime) -> Result<(), Fail> {
+    let laws = all_laws(rt.alloc())?;
+    for (image, printed, status) in [
+        (IMAGE, LISTING, Status::Done),
+        (FORMAT_1, LISTING_1, Status::Done),
+        ("4454493", "bad hex\n", Status::Refused),
+        ("4454493x", "bad hex\n", Status::Refused),
+        ("", "at 0 fault 2\n", Status::Refused),
+        ("44544933", "at 0 fault 1\n", Status::Refused),
+    ] {
+        assert!(rt; lists(&laws, &rt, image, printed, status));
     }
     Ok(())
 }

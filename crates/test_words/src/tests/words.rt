@@ -113,6 +113,18 @@ fn words_ask_for_a_text_or_an_input_or_are_refused(rt: HostRuntime) -> Result<()
             1,
             "line 1 fault 1\n  wanted: a header: two blanks, then the words State, Event, Action and Next\n",
         ),
+        (
+            ["dbench", "list", "--help"].as_slice(),
+            0,
+            "Usage: dbench list",
+        ),
+        (["dbench", "list", "a", "b"].as_slice(), 2, "Usage: dbench"),
+        (
+            ["dbench", "list", "no/such.img"].as_slice(),
+            3,
+            "read fault: no/such.img can't be opened\n",
+        ),
+        (["dbench", "list"].as_slice(), 1, "bad hex\n"),
         (["dbench", "draw", "--help"].as_slice(), 0, "dot -Tsvg"),
         (["dbench", "draw", "a", "b"].as_slice(), 2, "Usage: dbench"),
         (

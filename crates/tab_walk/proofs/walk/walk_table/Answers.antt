@@ -1,6 +1,6 @@
 use Rattle.std.proofs.Common.{◌∙◌}
 use Rattle.tab_walk.proofs.WalkLemmas.{IfOk-map, IsWalked-bound, IsWalked-unbound, IsWalked-unparsed}
-use Rattle.tab_walk.proofs.walk.text_of.Goals as goal
+use Rattle.tab_walk.proofs.walk.walk_table.Goals as goal
 
 -- the table's text has a fault
 pub returns-in-Err : goal.returns-in-Err
@@ -13,8 +13,8 @@ pub returns-in-Ok-bind : goal.returns-in-Ok-bind
 returns-in-Ok-bind g c =
     let same = c.in-Ok-bind.ensures.table ∙ c.in-Ok.ensures.table in
     let found = rw (c.in-Ok.ensures.table, c.laws.ensures) at c.in-Ok-bind.ensures.found in
-    IfOk-map c.walk_bound.result _ _ (λ walk is. IsWalked-bound c.args.registry.now.book c.args.table.now c.args.events.now walk.text.items walk.refused _ same c.in-Ok.ensures.sound found is)
-    c.walk_bound.ensures
+    IfOk-map c.walk_by.result _ _ (λ walk is. IsWalked-bound c.args.registry.now.book c.args.table.now c.args.events.now walk.text.items walk.refused _ same c.in-Ok.ensures.sound found is)
+    c.walk_by.ensures
 
 -- the book lacks a name
 pub returns-in-Err-bind : goal.returns-in-Err-bind
