@@ -1,0 +1,97 @@
+-- The machines of a log: which are there, their numbers, their moves, and where each stands.
+use Rattle.std.specs.Prelude.{ℕ, ◌==◌, Bool, true, false, List, [], ◌∷◌, ◌++◌, map, filter, flat_map, position, length, Option, Some, None, option_map, option_to_list, unwrap_or, slice_get, slice_index, slice_set, if◌then◌else◌}
+use Rattle.base_codes.specs.declared.session_register.TheConstants.{MACHINE}
+use Rattle.tab_step.specs.declared.machine.MachineState.{MachineState}
+use Rattle.bench_item.specs.Entries.{Entry, Handled, TooBusy, Stale, Move, Moved}
+use Rattle.bench_item.specs.Keys.{Node, home, is_same_key, key_of, number_at, peers_in, place_of, shard_of}
+use Rattle.bench_item.specs.Posts.{no_facts}
+use Rattle.bench_item.specs.declared.item.Condition.{Condition}
+use Rattle.bench_item.specs.declared.item.Item.{Item}
+use Rattle.bench_item.specs.declared.item.Item.TheVariants.{ToMachine}
+use Rattle.bench_item.specs.declared.item.MachineItem.{MachineItem}
+use Rattle.bench_item.specs.declared.key.Key.{Key}
+use Rattle.bench_item.specs.declared.key.Role.TheVariants.{Peer}
+use Rattle.bench_item.specs.declared.step.Step.{Step}
+use Rattle.bench_item.specs.declared.step.Step.TheVariants.{Work}
+use Rattle.bench_spec.specs.Past.{distinct}
+
+-- the event that an item carries to a machine, if it is one that does
+abbrev pub machine_item : Item → List MachineItem
+machine_item (ToMachine item) = item ∷ []
+machine_item item = []
+
+-- whether a step is work of the shard
+abbrev pub is_work : ℕ → Step → Bool
+is_work shard (Work s) = s == shard
+is_work shard step = false
+
+abbrev pub is_busy : Handled → Bool
+is_busy TooBusy = true
+is_busy handled = false
+
+-- the item that a shard handled in an entry, where its session found room
+abbrev pub taken_in : Entry → List MachineItem
+taken_in e = by e.handled
+  where
+    by : Option Handled → List MachineItem
+    by None = []
+    by (Some handled) = if is_busy handled then [] else flat_map machine_item (option_to_list e.item)
+
+-- the machine that an entry gives a shard's directory, unless it is there
+abbrev pub keys_in : ℕ → Entry → List Key
+keys_in shard e = if is_work shard e.step then map (λ item. item.key) (taken_in e) else []
+
+-- the machines of a shard: its configured peers in their order, and then those whose items it handled, by the first of these
+abbrev pub directory : Node → ℕ → List Entry → List Key
+directory node shard log = distinct is_same_key (map (key_of Peer) (peers_in node shard) ++ flat_map (keys_in shard) log)
+
+-- the place of a machine in its shard's directory, if it is there
+abbrev pub place_in : Node → List Entry → Key → Option ℕ
+place_in node log key = position (is_same_key key) (directory node (home node.shards key.name) log)
+
+-- the number of a machine, if it is there
+abbrev pub number_of : Node → List Entry → Key → Option ℕ
+number_of node log key = option_map (number_at (home node.shards key.name)) (place_in node log key)
+
+-- the number that a machine has, or gets where it is the next
+abbrev pub number_for : Node → List Entry → Key → ℕ
+number_for node log key =
+    unwrap_or (number_of node log key) (number_at (home node.shards key.name) (length (directory node (home node.shards key.name) log)))
+
+-- the machine of a number, if there is one
+abbrev pub key_numbered : Node → List Entry → ℕ → Option Key
+key_numbered node log number = slice_get (directory node (shard_of number) log) (place_of number)
+
+-- the move of a machine in an entry: stale and busy ones have none
+abbrev pub moved_in : Entry → List Moved
+moved_in e = by e.handled
+  where
+    by : Option Handled → List Moved
+    by (Some (Move moved)) = moved ∷ []
+    by handled = []
+
+-- the moves of the machine of a number
+abbrev pub moves_of : ℕ → List Entry → List Moved
+moves_of machine log = flat_map (λ e. filter (λ moved. moved.machine == machine) (moved_in e)) log
+
+-- a machine at its start: the first state of its table, and its number in its register
+abbrev pub start : ℕ → MachineState
+start machine = record { state = 0; regs = slice_set no_facts MACHINE machine }
+
+-- the machine after these moves
+abbrev pub state_after : MachineState → List Moved → MachineState
+state_after state [] = state
+state_after state (moved ∷ moves) = state_after moved.after moves
+
+-- where the machine of a number stands
+abbrev pub state_at : List Entry → ℕ → MachineState
+state_at log machine = state_after (start machine) (moves_of machine log)
+
+-- where the machine of a key stands, if it is there
+abbrev pub state_of : Node → List Entry → Key → Option MachineState
+state_of node log key = option_map (state_at log) (number_of node log key)
+
+-- whether an item's condition holds in a machine
+abbrev pub holds : Option Condition → MachineState → Bool
+holds None state = true
+holds (Some condition) state = slice_index state.regs condition.register == condition.value
