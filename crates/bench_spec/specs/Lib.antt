@@ -3,3 +3,9 @@ pub mod Settings
 pub mod Lines
 pub mod Machines
 pub mod Items
+pub mod Booked
+pub mod Sent
+pub mod Refusal
+pub mod Legal
+pub mod World
+pub mod Merged

@@ -70,9 +70,12 @@ moved_in e = by e.handled
     by (Some (Move moved)) = moved ∷ []
     by handled = []
 
--- the moves of the machine of a number
-abbrev pub moves_of : ℕ → List Entry → List Moved
-moves_of machine log = flat_map (λ e. filter (λ moved. moved.machine == machine) (moved_in e)) log
+-- the moves of a machine: those that items with its key led to
+abbrev pub moves_in : Key → Entry → List Moved
+moves_in key e = flat_map (λ item. if is_same_key key item.key then moved_in e else []) (flat_map machine_item (option_to_list e.item))
+
+abbrev pub moves_of : List Entry → Key → List Moved
+moves_of log key = flat_map (moves_in key) log
 
 -- a machine at its start: the first state of its table, and its number in its register
 abbrev pub start : ℕ → MachineState
@@ -83,13 +86,13 @@ abbrev pub state_after : MachineState → List Moved → MachineState
 state_after state [] = state
 state_after state (moved ∷ moves) = state_after moved.after moves
 
--- where the machine of a number stands
-abbrev pub state_at : List Entry → ℕ → MachineState
-state_at log machine = state_after (start machine) (moves_of machine log)
+-- where a machine stands: at its start, or as its last move left it
+abbrev pub state_at : Node → List Entry → Key → MachineState
+state_at node log key = state_after (start (number_for node log key)) (moves_of log key)
 
--- where the machine of a key stands, if it is there
+-- the same, if the machine is there
 abbrev pub state_of : Node → List Entry → Key → Option MachineState
-state_of node log key = option_map (state_at log) (number_of node log key)
+state_of node log key = option_map (λ number. state_at node log key) (number_of node log key)
 
 -- whether an item's condition holds in a machine
 abbrev pub holds : Option Condition → MachineState → Bool
