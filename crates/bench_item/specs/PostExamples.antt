@@ -1,8 +1,6 @@
 -- Posts with known values: a wrong definition doesn't pass these lines.
-use Rattle.std.specs.Prelude.{◌≡◌, ℕ, List, [], ◌∷◌, ◌++◌, replicate, Some, None, codes, refl}
-use Rattle.base_codes.specs.DeedCodes.{coded}
-use Rattle.bench_item.specs.declared.key.Role.TheVariants.{Peer, Client, Server}
-use Rattle.bench_item.specs.Keys.{Node, home, key_of, peer_numbered}
+use Rattle.std.specs.Prelude.{◌≡◌, codes, refl}
+use Rattle.bench_item.specs.Keys.{home}
 
 -- `c.example` has the octet sum 893: of two shards it is in the second, and its machine is the first there
 pub peer_of_shard_1 : home 2 (codes "c.example") ≡ 1

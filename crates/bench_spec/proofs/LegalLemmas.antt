@@ -1,8 +1,7 @@
 -- Longer and shorter legal logs.
 use Rattle.std.proofs.Common.{List, [], ◌∷◌, ◌++◌}
-use Rattle.acct_book.specs.Laws.{EachAfter}
 use Rattle.bench_item.specs.Entries.{Entry}
-use Rattle.bench_spec.specs.Legal.{FrontsAreLegal, GoesBack, GoesOn, IsLegal, MayFollow}
+use Rattle.bench_spec.specs.Legal.{IsLegal, MayFollow}
 use Rattle.bench_spec.specs.Settings.{Settings}
 use Rattle.bench_spec.proofs.AfterLemmas.{EachAfter-front, EachAfter-last, EachAfter-snoc}
 

@@ -1,7 +1,6 @@
 -- What the entries of a log booked, and what the account book must answer them.
-use Rattle.std.specs.Prelude.{◌≡◌, ℕ, ◌==◌, Bool, List, [], ◌∷◌, map, filter, filter_map, flat_map, length, replicate, zip, Option, Some, None, option_map, option_and_then, option_to_list, slice_get}
+use Rattle.std.specs.Prelude.{◌==◌, Bool, List, [], ◌∷◌, map, filter, filter_map, flat_map, length, replicate, zip, Option, Some, None, option_map, option_and_then, option_to_list, slice_get}
 use Rattle.std.specs.List.{list_any}
-use Rattle.std.specs.Option.{option_map_or}
 use Rattle.acct_book.specs.Book.{Book, after, outcome_of, quote_of}
 use Rattle.acct_book.specs.Slots.{quotes_of}
 use Rattle.acct_totals.specs.declared.op.Booked.{Booked}

@@ -16,7 +16,7 @@ use Rattle.bench_item.specs.declared.key.Role.TheVariants.{Peer, Client, Server}
 use Rattle.bench_item.specs.declared.source.Source.{Source}
 use Rattle.bench_item.specs.declared.source.Source.TheVariants.{Line, Shard, Desk, Clock}
 use Rattle.bench_item.specs.declared.step.Step.{Step}
-use Rattle.bench_item.specs.declared.step.Step.TheVariants.{Told, Fired, Lift, Drop, Work}
+use Rattle.bench_item.specs.declared.step.Step.TheVariants.{Told, Fired, Lift, Drop}
 use Rattle.bench_spec.specs.Lines.{line_posts}
 use Rattle.bench_spec.specs.Machines.{is_work, machine_item}
 use Rattle.bench_spec.specs.Settings.{Settings}

@@ -1,18 +1,16 @@
 -- Which logs are right.
-use Rattle.std.specs.Prelude.{◌≡◌, ℕ, nat_le, ◌&&◌, Bool, true, List, [], ◌∷◌, ◌++◌, flat_map, length, IsTrue, IsFalse, is_none, is_some, Option, Some, None, option_map, option_to_list}
+use Rattle.std.specs.Prelude.{◌≡◌, nat_le, ◌&&◌, Bool, List, [], ◌∷◌, ◌++◌, flat_map, length, IsTrue, IsFalse, is_none, is_some, Option, Some, None, option_map, option_to_list}
 use Rattle.acct_book.specs.Laws.{EachAfter, IsAnswered}
 use Rattle.tab_law.specs.Books.{NamedPermits}
 use Rattle.tab_step.specs.Moves.{MovesBy, row_taken}
 use Rattle.tab_step.specs.declared.machine.MachineState.{MachineState}
 use Rattle.tab_text.specs.Contents.{Contents}
-use Rattle.tab_text.specs.declared.row.Row.{Row}
 use Rattle.bench_item.specs.Entries.{Entry, Handled, TooBusy, Stale, Move, Moved}
 use Rattle.bench_item.specs.Keys.{home}
 use Rattle.bench_item.specs.declared.item.Item.{Item}
 use Rattle.bench_item.specs.declared.item.Item.TheVariants.{ToMachine}
 use Rattle.bench_item.specs.declared.item.MachineItem.{MachineItem}
 use Rattle.bench_item.specs.declared.key.Key.{Key}
-use Rattle.bench_item.specs.declared.key.Role.{Role}
 use Rattle.bench_item.specs.declared.limit.TheConstants.{MAX_MACHINES}
 use Rattle.bench_item.specs.declared.step.Step.{Step}
 use Rattle.bench_item.specs.declared.step.Step.TheVariants.{Fired, Lift, Drop, Work}

@@ -9,3 +9,5 @@ pub mod Refusal
 pub mod Legal
 pub mod World
 pub mod Merged
+pub mod ExampleLog
+pub mod Examples

@@ -1,5 +1,5 @@
 -- The lines of a log: which were opened, what happened to each, and where it stands.
-use Rattle.std.specs.Prelude.{ℕ, ◌+◌, ◌-◌, ◌==◌, ◌&&◌, ◌||◌, not, nat_le, nat_lt, Bool, true, false, List, [], ◌∷◌, length, flat_map, Option, Some, None, option_map, option_and_then, option_to_list, slice_get, if◌then◌else◌}
+use Rattle.std.specs.Prelude.{ℕ, ◌-◌, ◌==◌, ◌&&◌, Bool, true, false, List, [], ◌∷◌, length, flat_map, Option, None, option_map, option_to_list, slice_get, if◌then◌else◌}
 use Rattle.std.specs.List.{list_any}
 use Rattle.std.specs.Option.{option_map_or}
 use Rattle.base_codes.specs.DeedCodes.{number_of}

@@ -1,15 +1,13 @@
 -- Parts that were kept side by side, merged to one log by their stamps.
-use Rattle.std.specs.Prelude.{◌≡◌, ◌+◌, ℕ, ◌==◌, ◌&&◌, ◌%◌, nat_lt, Bool, true, false, List, [], ◌∷◌, ◌++◌, map, filter, flat_map, length, take, unwrap_or, Option, Some, None, option_to_list, All, AllPairs, ◌≢◌}
+use Rattle.std.specs.Prelude.{◌≡◌, ◌+◌, ℕ, ◌==◌, ◌%◌, nat_lt, Bool, true, false, List, [], ◌++◌, map, filter, flat_map, length, take, unwrap_or, Option, Some, None, All, AllPairs, ◌≢◌}
 use Rattle.std.specs.List.{range_with_len}
 use Rattle.std.specs.List.Sorted.{IsStrictlyIncreasing}
 use Rattle.acct_totals.specs.Amounts.{account_of}
 use Rattle.acct_totals.specs.declared.op.Booked.{Booked}
-use Rattle.tab_law.specs.declared.limits.TheConstants.{PLACES}
 use Rattle.tab_step.specs.declared.machine.MachineState.{MachineState}
 use Rattle.bench_item.specs.Entries.{Entry}
 use Rattle.bench_item.specs.Keys.{Node, home}
 use Rattle.bench_item.specs.Posts.{no_facts}
-use Rattle.bench_item.specs.Steps.{is_same_source}
 use Rattle.bench_item.specs.declared.item.Item.{Item}
 use Rattle.bench_item.specs.declared.item.Item.TheVariants.{ToMachine, ToLine, Dial, Undial, Arm, Disarm}
 use Rattle.bench_item.specs.declared.key.Key.{Key}

@@ -1,10 +1,9 @@
 -- Which steps are refused, and why.
-use Rattle.std.specs.Prelude.{ℕ, ◌+◌, ◌-◌, ◌==◌, ◌&&◌, ◌||◌, not, nat_le, nat_lt, Bool, true, false, List, [], ◌∷◌, find, length, unwrap_or, slice_get, Option, Some, None, option_map, codes}
+use Rattle.std.specs.Prelude.{ℕ, ◌+◌, ◌==◌, ◌&&◌, ◌||◌, not, nat_le, nat_lt, Bool, true, false, List, [], ◌∷◌, find, length, unwrap_or, slice_get, Option, Some, option_map, codes}
 use Rattle.std.specs.List.{list_any}
 use Rattle.std.specs.Option.{option_map_or}
 use Rattle.std.specs.Str.{bytes_eq, is_utf8}
 use Rattle.tab_step.specs.Moves.{is_kind_of}
-use Rattle.tab_step.specs.declared.machine.Event.{Event}
 use Rattle.bench_item.specs.Entries.{Entry}
 use Rattle.bench_item.specs.Keys.{home, shard_of}
 use Rattle.bench_item.specs.declared.item.Item.{Item}

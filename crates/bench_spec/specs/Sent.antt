@@ -1,5 +1,5 @@
 -- What a line has sent.
-use Rattle.std.specs.Prelude.{ℕ, Bool, true, false, List, [], Option, Some, None, if◌then◌else◌}
+use Rattle.std.specs.Prelude.{ℕ, List, [], Option, if◌then◌else◌}
 use Rattle.std.specs.Option.{option_map_or, option_or}
 use Rattle.charge_message.specs.Messages.{request_by, answer_by}
 use Rattle.dia_command.specs.declared.command.Command.{Command}
@@ -10,7 +10,7 @@ use Rattle.bench_item.specs.Entries.{Entry}
 use Rattle.bench_item.specs.declared.item.LineItem.{LineItem}
 use Rattle.bench_spec.specs.Lines.{is_closed, line_steps, opening_of}
 use Rattle.bench_spec.specs.Past.{flat_map_after}
-use Rattle.bench_spec.specs.Settings.{Settings, Opening, LineStep, Acknowledged, Received, Gone, Delivered, Undialled}
+use Rattle.bench_spec.specs.Settings.{Settings, Opening, LineStep, Received, Delivered}
 
 -- the message of a deed: of a peer's machine (RFC 6733 section 5), or of credit control (RFC 8506 section 3)
 abbrev pub command_of : Identity → LineItem → Option Command
