@@ -1,2 +1,3 @@
 pub mod AfterLemmas
 pub mod LegalLemmas
+pub mod BookLemmas

@@ -1,5 +1,6 @@
 -- Which logs are right.
 use Rattle.std.specs.Prelude.{◌≡◌, nat_le, ◌&&◌, Bool, List, [], ◌∷◌, ◌++◌, flat_map, length, IsTrue, IsFalse, is_none, is_some, Option, Some, None, option_map, option_to_list}
+use Rattle.acct_book.specs.Book.{NeverOver}
 use Rattle.acct_book.specs.Laws.{EachAfter, IsAnswered}
 use Rattle.tab_law.specs.Books.{NamedPermits}
 use Rattle.tab_step.specs.Moves.{MovesBy, row_taken}
@@ -110,3 +111,11 @@ GoesBack =
 -- and each front of a legal log is legal
 abbrev pub FrontsAreLegal : Type 0
 FrontsAreLegal = (settings : Settings) (log rest : List Entry) → IsLegal settings (log ++ rest) → IsLegal settings log
+
+-- in a legal log the account book answers as it is to: each outcome is the one that it allows after those before it,
+abbrev pub BookIsAnswered : Type 0
+BookIsAnswered = (settings : Settings) (log : List Entry) → IsLegal settings log → IsBookAnswered settings log
+
+-- and of no account is more reserved and debited than was given
+abbrev pub NoneIsOver : Type 0
+NoneIsOver = (settings : Settings) (log : List Entry) → IsLegal settings log → NeverOver (book_at settings log)

@@ -1,5 +1,5 @@
 //! Laws of legal logs, over all settings and logs.
-ghost use Rattle.bench_spec.specs.Legal.{FrontsAreLegal, GoesBack, GoesOn};
+ghost use Rattle.bench_spec.specs.Legal.{BookIsAnswered, FrontsAreLegal, GoesBack, GoesOn, NoneIsOver};
 
 /// One more entry that may follow keeps a log legal.
 pub fn legal_goes_on()
@@ -14,4 +14,14 @@ pub fn legal_goes_back()
 /// Each front of a legal log is legal.
 pub fn fronts_are_legal()
     ensures { FrontsAreLegal }
+{}
+
+/// In a legal log each outcome of a deed of the account book is the one that the book allows after those before it.
+pub fn legal_book_is_answered()
+    ensures { BookIsAnswered }
+{}
+
+/// In a legal log of no account is more reserved and debited than was given (RFC 8506 section 5).
+pub fn legal_never_over()
+    ensures { NoneIsOver }
 {}
