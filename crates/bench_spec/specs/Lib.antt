@@ -11,3 +11,4 @@ pub mod World
 pub mod Merged
 pub mod ExampleLog
 pub mod Examples
+pub mod Taken

@@ -3,6 +3,7 @@ use Rattle.std.specs.Prelude.{ℕ, ◌==◌, Bool, true, false, List, [], ◌∷
 use Rattle.base_codes.specs.declared.session_register.TheConstants.{MACHINE}
 use Rattle.tab_step.specs.declared.machine.MachineState.{MachineState}
 use Rattle.bench_item.specs.Entries.{Entry, Handled, TooBusy, Move, Moved}
+use Rattle.std.specs.List.{position_or_len}
 use Rattle.bench_item.specs.Keys.{Node, home, is_same_key, key_of, number_at, peers_in, place_of, shard_of}
 use Rattle.bench_item.specs.Posts.{no_facts}
 use Rattle.bench_item.specs.declared.item.Condition.{Condition}
@@ -47,16 +48,16 @@ directory node shard log = distinct is_same_key (map (key_of Peer) (peers_in nod
 
 -- the place of a machine in its shard's directory, if it is there
 abbrev pub place_in : Node → List Entry → Key → Option ℕ
-place_in node log key = position (is_same_key key) (directory node (home node.shards key.name) log)
+place_in node log key = position (λ k. is_same_key k key) (directory node (home node.shards key.name) log)
 
 -- the number of a machine, if it is there
 abbrev pub number_of : Node → List Entry → Key → Option ℕ
 number_of node log key = option_map (number_at (home node.shards key.name)) (place_in node log key)
 
--- the number that a machine has, or gets where it is the next
+-- the number that a machine has, or gets where it is the next: the first place of its key, or the one behind all
 abbrev pub number_for : Node → List Entry → Key → ℕ
 number_for node log key =
-    unwrap_or (number_of node log key) (number_at (home node.shards key.name) (length (directory node (home node.shards key.name) log)))
+    number_at (home node.shards key.name) (position_or_len (λ k. is_same_key k key) (directory node (home node.shards key.name) log))
 
 -- the machine of a number, if there is one
 abbrev pub key_numbered : Node → List Entry → ℕ → Option Key
