@@ -18,7 +18,7 @@ use Rattle.bench_item.specs.declared.source.Source.TheVariants.{Line, Shard, Des
 use Rattle.bench_item.specs.declared.step.Step.{Step}
 use Rattle.bench_item.specs.declared.step.Step.TheVariants.{Told, Fired, Lift, Drop}
 use Rattle.bench_spec.specs.Lines.{line_posts}
-use Rattle.bench_spec.specs.Machines.{is_work, machine_item}
+use Rattle.bench_spec.specs.Machines.{is_for, is_work, machine_item}
 use Rattle.bench_spec.specs.Settings.{Settings}
 
 -- what a desk tells a machine
@@ -84,10 +84,6 @@ lifted log source = flat_map (λ e. if is_lift source e.step then option_to_list
 
 abbrev pub dropped : List Entry → Source → List Item
 dropped log source = flat_map (λ e. if is_drop_from source e.step then option_to_list e.item else []) log
-
--- whether the item is for a machine of the shard
-abbrev pub is_for : Node → ℕ → MachineItem → Bool
-is_for node shard item = home node.shards item.key.name == shard
 
 -- what came to a shard, and what it handled
 abbrev pub arrived : Node → List Entry → ℕ → List MachineItem

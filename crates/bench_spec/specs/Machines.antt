@@ -1,5 +1,5 @@
 -- The machines of a log: which are there, their numbers, their moves, and where each stands.
-use Rattle.std.specs.Prelude.{ℕ, ◌==◌, Bool, true, false, List, [], ◌∷◌, ◌++◌, map, flat_map, position, length, Option, Some, None, option_map, option_to_list, unwrap_or, slice_get, slice_index, slice_set, if◌then◌else◌}
+use Rattle.std.specs.Prelude.{ℕ, ◌==◌, Bool, true, false, List, [], ◌∷◌, ◌++◌, map, filter, flat_map, position, length, Option, Some, None, option_map, option_to_list, unwrap_or, slice_get, slice_index, slice_set, if◌then◌else◌}
 use Rattle.base_codes.specs.declared.session_register.TheConstants.{MACHINE}
 use Rattle.tab_step.specs.declared.machine.MachineState.{MachineState}
 use Rattle.bench_item.specs.Entries.{Entry, Handled, TooBusy, Move, Moved}
@@ -38,13 +38,17 @@ taken_in e = by e.handled
     by None = []
     by (Some handled) = if is_busy handled then [] else flat_map machine_item (option_to_list e.item)
 
--- the machine that an entry gives a shard's directory, unless it is there
-abbrev pub keys_in : ℕ → Entry → List Key
-keys_in shard e = if is_work shard e.step then map (λ item. item.key) (taken_in e) else []
+-- whether an item is for a machine of the shard
+abbrev pub is_for : Node → ℕ → MachineItem → Bool
+is_for node shard item = home node.shards item.key.name == shard
 
--- the machines of a shard: its configured peers in their order, and then those whose items it handled, by the first of these
+-- the machine of a shard that an entry brings into its directory, unless it is there
+abbrev pub keys_in : Node → ℕ → Entry → List Key
+keys_in node shard e = map (λ item. item.key) (filter (is_for node shard) (taken_in e))
+
+-- the machines of a shard: its configured peers in their order, and then those whose items were handled, by the first of these
 abbrev pub directory : Node → ℕ → List Entry → List Key
-directory node shard log = distinct is_same_key (map (key_of Peer) (peers_in node shard) ++ flat_map (keys_in shard) log)
+directory node shard log = distinct is_same_key (map (key_of Peer) (peers_in node shard) ++ flat_map (keys_in node shard) log)
 
 -- the place of a machine in its shard's directory, if it is there
 abbrev pub place_in : Node → List Entry → Key → Option ℕ

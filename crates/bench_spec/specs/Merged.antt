@@ -16,8 +16,8 @@ use Rattle.bench_item.specs.declared.source.Source.TheVariants.{Line, Shard, Des
 use Rattle.bench_item.specs.declared.step.Step.{Step}
 use Rattle.bench_item.specs.declared.step.Step.TheVariants.{Joined, Dialled, Came, Lost, Told, Fired, Lift, Drop, Work}
 use Rattle.bench_spec.specs.Booked.{booked}
-use Rattle.bench_spec.specs.Items.{dropped, hand, is_drop, is_for, outbox, posts, worked}
-use Rattle.bench_spec.specs.Machines.{state_of}
+use Rattle.bench_spec.specs.Items.{dropped, hand, is_drop, outbox, posts, worked}
+use Rattle.bench_spec.specs.Machines.{is_for, state_of}
 use Rattle.bench_spec.specs.Settings.{Settings}
 
 -- an entry with the stamp that was drawn for it
