@@ -46,7 +46,7 @@ move_allowed settings past item moved next =
     (allowed_for settings.accounts (booked settings.node.laws past) (want_of settings.node.laws item moved.before) moved.deeds moved.outcomes next.outcomes)
 
 -- an entry whose item moved its machine is one of work
-abbrev entry_of : Step → Option Item → Option Handled → Entry
+abbrev pub entry_of : Step → Option Item → Option Handled → Entry
 entry_of step item handled = record { step = step; item = item; handled = handled }
 
 abbrev IsThere : Option Handled → Type 0
@@ -56,7 +56,7 @@ IsThere (Some h) = Unit {0}
 not_none : (h : Handled) → Some h ≡ None → ⊥
 not_none h same = subst IsThere same tt
 
-moves_next : (settings : Settings) (past : List Entry) (step : Step) (item : MachineItem) (moved : Moved) → HasParts settings past (entry_of step (Some (ToMachine item)) (Some (Move moved))) → MovesNext settings past item moved
+pub moves_next : (settings : Settings) (past : List Entry) (step : Step) (item : MachineItem) (moved : Moved) → HasParts settings past (entry_of step (Some (ToMachine item)) (Some (Move moved))) → MovesNext settings past item moved
 moves_next settings past Joined item moved parts = absurd (not_none (Move moved) parts.1)
 moves_next settings past (Dialled l) item moved parts = absurd (not_none (Move moved) parts.1)
 moves_next settings past (Came l p) item moved parts = absurd (not_none (Move moved) parts.1)

@@ -4,7 +4,7 @@ use Rattle.std.specs.List.{last_or}
 use Rattle.base_codes.specs.declared.session_register.TheConstants.{TIMER}
 use Rattle.tab_step.specs.declared.machine.Event.{Event}
 use Rattle.bench_item.specs.Entries.{Entry, Handled, TooBusy, Stale, Move, Moved}
-use Rattle.bench_item.specs.Keys.{Node, home}
+use Rattle.bench_item.specs.Keys.{Node}
 use Rattle.bench_item.specs.Posts.{Doer, busy_posts, event_for, no_facts, posts_of}
 use Rattle.bench_item.specs.Steps.{is_same_source}
 use Rattle.bench_item.specs.declared.item.Item.{Item}

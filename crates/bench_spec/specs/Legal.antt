@@ -119,3 +119,7 @@ BookIsAnswered = (settings : Settings) (log : List Entry) → IsLegal settings l
 -- and of no account is more reserved and debited than was given
 abbrev pub NoneIsOver : Type 0
 NoneIsOver = (settings : Settings) (log : List Entry) → IsLegal settings log → NeverOver (book_at settings log)
+
+-- and of each machine the moves are a run of its role's table, from its start
+abbrev pub EachIsRun : Type 0
+EachIsRun = (settings : Settings) (log : List Entry) → IsLegal settings log → AreRuns settings log

@@ -1,5 +1,5 @@
 -- The machines of a log: which are there, their numbers, their moves, and where each stands.
-use Rattle.std.specs.Prelude.{ℕ, ◌==◌, Bool, true, false, List, [], ◌∷◌, ◌++◌, map, filter, flat_map, position, length, Option, Some, None, option_map, option_to_list, unwrap_or, slice_get, slice_index, slice_set, if◌then◌else◌}
+use Rattle.std.specs.Prelude.{ℕ, ◌==◌, Bool, true, false, List, [], ◌∷◌, ◌++◌, map, filter, flat_map, position, Option, Some, None, option_map, option_to_list, slice_get, slice_index, slice_set, if◌then◌else◌}
 use Rattle.base_codes.specs.declared.session_register.TheConstants.{MACHINE}
 use Rattle.tab_step.specs.declared.machine.MachineState.{MachineState}
 use Rattle.bench_item.specs.Entries.{Entry, Handled, TooBusy, Move, Moved}

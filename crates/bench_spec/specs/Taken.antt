@@ -1,10 +1,10 @@
 -- What the calls of a world promise: the clauses that their contracts cite.
-use Rattle.std.specs.Prelude.{◌≡◌, ℕ, ◌<◌, Bool, false, List, [], ◌∷◌, ◌++◌, length, replicate, slice_set, Option, Some, None, unwrap_or, Result, Ok, Err}
+use Rattle.std.specs.Prelude.{◌≡◌, ℕ, Bool, false, List, [], ◌∷◌, ◌++◌, length, replicate, None, unwrap_or, Result, Ok, Err}
 use Rattle.bench_item.specs.Entries.{Entry}
 use Rattle.bench_item.specs.declared.step.Step.{Step}
 use Rattle.bench_item.specs.declared.step.StepFault.{StepFault}
 use Rattle.bench_item.specs.declared.step.StepFault.TheVariants.{NoMemory}
-use Rattle.bench_spec.specs.Legal.{IsLegal, MayFollow}
+use Rattle.bench_spec.specs.Legal.{MayFollow}
 use Rattle.bench_spec.specs.Refusal.{refusal}
 use Rattle.bench_spec.specs.Settings.{Settings}
 
