@@ -10,5 +10,6 @@ pub mod Legal
 pub mod World
 pub mod Merged
 pub mod ExampleLog
+pub mod LineExamples
 pub mod Examples
 pub mod Taken
