@@ -1,6 +1,5 @@
 -- Parts that were kept side by side, merged to one log by their stamps.
-use Rattle.std.specs.Prelude.{◌≡◌, ◌+◌, ℕ, ◌==◌, ◌%◌, nat_lt, Bool, true, false, List, [], ◌++◌, map, filter, flat_map, length, take, unwrap_or, Option, Some, None, All, AllPairs, ◌≢◌}
-use Rattle.std.specs.List.{range_with_len}
+use Rattle.std.specs.Prelude.{◌≡◌, ◌+◌, ℕ, ◌==◌, ◌%◌, nat_lt, Bool, true, false, List, [], ◌∷◌, ◌++◌, slice_index_or, map, filter, flat_map, length, take, unwrap_or, Option, Some, None, All, AllPairs, ◌≢◌}
 use Rattle.std.specs.List.Sorted.{IsStrictlyIncreasing}
 use Rattle.acct_totals.specs.Amounts.{account_of}
 use Rattle.acct_totals.specs.declared.op.Booked.{Booked}
@@ -90,13 +89,46 @@ is_fed (Lift source) = is_source_line source
 is_fed (Drop source) = is_source_line source
 is_fed step = false
 
--- the parts of a bench that ran in threads: what each part and each desk kept, what each desk was told, the list of the steps that were
+-- what a desk kept, in its order: the entries of what it told, and its looks
+pub data Kept : Type 0 where
+  Did : Stamped → Kept
+  Saw : Look → Kept
+
+abbrev pub stamp_of : Kept → ℕ
+stamp_of (Did stamped) = stamped.stamp
+stamp_of (Saw look) = look.stamp
+
+abbrev pub entries_kept : Kept → List Stamped
+entries_kept (Did stamped) = stamped ∷ []
+entries_kept (Saw look) = []
+
+abbrev pub looks_kept : Kept → List Look
+looks_kept (Did stamped) = []
+looks_kept (Saw look) = look ∷ []
+
+-- the parts of a bench that ran in threads: what each shard, the lines, the clock and each desk kept, the list of the steps that were
 -- fed, and the journal of each page
 pub record Parts : Type 0 where
-  pub kept : Part → List Stamped
-  pub looks : ℕ → List Look
+  pub shards : ℕ → List Stamped
+  pub lines : List Stamped
+  pub clock : List Stamped
+  pub desks : List (List Kept)
   pub fed : List Step
   pub journal : ℕ → List Booked
+
+-- what a desk kept, by its number
+abbrev pub desk_kept : Parts → ℕ → List Kept
+desk_kept parts desk = slice_index_or parts.desks desk []
+
+-- the entries of a part, and the looks of a desk
+abbrev pub entries_of : Parts → Part → List Stamped
+entries_of parts (OfShard shard) = parts.shards shard
+entries_of parts OfLines = parts.lines
+entries_of parts OfClock = parts.clock
+entries_of parts (OfDesk desk) = flat_map entries_kept (desk_kept parts desk)
+
+abbrev pub looks_of : Parts → ℕ → List Look
+looks_of parts desk = flat_map looks_kept (desk_kept parts desk)
 
 -- the entries of the shard that were stamped before
 abbrev pub entries_before : ℕ → List Stamped → List Entry
@@ -131,26 +163,26 @@ pub record IsRight (settings : Settings) (desk shard : ℕ) (of_shard of_desk : 
 abbrev pub IsRightAt : Settings → Parts → ℕ → Look → Type 0
 IsRightAt settings parts desk look =
     IsRight settings desk (home settings.node.shards look.key.name)
-    (entries_before look.stamp (parts.kept (OfShard (home settings.node.shards look.key.name))))
-    (entries_before look.stamp (parts.kept (OfDesk desk))) look
+    (entries_before look.stamp (parts.shards (home settings.node.shards look.key.name)))
+    (entries_before look.stamp (entries_of parts (OfDesk desk))) look
 
 -- the stamps of all looks
-abbrev pub look_stamps : Settings → Parts → List ℕ
-look_stamps settings parts = flat_map (λ desk. map (λ l. l.stamp) (parts.looks desk)) (range_with_len 0 settings.desks)
+abbrev pub look_stamps : Parts → List ℕ
+look_stamps parts = map (λ l. l.stamp) (flat_map (λ kept. flat_map looks_kept kept) parts.desks)
 
 -- the log is the entries of all parts, each in just one, in the order of their stamps, which differ and rise along each part
 pub record IsMerged (settings : Settings) (parts : Parts) (log : List Entry) : Type 0 where
   pub stamped : List Stamped
   pub entries : map (λ s. s.entry) stamped ≡ log
   pub rising : IsStrictlyIncreasing (map (λ s. s.stamp) stamped)
-  pub each_part : (part : Part) → filter (λ s. is_same_part part (part_of settings.node.shards s.entry)) stamped ≡ parts.kept part
-  -- the stamps of looks are others, and rise along each desk's
-  pub others : AllPairs (λ one other. one ≢ other) (map (λ s. s.stamp) stamped ++ look_stamps settings parts)
-  pub looks_rising : (desk : ℕ) → IsStrictlyIncreasing (map (λ l. l.stamp) (parts.looks desk))
+  pub each_part : (part : Part) → filter (λ s. is_same_part part (part_of settings.node.shards s.entry)) stamped ≡ entries_of parts part
+  -- the stamps of looks are others, and what a desk kept rises too
+  pub others : AllPairs (λ one other. one ≢ other) (map (λ s. s.stamp) stamped ++ look_stamps parts)
+  pub desks_rising : (desk : ℕ) → IsStrictlyIncreasing (map stamp_of (desk_kept parts desk))
   -- what was fed is in it once, in its order
   pub fed : filter is_fed (map (λ e. e.step) log) ≡ parts.fed
   -- each page has what was booked on its accounts
   pub pages : (page : ℕ) → filter (λ b. account_of b.op % settings.pages == page) (booked settings.node.laws log) ≡ parts.journal page
   -- nothing that a desk told is still on its way
   pub desks_done : (desk : ℕ) → (outbox settings log (Desk desk) ≡ []) × (hand log (Desk desk) ≡ [])
-  pub looks_right : (desk : ℕ) → All (IsRightAt settings parts desk) (parts.looks desk)
+  pub looks_right : (desk : ℕ) → All (IsRightAt settings parts desk) (looks_of parts desk)
