@@ -1,0 +1,30 @@
+//! The words of the running bench: who puts items out, what an item is, the steps that are taken, and what a deed posts.
+//!
+//! | File | What it has |
+//! |---|---|
+//! | `source` | who puts items out |
+//! | `key` | which machine: its role and its name |
+//! | `item` | what is on its way, and where to |
+//! | `step` | the steps, and why one is refused |
+//! | `line_state` | where a connection stands |
+//! | `limit` | every limit of the running bench |
+//!
+//! What a deed posts is a definition alone so far: `specs/Posts.antt`.
+#![tactic(auto)]
+
+mod item;
+mod key;
+mod limit;
+mod line_state;
+mod source;
+mod step;
+
+pub use item::{Condition, Item, LineItem, MachineItem};
+pub use key::{Key, Role};
+pub use limit::{
+    MAX_BREAKPOINTS, MAX_DESKS, MAX_ENTRIES, MAX_LINES, MAX_MACHINES, MAX_PAGES, MAX_PEERS,
+    MAX_SHARDS, MAX_WAITING, WORK_ROOM,
+};
+pub use line_state::LineState;
+pub use source::Source;
+pub use step::{Step, StepFault};

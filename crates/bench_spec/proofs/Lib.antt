@@ -1,0 +1,5 @@
+pub mod AfterLemmas
+pub mod LegalLemmas
+pub mod BookLemmas
+pub mod PlaceLemmas
+pub mod RunLemmas

@@ -1,0 +1,15 @@
+pub mod Past
+pub mod Settings
+pub mod Lines
+pub mod Machines
+pub mod Items
+pub mod Booked
+pub mod Sent
+pub mod Refusal
+pub mod Legal
+pub mod World
+pub mod Merged
+pub mod ExampleLog
+pub mod LineExamples
+pub mod Examples
+pub mod Taken

@@ -1,0 +1,20 @@
+//! What the running bench means: definitions over its log, and the laws on which the crates above rest.
+//!
+//! | File of `specs/` | What it has |
+//! |---|---|
+//! | `Settings` | what a bench is opened with, and what octets mean to a line |
+//! | `Lines`, `Machines`, `Items`, `Booked`, `Sent` | views of a log: each is what one entry gives, joined |
+//! | `Refusal` | why a step is refused |
+//! | `Legal` | which logs are right |
+//! | `World` | the bench at a place of its log, and breakpoints |
+//! | `Merged` | parts that were kept side by side, merged to one log |
+//!
+//! `docs/WHOLE.md` has each of them in plain words.
+#![tactic(auto)]
+
+mod law;
+
+pub use law::{
+    fronts_are_legal, legal_book_is_answered, legal_goes_back, legal_goes_on, legal_is_run,
+    legal_never_over,
+};
