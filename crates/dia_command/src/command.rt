@@ -10,15 +10,8 @@ use crate::typed::{TypedAvp, TypedAvps};
 use crate::value::{RequestType, RequestedAction};
 use dia_avp::{AvpList, Octets};
 
-// Drops a command's struct, by its fields. A derived `drop` is proved anew, field by field, at each way out of each function that
-// holds a command; this one is a call.
-macro_rules! dropped {
-    ($command:ident: $($field:ident),*) => {
-        let Self { header: _, $($field,)* rest } = $command;
-    };
-}
-
 /// A Capabilities-Exchange-Request (RFC 6733 section 5.3.1). `rest` has the AVPs that no field took, in order.
+#[derive(Drop)]
 pub struct CapabilitiesExchangeRequest {
     pub header: Header,
     pub origin_host: TypedAvp<Octets>,
@@ -30,15 +23,8 @@ pub struct CapabilitiesExchangeRequest {
     pub rest: AvpList,
 }
 
-impl Drop for CapabilitiesExchangeRequest {
-    fn drop(self) {
-        dropped! { self:
-            origin_host, origin_realm, host_ip_address, vendor_id, product_name, auth_application_id
-        }
-    }
-}
-
 /// A Capabilities-Exchange-Answer (RFC 6733 section 5.3.2). `rest` has the AVPs that no field took, in order.
+#[derive(Drop)]
 pub struct CapabilitiesExchangeAnswer {
     pub header: Header,
     pub result_code: TypedAvp<u32>,
@@ -51,16 +37,8 @@ pub struct CapabilitiesExchangeAnswer {
     pub rest: AvpList,
 }
 
-impl Drop for CapabilitiesExchangeAnswer {
-    fn drop(self) {
-        dropped! { self:
-            result_code, origin_host, origin_realm, host_ip_address, vendor_id, product_name,
-            auth_application_id
-        }
-    }
-}
-
 /// A Device-Watchdog-Request (RFC 6733 section 5.5.1). `rest` has the AVPs that no field took, in order.
+#[derive(Drop)]
 pub struct DeviceWatchdogRequest {
     pub header: Header,
     pub origin_host: TypedAvp<Octets>,
@@ -68,13 +46,8 @@ pub struct DeviceWatchdogRequest {
     pub rest: AvpList,
 }
 
-impl Drop for DeviceWatchdogRequest {
-    fn drop(self) {
-        dropped!(self: origin_host, origin_realm);
-    }
-}
-
 /// A Device-Watchdog-Answer (RFC 6733 section 5.5.2). `rest` has the AVPs that no field took, in order.
+#[derive(Drop)]
 pub struct DeviceWatchdogAnswer {
     pub header: Header,
     pub result_code: TypedAvp<u32>,
@@ -83,13 +56,8 @@ pub struct DeviceWatchdogAnswer {
     pub rest: AvpList,
 }
 
-impl Drop for DeviceWatchdogAnswer {
-    fn drop(self) {
-        dropped!(self: result_code, origin_host, origin_realm);
-    }
-}
-
 /// A Disconnect-Peer-Request (RFC 6733 section 5.4.1). `rest` has the AVPs that no field took, in order.
+#[derive(Drop)]
 pub struct DisconnectPeerRequest {
     pub header: Header,
     pub origin_host: TypedAvp<Octets>,
@@ -98,13 +66,8 @@ pub struct DisconnectPeerRequest {
     pub rest: AvpList,
 }
 
-impl Drop for DisconnectPeerRequest {
-    fn drop(self) {
-        dropped!(self: origin_host, origin_realm, disconnect_cause);
-    }
-}
-
 /// A Disconnect-Peer-Answer (RFC 6733 section 5.4.2). `rest` has the AVPs that no field took, in order.
+#[derive(Drop)]
 pub struct DisconnectPeerAnswer {
     pub header: Header,
     pub result_code: TypedAvp<u32>,
@@ -113,13 +76,8 @@ pub struct DisconnectPeerAnswer {
     pub rest: AvpList,
 }
 
-impl Drop for DisconnectPeerAnswer {
-    fn drop(self) {
-        dropped!(self: result_code, origin_host, origin_realm);
-    }
-}
-
 /// A Re-Auth-Request (RFC 6733 section 8.3.1). `rest` has the AVPs that no field took, in order.
+#[derive(Drop)]
 pub struct ReAuthRequest {
     pub header: Header,
     pub session_id: TypedAvp<Text>,
@@ -132,16 +90,8 @@ pub struct ReAuthRequest {
     pub rest: AvpList,
 }
 
-impl Drop for ReAuthRequest {
-    fn drop(self) {
-        dropped! { self:
-            session_id, origin_host, origin_realm, destination_realm, destination_host,
-            auth_application_id, re_auth_request_type
-        }
-    }
-}
-
 /// A Re-Auth-Answer (RFC 6733 section 8.3.2). `rest` has the AVPs that no field took, in order.
+#[derive(Drop)]
 pub struct ReAuthAnswer {
     pub header: Header,
     pub session_id: TypedAvp<Text>,
@@ -151,13 +101,8 @@ pub struct ReAuthAnswer {
     pub rest: AvpList,
 }
 
-impl Drop for ReAuthAnswer {
-    fn drop(self) {
-        dropped!(self: session_id, result_code, origin_host, origin_realm);
-    }
-}
-
 /// A Credit-Control-Request (RFC 8506 section 3.1). `rest` has the AVPs that no field took, in order.
+#[derive(Drop)]
 pub struct CreditControlRequest {
     pub header: Header,
     pub session_id: TypedAvp<Text>,
@@ -177,18 +122,8 @@ pub struct CreditControlRequest {
     pub rest: AvpList,
 }
 
-impl Drop for CreditControlRequest {
-    fn drop(self) {
-        dropped! { self:
-            session_id, origin_host, origin_realm, destination_realm, auth_application_id,
-            service_context_id, cc_request_type, cc_request_number, subscription_id,
-            requested_action, requested_service_unit, used_service_unit,
-            multiple_services_indicator, multiple_services_credit_control
-        }
-    }
-}
-
 /// A Credit-Control-Answer (RFC 8506 section 3.2). `rest` has the AVPs that no field took, in order.
+#[derive(Drop)]
 pub struct CreditControlAnswer {
     pub header: Header,
     pub session_id: TypedAvp<Text>,
@@ -205,17 +140,8 @@ pub struct CreditControlAnswer {
     pub rest: AvpList,
 }
 
-impl Drop for CreditControlAnswer {
-    fn drop(self) {
-        dropped! { self:
-            session_id, result_code, origin_host, origin_realm, auth_application_id,
-            cc_request_type, cc_request_number, granted_service_unit, final_unit_indication,
-            check_balance_result, multiple_services_credit_control
-        }
-    }
-}
-
 /// An answer that tells a fault (RFC 6733 section 7.2). `rest` has the AVPs that no field took, in order.
+#[derive(Drop)]
 pub struct ErrorAnswer {
     pub header: Header,
     pub session_id: Option<TypedAvp<Text>>,
@@ -224,12 +150,6 @@ pub struct ErrorAnswer {
     pub result_code: TypedAvp<u32>,
     pub failed_avp: Option<TypedAvp<Octets>>,
     pub rest: AvpList,
-}
-
-impl Drop for ErrorAnswer {
-    fn drop(self) {
-        dropped!(self: session_id, origin_host, origin_realm, result_code, failed_avp);
-    }
 }
 
 /// A message, by its command.
@@ -266,6 +186,7 @@ macro_rules! whichever {
     };
 }
 
+// A derived `drop` is proved anew at each way out of each function that holds a command; this one is a call.
 impl Drop for Command {
     fn drop(self) {
         whichever!(self, c => drop(c))

@@ -1,4 +1,5 @@
 //! The AVPs of each command in the order in which they are written, as data. An AVP of a command comes by a line in its list.
+//! The sections of the standards stand at the commands' structs.
 
 ghost use Rattle.std.specs.Prelude.{◌≡◌};
 ghost use Rattle.dia_command.specs.Format.{format_of};
@@ -8,7 +9,7 @@ use base_codes::avp_code;
 
 /// One place in a command's format (RFC 6733 section 3.2): the AVP Code, whether the AVP must be there, and whether it
 /// may be there several times. No AVP of a vendor has a place.
-#[derive(Clone, Copy, Debug, PartialEq, Eq)]
+#[derive(Clone, Copy)]
 pub struct AvpFormat {
     pub code: u32,
     pub required: bool,
@@ -37,7 +38,6 @@ macro_rules! avps {
     };
 }
 
-// The AVPs of a Capabilities-Exchange-Request (RFC 6733 section 5.3.1).
 const CAPABILITIES_EXCHANGE_REQUEST: &[AvpFormat] = avps![
     REQUIRED ORIGIN_HOST,
     REQUIRED ORIGIN_REALM,
@@ -47,7 +47,6 @@ const CAPABILITIES_EXCHANGE_REQUEST: &[AvpFormat] = avps![
     ANY_NUMBER AUTH_APPLICATION_ID,
 ];
 
-// The AVPs of a Capabilities-Exchange-Answer (RFC 6733 section 5.3.2).
 const CAPABILITIES_EXCHANGE_ANSWER: &[AvpFormat] = avps![
     REQUIRED RESULT_CODE,
     REQUIRED ORIGIN_HOST,
@@ -58,34 +57,29 @@ const CAPABILITIES_EXCHANGE_ANSWER: &[AvpFormat] = avps![
     ANY_NUMBER AUTH_APPLICATION_ID,
 ];
 
-// The AVPs of a Device-Watchdog-Request (RFC 6733 section 5.5.1).
 const DEVICE_WATCHDOG_REQUEST: &[AvpFormat] = avps![
     REQUIRED ORIGIN_HOST,
     REQUIRED ORIGIN_REALM,
 ];
 
-// The AVPs of a Device-Watchdog-Answer (RFC 6733 section 5.5.2).
 const DEVICE_WATCHDOG_ANSWER: &[AvpFormat] = avps![
     REQUIRED RESULT_CODE,
     REQUIRED ORIGIN_HOST,
     REQUIRED ORIGIN_REALM,
 ];
 
-// The AVPs of a Disconnect-Peer-Request (RFC 6733 section 5.4.1).
 const DISCONNECT_PEER_REQUEST: &[AvpFormat] = avps![
     REQUIRED ORIGIN_HOST,
     REQUIRED ORIGIN_REALM,
     REQUIRED DISCONNECT_CAUSE,
 ];
 
-// The AVPs of a Disconnect-Peer-Answer (RFC 6733 section 5.4.2).
 const DISCONNECT_PEER_ANSWER: &[AvpFormat] = avps![
     REQUIRED RESULT_CODE,
     REQUIRED ORIGIN_HOST,
     REQUIRED ORIGIN_REALM,
 ];
 
-// The AVPs of a Re-Auth-Request (RFC 6733 section 8.3.1).
 const RE_AUTH_REQUEST: &[AvpFormat] = avps![
     REQUIRED SESSION_ID,
     REQUIRED ORIGIN_HOST,
@@ -96,7 +90,6 @@ const RE_AUTH_REQUEST: &[AvpFormat] = avps![
     REQUIRED RE_AUTH_REQUEST_TYPE,
 ];
 
-// The AVPs of a Re-Auth-Answer (RFC 6733 section 8.3.2).
 const RE_AUTH_ANSWER: &[AvpFormat] = avps![
     REQUIRED SESSION_ID,
     REQUIRED RESULT_CODE,
@@ -104,7 +97,7 @@ const RE_AUTH_ANSWER: &[AvpFormat] = avps![
     REQUIRED ORIGIN_REALM,
 ];
 
-// The AVPs of a Credit-Control-Request (RFC 8506 section 3.1). In an EVENT request Requested-Action must be there.
+// In an EVENT request Requested-Action must be there.
 macro_rules! credit_control_request {
     ($requested_action:ident) => {
         avps![
@@ -126,7 +119,6 @@ macro_rules! credit_control_request {
     };
 }
 
-// The AVPs of a Credit-Control-Answer (RFC 8506 section 3.2).
 const CREDIT_CONTROL_ANSWER: &[AvpFormat] = avps![
     REQUIRED SESSION_ID,
     REQUIRED RESULT_CODE,
@@ -141,7 +133,6 @@ const CREDIT_CONTROL_ANSWER: &[AvpFormat] = avps![
     ANY_NUMBER MULTIPLE_SERVICES_CREDIT_CONTROL,
 ];
 
-// The AVPs of an answer that tells a fault (RFC 6733 section 7.2).
 const ERROR_ANSWER: &[AvpFormat] = avps![
     OPTIONAL SESSION_ID,
     REQUIRED ORIGIN_HOST,

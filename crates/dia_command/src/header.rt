@@ -15,7 +15,7 @@ const ERROR: u8 = 0x20;
 const RETRANSMITTED: u8 = 0x10;
 
 /// The Command Flags R, P, E and T. The four reserved bits are ignored on reading and zero on writing.
-#[derive(Clone, Copy, Debug, PartialEq, Eq)]
+#[derive(Clone, Copy)]
 pub struct Flags {
     pub request: bool,
     pub proxiable: bool,
@@ -26,7 +26,7 @@ pub struct Flags {
 /// A message's header. `length` is the Message Length as it was read, in octets with padding; writing computes its own.
 /// `command` has 24 bits, of a greater number the lowest are written. `application` is the Application-Id; `hop_by_hop`
 /// and `end_to_end` are the identifiers.
-#[derive(Clone, Copy, Debug, PartialEq, Eq)]
+#[derive(Clone, Copy)]
 pub struct Header {
     pub length: u32,
     pub flags: Flags,

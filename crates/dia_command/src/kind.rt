@@ -3,30 +3,20 @@
 ghost use Rattle.std.specs.Prelude.{◌≡◌};
 ghost use Rattle.dia_command.specs.Format.{kind_coded, application_of};
 
-/// The commands that are read and written (RFC 6733 section 3.1, RFC 8506 section 3).
-#[derive(Clone, Copy, Debug, PartialEq, Eq)]
+/// The commands that are read and written (RFC 6733 section 3.1, RFC 8506 section 3); `ErrorAnswer` is any answer that tells a
+/// fault (RFC 6733 section 7.2).
+#[derive(Clone, Copy, PartialEq, Eq)]
 pub enum CommandKind {
-    /// Capabilities-Exchange-Request (RFC 6733 section 5.3.1).
     CapabilitiesExchangeRequest,
-    /// Capabilities-Exchange-Answer (RFC 6733 section 5.3.2).
     CapabilitiesExchangeAnswer,
-    /// Device-Watchdog-Request (RFC 6733 section 5.5.1).
     DeviceWatchdogRequest,
-    /// Device-Watchdog-Answer (RFC 6733 section 5.5.2).
     DeviceWatchdogAnswer,
-    /// Disconnect-Peer-Request (RFC 6733 section 5.4.1).
     DisconnectPeerRequest,
-    /// Disconnect-Peer-Answer (RFC 6733 section 5.4.2).
     DisconnectPeerAnswer,
-    /// Re-Auth-Request (RFC 6733 section 8.3.1).
     ReAuthRequest,
-    /// Re-Auth-Answer (RFC 6733 section 8.3.2).
     ReAuthAnswer,
-    /// Credit-Control-Request (RFC 8506 section 3.1).
     CreditControlRequest,
-    /// Credit-Control-Answer (RFC 8506 section 3.2).
     CreditControlAnswer,
-    /// Answer that tells a fault (RFC 6733 section 7.2).
     ErrorAnswer,
 }
 

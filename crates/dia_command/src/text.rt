@@ -5,7 +5,6 @@ use std::alloc::{AllocError, Global};
 use std::marker::Model;
 
 /// A UTF8String (RFC 6733 section 4.3.1). A contract sees it as the list of its octets.
-#[derive(Debug)]
 pub struct Text {
     string: String,
 }

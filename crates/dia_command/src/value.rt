@@ -4,15 +4,11 @@ ghost use Rattle.std.specs.Prelude.{◌≡◌};
 ghost use Rattle.dia_command.specs.Value.{type_number, type_coded, action_number, action_coded};
 
 /// A CC-Request-Type (RFC 8506 section 8.3).
-#[derive(Clone, Copy, Debug, PartialEq, Eq)]
+#[derive(Clone, Copy, PartialEq, Eq)]
 pub enum RequestType {
-    /// INITIAL_REQUEST.
     Initial,
-    /// UPDATE_REQUEST.
     Update,
-    /// TERMINATION_REQUEST.
     Termination,
-    /// EVENT_REQUEST.
     Event,
 }
 
@@ -46,17 +42,12 @@ impl RequestType {
 
 /// A Requested-Action (RFC 8506 section 8.41). Outside EVENT requests any number is read and written back, as `Other` where
 /// the standard names none; there `Other` never has a number below 4.
-#[derive(Clone, Copy, Debug, PartialEq, Eq)]
+#[derive(Clone, Copy)]
 pub enum RequestedAction {
-    /// DIRECT_DEBITING, 0.
     DirectDebiting,
-    /// REFUND_ACCOUNT, 1.
     RefundAccount,
-    /// CHECK_BALANCE, 2.
     CheckBalance,
-    /// PRICE_ENQUIRY, 3.
     PriceEnquiry,
-    /// Any other number.
     Other(u32),
 }
 

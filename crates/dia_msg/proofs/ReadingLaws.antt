@@ -1,6 +1,6 @@
 -- The steps of reading find the first fault, or the command.
 use Rattle.std.proofs.Common.{◌≡◌, ◌||◌, ◌&&◌, ◌<◌, ◌^◌, ℕ, Bool, true, false, not, ◌==◌, cond, List, [], ◌∷◌, ◌++◌, length, drop, map, filter, Option, None, Some, Result, Ok, Err, All, refl, sym, ap, subst, ◌∙◌, inl}
-use Rattle.std.specs.Prelude.{slice_get, nat_lt, is_some, IsErrOf, IsErrAnd}
+use Rattle.std.specs.Prelude.{slice_get, nat_lt, is_some, IfOk, IfErr, IsErrOf}
 use Rattle.std.specs.Option.{option_map, option_map_or}
 use Rattle.std.proofs.lemmas.List.Elements.{All-head, All-tail}
 use Rattle.dia_avp.specs.declared.avp.Avp.{Avp}
@@ -280,9 +280,10 @@ short_avps octets list fits f = rw f (avps_in-short (drop 20 octets) (IsBytes-dr
 pub outcome_as : (added : List Definition) (octets : List ℕ) (h : Header) (list : List Avp) (r : Result Command MsgError) → h ≡ header_in octets → list ≡ whole_avps octets → IsOutcome added h list r → IsOutcome added (header_in octets) (whole_avps octets) r
 outcome_as added octets h list r e f o = subst (λ (l : List Avp). IsOutcome added (header_in octets) l r) f (subst (λ (x : Header). IsOutcome added x list r) e o)
 
-pub outcome_residual : (added : List Definition) (header : Header) (list : List Avp) (r : Result Command MsgError) → later_faults (known added) header list ≡ [] → IsErrAnd r (λ e. e ≡ msg_errors.NoMemory) → IsOutcome added header list r
-outcome_residual added header list (Ok c) none h = absurd h
-outcome_residual added header list (Err e) none h = rw h (outcome_memory added header list none)
+pub outcome_made : (added : List Definition) (header : Header) (list : List Avp) (k : CommandKind) (r : Result Command MsgError) → later_faults (known added) header list ≡ [] → kind_read header list ≡ Some k
+    → IfOk r (IsBuilt added (format_read header list) list k header) → IfErr r (λ e. e ≡ msg_errors.NoMemory) → IsOutcome added header list r
+outcome_made added header list k (Ok c) none kind built wanting = (none, k, kind, built)
+outcome_made added header list k (Err e) none kind built wanting = rw wanting (outcome_memory added header list none)
 
 pub ran_out : (r : Result Command MsgError) → IsErrOf r msg_errors.NoMemory → r ≡ Err msg_errors.NoMemory
 ran_out (Ok c) h = absurd cc

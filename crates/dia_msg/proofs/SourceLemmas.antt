@@ -5,6 +5,7 @@ use Rattle.std.specs.List.{flat_map}
 use Rattle.std.proofs.Math.Seq.{take-suc}
 use Rattle.std.proofs.lemmas.List.{append-nil, map-append, length-map}
 use Rattle.std.specs.Option.{option_map, option_to_list}
+use Rattle.std.specs.Result.{OnOk, is_err}
 use Rattle.std.specs.Str.{is_utf8, IsUtf8}
 use Rattle.std.proofs.lemmas.Bool.{eqb-true, eqb-false, ltb-false}
 use Rattle.std.proofs.lemmas.Option.{slice_get-get_or, get_or_from_slice_get, slice_get_within}
@@ -227,6 +228,16 @@ pub taken_sound : (added : List Definition) (formats : List AvpFormat) (list : L
 taken_sound added formats list s place r v ready held e is =
     sound_first added ready.event (entry_at formats place).code list (seen v) (sym (first_taken added formats list s place r ready held e) ∙ ap (λ (o : Option AvpView). option_map seen o) is) ready.good
 
+-- the AVP of an entry that must be there is there
+view_there : (r : Option AvpView) (o : Option Avp) → option_map seen r ≡ o → is_some o ≡ true → IsSome r
+view_there None o e h = absurd cc
+view_there (Some v) o e h = refl
+
+pub first_there : (added : List Definition) (formats : List AvpFormat) (list : List Avp) (s : Sorted) (place : ℕ) (r : Option AvpView) → IsReady added formats list s → IsOne formats place → option_map seen r ≡ placed list (get_or s.firsts place None)
+    → IsSome r
+first_there added formats list s place r ready held e =
+    view_there r (first_of (entry_at formats place).code list) (first_taken added formats list s place r ready (held.0, held.2) e) (there formats list place ready.complete held.0 held.1 held.2)
+
 -- a value of an AVP that must be there is there
 value_there : {T : Type 0} (Is : List ℕ → T → Type 0) (o : Option (TypedAvp T)) (a : Option Avp) → AreTypedOf Is (option_to_list o) (option_to_list a) → is_some a ≡ true → IsSome o
 value_there Is None None h e = absurd cc
@@ -278,3 +289,8 @@ placed_next f list places i d lt =
     let e : i + 1 ≡ suc i = omega arith in
     let o = option_to_list (slice_get list (get_or places i d)) in
     rw (e, take-suc places i d lt, flat_more (λ p. option_to_list (slice_get list p)) (take i places) (get_or places i d ∷ []), append-nil o) (sym (map-append f (all_placed list (take i places)) o))
+
+-- what holds at `Ok` holds where there is no error
+pub where_ok : {T E P : Type 0} (r : Result T E) → is_err r ≡ false → OnOk r P → P
+where_ok (Ok x) e h = h
+where_ok (Err x) e h = absurd cc

@@ -124,7 +124,7 @@ fn outcome(
         avps,
         sorted: &sorted,
     };
-    Ok(source.command(kind, event, *header)?)
+    source.command(kind, event, *header)
 }
 
 // Nothing where AVPs have no fault, and else the error for their first.

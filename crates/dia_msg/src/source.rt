@@ -1,7 +1,8 @@
 //! The values of a command's fields, and its rest, of AVPs that are sorted by its format. Each call takes the place of a
-//! field in the format.
+//! field in the format. Where memory is wanting a call sets `wanting`, and what it gives then is empty: the command is
+//! thrown away as a whole.
 
-ghost use Rattle.std.specs.Prelude.{◌≡◌, ◌+◌, ◌<◌, ◌^◌, [], ◌∷◌, ◌++◌, ℕ, List, All, IfOk, OnOk, map, slice_get};
+ghost use Rattle.std.specs.Prelude.{◌≡◌, ◌<◌, ◌^◌, [], ◌∷◌, ◌++◌, ℕ, List, All, IfOk, OnOk, false, map, slice_get};
 ghost use Rattle.std.specs.Option.{option_map, option_to_list};
 ghost use Rattle.dia_avp.specs.View.{seen};
 ghost use Rattle.dia_avp.specs.Encoding.{length_of};
@@ -52,6 +53,9 @@ pub(crate) trait FromAvp: Drop {
     ) -> Result<Self, AllocError>
         requires { (code : ℕ) × has_kind dictionary.now code × IsSound dictionary.now code (seen avp.now) }
         ensures { IfOk result (is_value (known dictionary.now) avp.now.octets.now) };
+
+    // What stands for a value where memory was wanting. Takes none.
+    fn empty(alloc: Global) -> Self;
 }
 
 impl FromAvp for Octets {
@@ -61,6 +65,10 @@ impl FromAvp for Octets {
 
     fn from_avp(alloc: Global, _: &Dictionary, avp: &AvpView<'_>) -> Result<Octets, AllocError> {
         Octets::from_slice(alloc, avp.octets)
+    }
+
+    fn empty(alloc: Global) -> Octets {
+        Octets::new(Vec::new(alloc))
     }
 }
 
@@ -72,6 +80,10 @@ impl FromAvp for Text {
     fn from_avp(alloc: Global, _: &Dictionary, avp: &AvpView<'_>) -> Result<Text, AllocError> {
         Text::from_str(alloc, avp.as_text().unwrap())
     }
+
+    fn empty(alloc: Global) -> Text {
+        Text::new(String::new(alloc))
+    }
 }
 
 impl FromAvp for u32 {
@@ -81,6 +93,10 @@ impl FromAvp for u32 {
 
     fn from_avp(_: Global, _: &Dictionary, avp: &AvpView<'_>) -> Result<u32, AllocError> {
         Ok(number_of(avp).unwrap())
+    }
+
+    fn empty(_: Global) -> u32 {
+        0
     }
 }
 
@@ -95,6 +111,10 @@ impl FromAvp for AvpList {
         avp: &AvpView<'_>,
     ) -> Result<AvpList, AllocError> {
         group_list(alloc, dictionary, avp.octets)
+    }
+
+    fn empty(alloc: Global) -> AvpList {
+        AvpList::new(alloc)
     }
 }
 
@@ -142,54 +162,46 @@ impl FromNumber for RequestedAction {
 
 impl Source<'_> {
     // The value of an AVP, with its flags.
-    fn value<T: FromAvp>(&self, avp: &AvpView<'_>) -> Result<TypedAvp<T>, AllocError>
+    fn value<T: FromAvp>(&self, avp: &AvpView<'_>, wanting: &mut bool) -> TypedAvp<T>
         requires { (code : ℕ) × T.has_kind self.now.dictionary.now code × IsSound self.now.dictionary.now code (seen avp.now) }
-        ensures { IfOk result (λ v. IsTypedOf (T.is_value (known self.now.dictionary.now)) v (seen avp.now)) }
+        ensures { wanting.new ≡ false → (wanting.old ≡ false) × IsTypedOf (T.is_value (known self.now.dictionary.now)) result (seen avp.now) }
     {
-        Ok(TypedAvp {
+        let value = match T::from_avp(self.alloc, self.dictionary, avp) {
+            Ok(value) => value,
+            Err(_) => {
+                *wanting = true;
+                T::empty(self.alloc)
+            }
+        };
+        TypedAvp {
             mandatory: avp.mandatory,
             protected: avp.protected,
-            value: T::from_avp(self.alloc, self.dictionary, avp)?,
-        })
+            value,
+        }
     }
 
     /// The value of an entry whose AVP may be there.
-    pub fn perhaps<T: FromAvp>(&self, place: usize) -> Result<Option<TypedAvp<T>>, AllocError>
+    pub fn perhaps<T: FromAvp>(&self, place: usize, wanting: &mut bool) -> Option<TypedAvp<T>>
         requires ready { IsReady self.now.dictionary.now self.now.format.now (seen_all self.now.avps.now) self.now.sorted.now }
         requires held { IsPerhaps self.now.format.now place }
         requires kind { T.has_kind self.now.dictionary.now (entry_at self.now.format.now place).code }
-        ensures { IfOk result (λ f. AreTypedOf (T.is_value (known self.now.dictionary.now)) (option_to_list f) (takes self.now.format.now (seen_all self.now.avps.now) place)) }
+        ensures { wanting.new ≡ false → (wanting.old ≡ false) × AreTypedOf (T.is_value (known self.now.dictionary.now)) (option_to_list result) (takes self.now.format.now (seen_all self.now.avps.now) place) }
     {
         match self.sorted.first(place, self.avps) {
-            Some(avp) => Ok(Some(self.value(&avp)?)),
-            None => Ok(None),
+            Some(avp) => Some(self.value(&avp, wanting)),
+            None => None,
         }
     }
 
     /// The value of an entry whose AVP must be there.
-    pub fn one<T: FromAvp>(&self, place: usize) -> Result<TypedAvp<T>, AllocError>
+    pub fn one<T: FromAvp>(&self, place: usize, wanting: &mut bool) -> TypedAvp<T>
         requires ready { IsReady self.now.dictionary.now self.now.format.now (seen_all self.now.avps.now) self.now.sorted.now }
         requires held { IsOne self.now.format.now place }
         requires kind { T.has_kind self.now.dictionary.now (entry_at self.now.format.now place).code }
-        ensures { IfOk result (λ f. AreTypedOf (T.is_value (known self.now.dictionary.now)) (f ∷ []) (takes self.now.format.now (seen_all self.now.avps.now) place)) }
+        ensures { wanting.new ≡ false → (wanting.old ≡ false) × AreTypedOf (T.is_value (known self.now.dictionary.now)) (result ∷ []) (takes self.now.format.now (seen_all self.now.avps.now) place) }
     {
-        Ok(self.perhaps(place)?.unwrap())
-    }
-
-    /// The values of an entry and the next one, whose AVPs must be there.
-    pub fn pair<T: FromAvp, U: FromAvp>(
-        &self,
-        place: usize,
-    ) -> Result<(TypedAvp<T>, TypedAvp<U>), AllocError>
-        requires ready { IsReady self.now.dictionary.now self.now.format.now (seen_all self.now.avps.now) self.now.sorted.now }
-        requires first { IsOne self.now.format.now place }
-        requires kind { T.has_kind self.now.dictionary.now (entry_at self.now.format.now place).code }
-        requires next { IsOne self.now.format.now (place + 1) }
-        requires next_kind { U.has_kind self.now.dictionary.now (entry_at self.now.format.now (place + 1)).code }
-        ensures first { IfOk result (λ f. AreTypedOf (T.is_value (known self.now.dictionary.now)) (f.0 ∷ []) (takes self.now.format.now (seen_all self.now.avps.now) place)) }
-        ensures next { IfOk result (λ f. AreTypedOf (U.is_value (known self.now.dictionary.now)) (f.1 ∷ []) (takes self.now.format.now (seen_all self.now.avps.now) (place + 1))) }
-    {
-        Ok((self.one(place)?, self.one(place + 1)?))
+        let avp = self.sorted.first(place, self.avps).unwrap();
+        self.value(&avp, wanting)
     }
 
     // The number that an AVP is, with its flags.
@@ -228,20 +240,23 @@ impl Source<'_> {
     }
 
     /// The values of an entry of any number of AVPs.
-    pub fn all<T: FromAvp>(&self, place: usize) -> Result<TypedAvps<T>, AllocError>
+    pub fn all<T: FromAvp>(&self, place: usize, wanting: &mut bool) -> TypedAvps<T>
         requires ready { IsReady self.now.dictionary.now self.now.format.now (seen_all self.now.avps.now) self.now.sorted.now }
         requires held { IsSeveral self.now.format.now place }
         requires kind { T.has_kind self.now.dictionary.now (entry_at self.now.format.now place).code }
-        ensures { IfOk result (λ f. AreTypedOf (T.is_value (known self.now.dictionary.now)) f (takes self.now.format.now (seen_all self.now.avps.now) place)) }
+        ensures { wanting.new ≡ false → (wanting.old ≡ false) × AreTypedOf (T.is_value (known self.now.dictionary.now)) result (takes self.now.format.now (seen_all self.now.avps.now) place) }
     {
         let code = self.format[place].code;
         let mut values = TypedAvps::new(self.alloc);
         for avp in self.avps {
             if is_coded(avp, code) {
-                values.push(self.value(avp)?)?;
+                let value = self.value(avp, wanting);
+                if values.push(value).is_err() {
+                    *wanting = true;
+                }
             }
         }
-        Ok(values)
+        values
     }
 
     // The AVP at a place, in its canonical encoding, at the end of a list.
@@ -255,8 +270,8 @@ impl Source<'_> {
         }
     }
 
-    /// The AVPs that no entry takes, each in its canonical encoding.
-    pub fn rest(&self) -> Result<AvpList, AllocError>
+    // The AVPs that no entry takes, each in its canonical encoding.
+    fn left(&self) -> Result<AvpList, AllocError>
         requires ready { IsReady self.now.dictionary.now self.now.format.now (seen_all self.now.avps.now) self.now.sorted.now }
         ensures { IfOk result (λ list. list ≡ map (canonical (known self.now.dictionary.now) 4) (untaken self.now.format.now (seen_all self.now.avps.now))) }
     {
@@ -265,5 +280,19 @@ impl Source<'_> {
             self.push_left(*place, &mut rest)?;
         }
         Ok(rest)
+    }
+
+    /// The AVPs that no entry takes, each in its canonical encoding.
+    pub fn rest(&self, wanting: &mut bool) -> AvpList
+        requires ready { IsReady self.now.dictionary.now self.now.format.now (seen_all self.now.avps.now) self.now.sorted.now }
+        ensures { wanting.new ≡ false → (wanting.old ≡ false) × (result ≡ map (canonical (known self.now.dictionary.now) 4) (untaken self.now.format.now (seen_all self.now.avps.now))) }
+    {
+        match self.left() {
+            Ok(list) => list,
+            Err(_) => {
+                *wanting = true;
+                AvpList::new(self.alloc)
+            }
+        }
     }
 }

@@ -129,7 +129,7 @@ fn fault_in<'a>(
 }
 
 /// Why a survey ended early: there are more AVPs than the list has room for.
-#[derive(Clone, Copy, Debug, PartialEq, Eq)]
+#[derive(Clone, Copy)]
 pub struct NoRoom;
 
 // The first fault of a message's octets, and without one its AVPs, where there is room for them.

@@ -6,10 +6,8 @@ ghost use Rattle.dia_tree.specs.View.{is_event};
 ghost use Rattle.dia_tree.specs.Faults.{has_event_type as has_type_4};
 
 use crate::cut::number_at;
+use base_codes::avp_code;
 use dia_avp::first_avp;
-
-/// The AVP Code of CC-Request-Type.
-const CC_REQUEST_TYPE: u32 = 416;
 
 /// The CC-Request-Type of a request that opens no session.
 const EVENT_REQUEST: u32 = 4;
@@ -26,7 +24,7 @@ fn has_event_type(octets: &[u8]) -> bool
 {
     let mut rest = octets;
     while let Ok((avp, after)) = first_avp(rest) {
-        if avp.code == CC_REQUEST_TYPE && avp.vendor.is_none() {
+        if avp.code == avp_code::CC_REQUEST_TYPE && avp.vendor.is_none() {
             return avp.octets.len() == 4 && number_at(avp.octets, 0) == EVENT_REQUEST;
         }
         rest = after;

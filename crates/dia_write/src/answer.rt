@@ -11,7 +11,7 @@ use dia_tree::MsgFault;
 use std::alloc::{AllocError, Global};
 
 /// Who a node is: its Origin-Host, Origin-Realm and IPv4 address (RFC 6733 sections 6.3, 6.4 and 5.3.5).
-#[derive(Debug, Drop)]
+#[derive(Drop)]
 pub struct Identity {
     pub host: Octets,
     pub realm: Octets,

@@ -1,5 +1,5 @@
 use Rattle.std.proofs.Common.{◌≡◌, ◌∙◌, [], sym, ap, subst, refl, Option, Some, None, List}
-use Rattle.std.specs.Prelude.{slice_get}
+use Rattle.std.specs.Prelude.{slice_get, IfOk}
 use Rattle.dia_dict.specs.Dictionary.{known}
 use Rattle.dia_tree.specs.declared.fault.MsgFault.{MsgFault}
 use Rattle.dia_tree.specs.Faults.{fault}
@@ -12,7 +12,7 @@ use Rattle.dia_msg.specs.Faults.{is_event, has_services}
 use Rattle.dia_msg.specs.Sorting.{seen_all}
 use Rattle.dia_msg.specs.Source.{IsBuilt}
 use Rattle.dia_msg.specs.Walk.{later_faults}
-use Rattle.dia_msg.proofs.ReadingLaws.{kind_known, format_known, later_missing, later_faulty, later_none, outcome_error, outcome_fault, outcome_residual, none_first, both_true, first_false, second_false}
+use Rattle.dia_msg.proofs.ReadingLaws.{kind_known, format_known, later_missing, later_faulty, later_none, outcome_error, outcome_fault, outcome_made, none_first, both_true, first_false, second_false}
 use Rattle.dia_msg.proofs.read.outcome.Goals as goal
 use Rattle.dia_msg.proofs.read.outcome.Goals.{else-has_services-via-then-has_services+else-are_faulty, else-has_services-via-else-has_services}
 
@@ -54,22 +54,6 @@ command-requires-clause-ready c =
       short = c.requires.short;
     }
 
-pub returns-in_err-command : goal.returns-in_err-command
-returns-in_err-command c =
-    let d = known c.args.dictionary.now in
-    let header = c.args.header.now in
-    let list = seen_all c.args.avps.now in
-    let k = c.sort_as-kind.result.0 in
-    let kind = kind_known header list c.args.command k c.requires.known c.sort_as-kind.ensures.kind in
-    let none : None ≡ slice_get (missing (format_of k (is_event header list)) list) 0 =
-    rw (c.format_of-format.ensures, c.is_event-event.ensures) at (c.in_default.ensures list (rw c.format_of-format.ensures c.sort_as-kind.ensures.sorted)) in
-    let clean : later_faults d header list ≡ [] =
-    elim c.else-has_services.branch [
-      | else-has_services-via-then-has_services+else-are_faulty w ↦ later_none d header list k w.are_faulty.result kind none (sym (rw c.is_event-event.ensures at w.are_faulty.ensures)) (second_false (has_services k) w.are_faulty.result w.if-are_faulty.false)
-      | else-has_services-via-else-has_services w ↦ later_none d header list k _ kind none refl (first_false (has_services k) _ (sym c.has_services.ensures ∙ w.if-has_services.false))
-    ] in
-    outcome_residual c.args.dictionary.now header list c.from_residual.result clean c.from_residual.ensures.1
-
 pub returns : goal.returns
 returns c =
     let d = known c.args.dictionary.now in
@@ -84,4 +68,6 @@ returns c =
       | else-has_services-via-then-has_services+else-are_faulty w ↦ later_none d header list k w.are_faulty.result kind none (sym (rw c.is_event-event.ensures at w.are_faulty.ensures)) (second_false (has_services k) w.are_faulty.result w.if-are_faulty.false)
       | else-has_services-via-else-has_services w ↦ later_none d header list k _ kind none refl (first_false (has_services k) _ (sym c.has_services.ensures ∙ w.if-has_services.false))
     ] in
-    (clean, k, kind, subst (λ (fs : List AvpFormat). IsBuilt c.args.dictionary.now fs list k header c.in_ok-command.field-0) (sym (format_known header list k kind)) (rw c.is_event-event.ensures at c.in_ok-command.ensures))
+    outcome_made c.args.dictionary.now header list k c.command.result clean kind
+    (subst (λ (fs : List AvpFormat). IfOk c.command.result (IsBuilt c.args.dictionary.now fs list k header)) (sym (format_known header list k kind)) (rw c.is_event-event.ensures at c.command.ensures.ok))
+    c.command.ensures.err

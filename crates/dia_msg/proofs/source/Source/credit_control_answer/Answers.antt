@@ -2,9 +2,19 @@ use Rattle.std.proofs.Common.{refl}
 use Rattle.dia_msg.proofs.source.Source.credit_control_answer.Goals as goal
 
 pub returns : goal.returns
-returns c = record {
-  kind_is = refl;
-  header_is = refl;
-  fields_are = (rw c.requires.format at c.in_ok-one.ensures, (rw c.requires.format at c.number.ensures, (rw c.requires.format at c.in_ok-origin_host.ensures.first, (rw c.requires.format at c.in_ok-origin_host.ensures.next, (rw c.requires.format at c.number-2.ensures, (rw c.requires.format at c.number-3.ensures, (rw c.requires.format at c.number-4.ensures, (rw c.requires.format at c.in_ok-perhaps.ensures, (rw c.requires.format at c.in_ok-perhaps-2.ensures, (rw c.requires.format at c.perhaps_number.ensures, (rw c.requires.format at c.in_ok-all.ensures, tt)))))))))));
-  rest_is = rw c.requires.format at c.in_ok-rest.ensures;
-}
+returns c = λ end.
+    let rest = c.rest.ensures end in
+    let all = c.all.ensures rest.0 in
+    let perhaps2 = c.perhaps-2.ensures all.0 in
+    let perhaps = c.perhaps.ensures perhaps2.0 in
+    let one3 = c.one-3.ensures perhaps.0 in
+    let one2 = c.one-2.ensures one3.0 in
+    let one = c.one.ensures one2.0 in (
+      one.0,
+      record {
+        kind_is = refl;
+        header_is = refl;
+        fields_are = (rw c.requires.format at one.1, (rw c.requires.format at c.number.ensures, (rw c.requires.format at one2.1, (rw c.requires.format at one3.1, (rw c.requires.format at c.number-2.ensures, (rw c.requires.format at c.number-3.ensures, (rw c.requires.format at c.number-4.ensures, (rw c.requires.format at perhaps.1, (rw c.requires.format at perhaps2.1, (rw c.requires.format at c.perhaps_number.ensures, (rw c.requires.format at all.1, tt)))))))))));
+        rest_is = rw c.requires.format at rest.1;
+      },
+    )

@@ -15,16 +15,21 @@ value-requires g c =
       taken_sound c.args.self.now.dictionary.now fs list c.args.self.now.sorted.now c.args.place (Some c.in-Some.avp) c.in-Some.avp c.requires.ready c.requires.held c.in-Some.ensures refl,
     )
 
-pub returns-in_ok-value-in-Some : goal.returns-in_ok-value-in-Some
-returns-in_ok-value-in-Some g c =
+pub returns-in-Some : goal.returns-in-Some
+returns-in-Some g c = λ enough.
     let fs = c.args.self.now.format.now in
     let list = seen_all c.args.self.now.avps.now in
-    subst (AreTypedOf (g.T.FromAvp.is_value (known c.args.self.now.dictionary.now)) (c.in_ok-value-in-Some.field-0 ∷ []))
-    (sym (taken_seen c.args.self.now.dictionary.now fs list c.args.self.now.sorted.now c.args.place (Some c.in-Some.avp) c.requires.ready c.requires.held c.in-Some.ensures)) (c.in_ok-value-in-Some.ensures, tt)
+    let value = c.value.ensures enough in (
+      value.0,
+      subst (AreTypedOf (g.T.FromAvp.is_value (known c.args.self.now.dictionary.now)) (c.value.result ∷ []))
+          (sym (taken_seen c.args.self.now.dictionary.now fs list c.args.self.now.sorted.now c.args.place (Some c.in-Some.avp) c.requires.ready c.requires.held c.in-Some.ensures)) (value.1, tt),
+    )
 
 pub returns-in-None : goal.returns-in-None
-returns-in-None g c =
+returns-in-None g c = λ enough.
     let fs = c.args.self.now.format.now in
-    let list = seen_all c.args.self.now.avps.now in
-    subst (AreTypedOf (g.T.FromAvp.is_value (known c.args.self.now.dictionary.now)) [])
-    (sym (taken_seen c.args.self.now.dictionary.now fs list c.args.self.now.sorted.now c.args.place None c.requires.ready c.requires.held c.in-None.ensures)) tt
+    let list = seen_all c.args.self.now.avps.now in (
+      enough,
+      subst (AreTypedOf (g.T.FromAvp.is_value (known c.args.self.now.dictionary.now)) [])
+          (sym (taken_seen c.args.self.now.dictionary.now fs list c.args.self.now.sorted.now c.args.place None c.requires.ready c.requires.held c.in-None.ensures)) tt,
+    )
