@@ -4,8 +4,10 @@ use crate::assembled::{IMAGE, book_of, deep, image_of, wide};
 use base_list::AddError;
 use std::alloc::Global;
 use std::test::Fail;
+use tab_image::build;
 use tab_law::{ActLaw, GuardLaw, LawBook};
 use tab_load::{LoadError, load};
+use tab_step::bind;
 use tab_text::parse;
 
 /// The image of the client in format 1, by hand: 98 octets, the last 23 of them code.
@@ -103,6 +105,9 @@ fn each_fault_is_told_with_its_place(rt: HostRuntime) -> Result<(), Fail> {
     let mut back = IMAGE;
     back[95] = 0;
     assert!(rt; fault_of(rt.alloc(), back.as_slice(), &book) == (7, 90));
+    let mut twice = IMAGE_1;
+    twice[20..24].copy_from_slice(b"Wait");
+    assert!(rt; fault_of(rt.alloc(), twice.as_slice(), &book) == (4, 19));
     Ok(())
 }
 
@@ -127,6 +132,16 @@ fn is_loaded(alloc: Global, text: &[u8]) -> Result<bool, Fail> {
     Ok(fault_of(alloc, image.as_slice(), &book) == (0, 0))
 }
 
+/// Whether the program of a text's table is built.
+fn is_built(alloc: Global, text: &[u8]) -> Result<bool, Fail> {
+    let table = parse(alloc, text).ok().ok_or("the text is a table")?;
+    let book = book_of(alloc, &table).ok().ok_or("the names differ")?;
+    let bound = bind(alloc, table, &book)
+        .ok()
+        .ok_or("the book has all names")?;
+    Ok(build(alloc, &bound, &book).is_ok())
+}
+
 #[test]
 fn assembled_tables_are_loaded(rt: HostRuntime) -> Result<(), Fail> {
     for rows in [1u16, 513, 4_096] {
@@ -135,5 +150,6 @@ fn assembled_tables_are_loaded(rt: HostRuntime) -> Result<(), Fail> {
     }
     let text = wide(rt.alloc())?;
     assert!(rt; is_loaded(rt.alloc(), text.as_slice())?);
+    assert!(rt; is_built(rt.alloc(), text.as_slice())?);
     Ok(())
 }
