@@ -1,5 +1,7 @@
 -- What holds of each item after those before it, in longer and shorter lists.
-use Rattle.std.proofs.Common.{List, [], ◌∷◌, ◌++◌, sym, subst, append_assoc}
+use Rattle.std.proofs.Common.{◌≡◌, List, [], ◌∷◌, ◌++◌, ◌∙◌, sym, ap, subst, append_assoc}
+use Rattle.std.specs.Prelude.{flat_map}
+use Rattle.std.proofs.lemmas.Grind.{flat_map-append}
 use Rattle.std.proofs.lemmas.List.{append-nil}
 use Rattle.acct_book.specs.Laws.{EachAfter}
 
@@ -23,3 +25,7 @@ EachAfter-snoc P xs x h p = EachAfter-append P [] xs (x ∷ []) h (p, tt)
 
 pub EachAfter-last : {X : Type 0} (P : List X → X → Type 0) (xs : List X) (x : X) → EachAfter P [] (xs ++ x ∷ []) → P xs x
 EachAfter-last P xs x h = (EachAfter-rest P [] xs (x ∷ []) h).0
+
+-- a view of a longer list is made item by item
+pub flat_map-snoc : {X Y : Type 0} (give : X → List Y) (xs : List X) (x : X) → flat_map give (xs ++ x ∷ []) ≡ flat_map give xs ++ give x
+flat_map-snoc give xs x = flat_map-append give xs (x ∷ []) ∙ ap (λ ys. flat_map give xs ++ ys) (append-nil (give x))

@@ -1,7 +1,6 @@
 -- What a legal log booked is what the account book allows.
-use Rattle.std.proofs.Common.{◌≡◌, List, [], ◌∷◌, ◌++◌, Option, Some, None, refl, sym, ◌∙◌, ap, subst}
+use Rattle.std.proofs.Common.{◌≡◌, List, [], ◌∷◌, ◌++◌, Option, Some, None, refl, sym, ◌∙◌, subst}
 use Rattle.std.specs.Prelude.{map, zip}
-use Rattle.std.proofs.lemmas.Grind.{flat_map-append}
 use Rattle.std.proofs.lemmas.List.{append-nil}
 use Rattle.acct_book.proofs.NeverOver.{never_over_from_answered}
 use Rattle.acct_book.specs.Book.{NeverOver, Opened, outcome_of}
@@ -20,7 +19,7 @@ use Rattle.bench_item.specs.declared.step.Step.TheVariants.{Joined, Dialled, Cam
 use Rattle.bench_spec.specs.Booked.{book_at, booked, booked_by, booked_in, ops_of, outcomes_for, outcomes_of, want_of}
 use Rattle.bench_spec.specs.Legal.{HasParts, IsBookAnswered, IsLegal, MayFollow, MovesNext}
 use Rattle.bench_spec.specs.Settings.{Settings}
-use Rattle.bench_spec.proofs.AfterLemmas.{EachAfter-append}
+use Rattle.bench_spec.proofs.AfterLemmas.{EachAfter-append, flat_map-snoc}
 
 -- the outcome is the one that the book of these accounts allows after what was booked
 abbrev pub IsAllowed : List Opened → List Booked → Booked → Type 0
@@ -82,7 +81,7 @@ entry_allowed settings past step (Some (Disarm m)) (Some (Move moved)) parts = t
 
 -- what the log books with one more entry
 pub booked-snoc : (settings : Settings) (log : List Entry) (e : Entry) → booked settings.node.laws (log ++ e ∷ []) ≡ booked settings.node.laws log ++ booked_in settings.node.laws e
-booked-snoc settings log e = flat_map-append (booked_in settings.node.laws) log (e ∷ []) ∙ ap (λ bs. booked settings.node.laws log ++ bs) (append-nil (booked_in settings.node.laws e))
+booked-snoc settings log e = flat_map-snoc (booked_in settings.node.laws) log e
 
 all_allowed : (settings : Settings) (past log : List Entry) → EachAfter (MayFollow settings) past log → EachAfter (IsAllowed settings.accounts) (booked settings.node.laws past) (booked settings.node.laws log)
 all_allowed settings past [] legal = tt

@@ -3,3 +3,5 @@ pub mod LegalLemmas
 pub mod BookLemmas
 pub mod PlaceLemmas
 pub mod RunLemmas
+pub mod PauseLemmas
+pub mod LineLemmas

@@ -6,7 +6,6 @@ use Rattle.std.specs.Str.{bytes_eq}
 use Rattle.std.proofs.lemmas.Bool.{false≢true}
 use Rattle.std.proofs.lemmas.Bool.Decides.{nat_tests}
 use Rattle.std.proofs.lemmas.Grind.{flat_map-append}
-use Rattle.std.proofs.lemmas.List.{append-nil}
 use Rattle.std.proofs.lemmas.Slice.Eq.{bytes_eq-Decides}
 use Rattle.acct_book.specs.Laws.{EachAfter}
 use Rattle.tab_step.specs.declared.machine.MachineState.{MachineState}
@@ -24,6 +23,7 @@ use Rattle.bench_spec.specs.Legal.{AreRuns, HasParts, IsLegal, IsRun, MayFollow,
 use Rattle.bench_spec.specs.Machines.{keys_in, moves_in, moves_of, number_for, start, state_after}
 use Rattle.bench_spec.specs.Past.{distinct}
 use Rattle.bench_spec.specs.Settings.{Settings, table_of}
+use Rattle.bench_spec.proofs.AfterLemmas.{flat_map-snoc}
 use Rattle.bench_spec.proofs.BookLemmas.{entry_of, moves_next}
 use Rattle.bench_spec.proofs.PlaceLemmas.{place_stays}
 
@@ -121,7 +121,7 @@ entry_run settings key past rest step (Some (ToMachine i)) (Some (Move m)) parts
 
 -- all of them
 moves-snoc : (past : List Entry) (e : Entry) (key : Key) → moves_of (past ++ e ∷ []) key ≡ moves_of past key ++ moves_in key e
-moves-snoc past e key = flat_map-append (moves_in key) past (e ∷ []) ∙ ap (λ ms. moves_of past key ++ ms) (append-nil (moves_in key e))
+moves-snoc past e key = flat_map-snoc (moves_in key) past e
 
 runs_from : (settings : Settings) (key : Key) (past rest : List Entry) → EachAfter (MayFollow settings) past rest → IsRun settings (table_of settings key.role) (stands_in settings (past ++ rest) past key) (moves_of rest key)
 runs_from settings key past [] legal = tt

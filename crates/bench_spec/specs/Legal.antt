@@ -123,3 +123,9 @@ NoneIsOver = (settings : Settings) (log : List Entry) → IsLegal settings log �
 -- and of each machine the moves are a run of its role's table, from its start
 abbrev pub EachIsRun : Type 0
 EachIsRun = (settings : Settings) (log : List Entry) → IsLegal settings log → AreRuns settings log
+
+-- a pause does nothing but refuse: a step that may be taken while shards are paused may be taken while none is
+abbrev pub PauseOnlyRefuses : Type 0
+PauseOnlyRefuses =
+    (settings : Settings) (log : List Entry) (paused : List Bool) (step : Step)
+    → refusal settings log paused step ≡ None → refusal settings log [] step ≡ None

@@ -1,5 +1,5 @@
 //! Laws of legal logs, over all settings and logs.
-ghost use Rattle.bench_spec.specs.Legal.{BookIsAnswered, EachIsRun, FrontsAreLegal, GoesBack, GoesOn, NoneIsOver};
+ghost use Rattle.bench_spec.specs.Legal.{BookIsAnswered, EachIsRun, FrontsAreLegal, GoesBack, GoesOn, NoneIsOver, PauseOnlyRefuses};
 
 /// One more entry that may follow keeps a log legal.
 pub fn legal_goes_on()
@@ -31,4 +31,9 @@ pub fn legal_never_over()
 /// section 7).
 pub fn legal_is_run()
     ensures { EachIsRun }
+{}
+
+/// A step that may be taken while shards are paused may be taken while none is.
+pub fn pause_only_refuses()
+    ensures { PauseOnlyRefuses }
 {}
