@@ -1,6 +1,7 @@
 //! The directory: places, and what a full one does.
 use base_list::{AddError, AddFault};
 use sess_dir::{Directory, MAX_NAMES};
+use std::alloc::Global;
 
 /// Whether each name is found or added at its place.
 fn finds_or_adds(directory: &mut Directory, rows: &[(&str, usize)]) -> bool {
@@ -20,28 +21,58 @@ fn adds_numbers(directory: &mut Directory, count: u32) -> bool {
     all
 }
 
+/// Whether that name stands at a place.
+fn is_name(directory: &Directory, place: usize, name: &str) -> bool {
+    directory.name(place) == Some(name.as_bytes())
+}
+
+/// Whether two names get the places 0 and 1, and no other place has one.
+fn has_two(directory: &mut Directory) -> bool {
+    let was_empty = directory.is_empty();
+    let rows = [("c1;1", 0), ("c1;2", 1), ("c1;1", 0)];
+    was_empty
+        && finds_or_adds(directory, &rows)
+        && directory.len() == 2
+        && is_name(directory, 1, "c1;2")
+        && directory.name(2).is_none()
+}
+
+/// Whether the second of two names is dropped.
+fn drops_the_second(directory: &mut Directory) -> bool {
+    if directory.is_empty() {
+        return false;
+    }
+    directory.drop_last();
+    directory.find("c1;2".as_bytes()).is_none() && directory.find("c1;1".as_bytes()) == Some(0)
+}
+
+/// Whether a full directory refuses the name 4,096, and knows the name 77.
+fn refuses_one_more(directory: &mut Directory) -> bool {
+    let was_full = directory.len() == MAX_NAMES;
+    let one_more = directory.find_or_add(&4096u32.to_be_bytes());
+    let known = directory.find_or_add(&77u32.to_be_bytes());
+    was_full
+        && one_more == Err(AddError::Fault(AddFault::Full))
+        && known == Ok(77)
+        && directory.len() == MAX_NAMES
+}
+
+fn keeps_places(alloc: Global) -> bool {
+    let mut directory = Directory::new(alloc);
+    has_two(&mut directory) && drops_the_second(&mut directory)
+}
+
+fn fills(alloc: Global) -> bool {
+    let mut directory = Directory::new(alloc);
+    adds_numbers(&mut directory, 4096) && refuses_one_more(&mut directory)
+}
+
 #[test]
 fn a_name_keeps_the_place_at_which_it_was_added(rt: HostRuntime) {
-    let mut directory = Directory::new(rt.alloc());
-    assert!(rt; directory.is_empty());
-    let rows = [("c1;1", 0), ("c1;2", 1), ("c1;1", 0)];
-    assert!(rt; finds_or_adds(&mut directory, &rows));
-    assert!(rt; directory.len() == 2);
-    assert!(rt; directory.name(1) == Some("c1;2".as_bytes()));
-    assert!(rt; directory.name(2).is_none());
-    directory.drop_last();
-    assert!(rt; directory.find("c1;2".as_bytes()).is_none());
-    assert!(rt; directory.find("c1;1".as_bytes()) == Some(0));
+    assert!(rt; keeps_places(rt.alloc()));
 }
 
 #[test]
 fn a_full_directory_takes_no_new_name_and_finds_the_others(rt: HostRuntime) {
-    let mut directory = Directory::new(rt.alloc());
-    assert!(rt; adds_numbers(&mut directory, 4096));
-    assert!(rt; directory.len() == MAX_NAMES);
-    let one_more = directory.find_or_add(&4096u32.to_be_bytes());
-    assert!(rt; one_more == Err(AddError::Fault(AddFault::Full)));
-    let known = directory.find_or_add(&77u32.to_be_bytes());
-    assert!(rt; known == Ok(77));
-    assert!(rt; directory.len() == MAX_NAMES);
+    assert!(rt; fills(rt.alloc()));
 }

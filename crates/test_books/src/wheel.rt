@@ -1,17 +1,125 @@
 //! The timers: what is due, in which order, and what an owner has.
+use std::alloc::Global;
 use tick_wheel::{Armed, Firing, Wheel};
 
-/// Whether each owner is armed, with a generation and so many ticks.
-fn arms(wheel: &mut Wheel, rows: &[(u64, u64, u64)]) -> bool {
-    let mut all = true;
-    for (owner, generation, ticks) in rows {
-        all = all && wheel.arm(*owner, *generation, *ticks).is_ok();
-    }
-    all
+/// Due moment, owner and generation of a timer that fires.
+type Fired = (u64, u64, u64);
+
+/// Generation and due moment of an owner's timer.
+type Timer = Option<(u64, u64)>;
+
+/// A call of the wheel, and what it answers.
+enum Call {
+    /// An owner is armed, with a generation and so many ticks.
+    Arm(u64, u64, u64),
+    /// An owner is disarmed.
+    Disarm(u64),
+    /// At a moment these fire.
+    Advance(u64, &'static [Fired]),
+    /// An owner has this timer.
+    Has(u64, Timer),
+    /// An owner has a place, or has none.
+    HasPlace(u64, bool),
+    /// An owner, who has a place, gets this timer back.
+    Restore(u64, Timer),
+    /// So many are due at a moment.
+    DueAt(u64, usize),
+    /// The moment is this.
+    IsAt(u64),
 }
 
-/// Whether these fire at a moment: due moment, owner and generation of each.
-fn fires(wheel: &mut Wheel, moment: u64, rows: &[(u64, u64, u64)]) -> bool {
+/// What is tested, and the calls that show it on a new wheel.
+const CASES: &[(&str, &[Call])] = &[
+    (
+        "due timers fire by moment and then owner",
+        &[
+            Call::Arm(5, 1, 10),
+            Call::Arm(3, 1, 10),
+            Call::Arm(9, 1, 7),
+            Call::Disarm(9),
+            Call::DueAt(9, 0),
+            Call::DueAt(10, 2),
+            Call::Advance(9, &[]),
+            Call::Advance(10, &[(10, 3, 1), (10, 5, 1)]),
+            Call::DueAt(u64::MAX, 0),
+            Call::Has(3, None),
+            Call::Advance(11, &[]),
+        ],
+    ),
+    (
+        "an owner has its last timer alone",
+        &[
+            Call::Arm(7, 1, 10),
+            Call::Arm(7, 2, 20),
+            Call::Advance(15, &[]),
+            Call::Advance(20, &[(20, 7, 2)]),
+            Call::Advance(5, &[]),
+            Call::IsAt(20),
+            Call::Arm(8, 1, 1),
+            Call::Has(8, Some((1, 21))),
+        ],
+    ),
+    (
+        "no timer is due after the last moment",
+        &[
+            Call::Advance(18_446_744_073_709_551_614, &[]),
+            Call::Arm(1, 1, 10),
+            Call::Has(1, Some((1, 18_446_744_073_709_551_615))),
+            Call::Advance(
+                18_446_744_073_709_551_615,
+                &[(18_446_744_073_709_551_615, 1, 1)],
+            ),
+        ],
+    ),
+    (
+        "an owner gets back the timer that it had",
+        &[
+            Call::Arm(4, 1, 30),
+            Call::Has(4, Some((1, 30))),
+            Call::Arm(4, 2, 50),
+            Call::HasPlace(4, true),
+            Call::HasPlace(5, false),
+            Call::Restore(4, Some((1, 30))),
+            Call::Has(4, Some((1, 30))),
+            Call::Advance(30, &[(30, 4, 1)]),
+            Call::HasPlace(4, true),
+            Call::Restore(4, None),
+            Call::Has(4, None),
+        ],
+    ),
+    (
+        "the largest owners are armed",
+        &[
+            Call::Arm(65_535, 1, 3),
+            Call::Arm(u64::MAX, u64::MAX, 3),
+            Call::Arm(0, 0, 4),
+            Call::DueAt(3, 2),
+            Call::DueAt(4, 3),
+            Call::Advance(3, &[(3, 65_535, 1), (3, u64::MAX, u64::MAX)]),
+            Call::Advance(4, &[(4, 0, 0)]),
+        ],
+    ),
+    (
+        "a first arm is undone",
+        &[
+            Call::Has(65_535, None),
+            Call::Arm(65_535, 1, 30),
+            Call::HasPlace(65_535, true),
+            Call::Restore(65_535, None),
+            Call::Has(65_535, None),
+            Call::DueAt(30, 0),
+            Call::Advance(30, &[]),
+        ],
+    ),
+];
+
+fn armed_of(timer: Timer) -> Option<Armed> {
+    let (generation, due) = timer?;
+    Some(Armed { generation, due })
+}
+
+/// Whether these fire at a moment.
+fn fires(wheel: &mut Wheel, moment: u64, rows: &[Fired]) -> bool {
     let Ok(fired) = wheel.advance(moment) else {
         return false;
     };
@@ -29,83 +137,49 @@ fn fires(wheel: &mut Wheel, moment: u64, rows: &[(u64, u64, u64)]) -> bool {
     all
 }
 
-#[test]
-fn due_timers_fire_by_moment_and_then_owner(rt: HostRuntime) {
-    let mut wheel = Wheel::new(rt.alloc());
-    assert!(rt; arms(&mut wheel, &[(5, 1, 10), (3, 1, 10), (9, 1, 7)]));
-    wheel.disarm(9);
-    assert!(rt; (wheel.due_at(9), wheel.due_at(10)) == (0, 2));
-    assert!(rt; fires(&mut wheel, 9, &[]));
-    assert!(rt; fires(&mut wheel, 10, &[(10, 3, 1), (10, 5, 1)]));
-    assert!(rt; wheel.due_at(u64::MAX) == 0);
-    assert!(rt; wheel.armed(3).is_none());
-    assert!(rt; fires(&mut wheel, 11, &[]));
+/// Whether an owner has a place, and now this timer.
+fn restores(wheel: &mut Wheel, owner: u64, timer: Timer) -> bool {
+    if !wheel.has_place(owner) {
+        return false;
+    }
+    wheel.restore(owner, armed_of(timer));
+    true
+}
+
+fn disarms(wheel: &mut Wheel, owner: u64) -> bool {
+    wheel.disarm(owner);
+    true
+}
+
+/// Whether a call answers so.
+fn answers(wheel: &mut Wheel, call: &Call) -> bool {
+    match call {
+        Call::Arm(owner, generation, ticks) => wheel.arm(*owner, *generation, *ticks).is_ok(),
+        Call::Disarm(owner) => disarms(wheel, *owner),
+        Call::Advance(moment, rows) => fires(wheel, *moment, rows),
+        Call::Has(owner, timer) => wheel.armed(*owner) == armed_of(*timer),
+        Call::HasPlace(owner, answer) => wheel.has_place(*owner) == *answer,
+        Call::Restore(owner, timer) => restores(wheel, *owner, *timer),
+        Call::DueAt(moment, count) => wheel.due_at(*moment) == *count,
+        Call::IsAt(moment) => wheel.moment() == *moment,
+    }
+}
+
+/// How many calls answer so on a new wheel, before the first that does not.
+fn answered(alloc: Global, calls: &[Call]) -> usize {
+    let mut wheel = Wheel::new(alloc);
+    for (place, call) in calls.iter().enumerate() {
+        if !answers(&mut wheel, call) {
+            return place;
+        }
+    }
+    calls.len()
 }
 
 #[test]
-fn an_owner_has_its_last_timer_alone(rt: HostRuntime) {
-    let mut wheel = Wheel::new(rt.alloc());
-    assert!(rt; arms(&mut wheel, &[(7, 1, 10), (7, 2, 20)]));
-    assert!(rt; fires(&mut wheel, 15, &[]));
-    assert!(rt; fires(&mut wheel, 20, &[(20, 7, 2)]));
-    assert!(rt; fires(&mut wheel, 5, &[]));
-    assert!(rt; wheel.moment() == 20);
-    assert!(rt; arms(&mut wheel, &[(8, 1, 1)]));
-    let armed = Armed {
-        generation: 1,
-        due: 21,
-    };
-    assert!(rt; wheel.armed(8) == Some(armed));
-}
-
-#[test]
-fn no_timer_is_due_after_the_last_moment(rt: HostRuntime) {
-    let mut wheel = Wheel::new(rt.alloc());
-    assert!(rt; fires(&mut wheel, 18_446_744_073_709_551_614, &[]));
-    assert!(rt; arms(&mut wheel, &[(1, 1, 10)]));
-    let due = 18_446_744_073_709_551_615;
-    assert!(rt; wheel.armed(1) == Some(Armed { generation: 1, due }));
-    assert!(rt; fires(&mut wheel, due, &[(due, 1, 1)]));
-}
-
-#[test]
-fn an_owner_gets_back_the_timer_that_it_had(rt: HostRuntime) {
-    let mut wheel = Wheel::new(rt.alloc());
-    assert!(rt; arms(&mut wheel, &[(4, 1, 30)]));
-    let had = wheel.armed(4);
-    assert!(rt; arms(&mut wheel, &[(4, 2, 50)]));
-    assert!(rt; wheel.has_place(4) && !wheel.has_place(5));
-    wheel.restore(4, had);
-    let armed = Armed {
-        generation: 1,
-        due: 30,
-    };
-    assert!(rt; wheel.armed(4) == Some(armed));
-    assert!(rt; fires(&mut wheel, 30, &[(30, 4, 1)]));
-    assert!(rt; wheel.has_place(4));
-    wheel.restore(4, None);
-    assert!(rt; wheel.armed(4).is_none());
-}
-
-#[test]
-fn the_largest_owners_are_armed(rt: HostRuntime) {
-    let mut wheel = Wheel::new(rt.alloc());
-    let rows = [(65_535, 1, 3), (u64::MAX, u64::MAX, 3), (0, 0, 4)];
-    assert!(rt; arms(&mut wheel, &rows));
-    assert!(rt; (wheel.due_at(3), wheel.due_at(4)) == (2, 3));
-    let due = [(3, 65_535, 1), (3, u64::MAX, u64::MAX)];
-    assert!(rt; fires(&mut wheel, 3, &due));
-    assert!(rt; fires(&mut wheel, 4, &[(4, 0, 0)]));
-}
-
-#[test]
-fn a_first_arm_is_undone(rt: HostRuntime) {
-    let mut wheel = Wheel::new(rt.alloc());
-    let had = wheel.armed(65_535);
-    assert!(rt; arms(&mut wheel, &[(65_535, 1, 30)]));
-    assert!(rt; wheel.has_place(65_535));
-    wheel.restore(65_535, had);
-    assert!(rt; wheel.armed(65_535).is_none());
-    assert!(rt; wheel.due_at(30) == 0);
-    assert!(rt; fires(&mut wheel, 30, &[]));
+fn timers_fire_when_they_are_due(rt: HostRuntime) {
+    for (name, calls) in CASES {
+        let place = answered(rt.alloc(), calls);
+        assert!(rt; place == calls.len(), "{name}: call {place}");
+    }
 }

@@ -1,9 +1,26 @@
 //! Reads each example that a word names, in the folder where it runs, and compares what is printed, and the exit status, with
-//! `expected/NAME.txt`; of a word `explained/NAME` what is printed in names. The last line tells how many there were, if all are as expected; each other one is named.
+//! `expected/NAME.txt`; of a word `explained/NAME` what is printed in names. Then tries the rows of `rows/`, and messages,
+//! texts, readers and writers that are made here. What is not as expected is named, a row by its file and line. If all is, the
+//! last line tells how many examples there were.
 #![tactic(auto)]
 
+mod commands;
+mod explained;
+mod faults;
+mod inputs;
+mod lines;
+mod messages;
+mod streams;
+
 use bench_device::Counting;
+use commands::wrong_command;
+use explained::wrong_stop;
+use faults::wrong_fault;
+use inputs::wrong_input;
+use lines::wrong_lines;
+use messages::{Rows, Wrong, wrong_row};
 use msg_text::{Style, read_on};
+use std::alloc::{AllocError, Global};
 use std::process::ExitCode;
 use std::{env, fs, io};
 
@@ -29,6 +46,37 @@ fn is_as_expected(rt: &HostRuntime, word: &str) -> io::Result<bool> {
     Ok(sink.device.as_slice() == fs::read(rt, wanted.as_str())?.as_slice())
 }
 
+/// Whether the rows of a file are as they say; the first that isn't is told, with its line.
+fn are_rows(rt: &HostRuntime, file: &str, kind: Rows) -> io::Result<bool> {
+    let rows = fs::read_to_string(rt, file)?;
+    match wrong_row(rt.alloc(), kind, rows.as_str())? {
+        None => Ok(true),
+        Some((row, place)) => {
+            let line = place.saturating_add(1);
+            println!(rt; "{file}:{line}: {row} is not as expected")?;
+            Ok(false)
+        }
+    }
+}
+
+/// Whether the rows of all files are as they say.
+fn are_all_rows(rt: &HostRuntime) -> io::Result<bool> {
+    let refused = are_rows(rt, "rows/refused.rows", Rows::Refused)?;
+    let written = are_rows(rt, "rows/written.rows", Rows::Written)?;
+    let kept = are_rows(rt, "rows/kept.rows", Rows::Kept)?;
+    Ok(refused && written && kept)
+}
+
+/// What of all that is made here isn't as expected.
+fn wrong(alloc: Global) -> Result<Wrong<'static>, AllocError> {
+    let command = wrong_command(alloc)?;
+    let fault = wrong_fault(alloc)?;
+    let input = wrong_input(alloc)?;
+    let stop = wrong_stop(alloc)?;
+    let lines = wrong_lines(alloc)?;
+    Ok(command.or(fault).or(input).or(stop).or(lines))
+}
+
 fn main(rt: HostRuntime) -> io::Result<ExitCode> {
     let words: Vec<String> = env::args(&rt)?.collect(rt.alloc())?;
     let mut all = true;
@@ -37,6 +85,13 @@ fn main(rt: HostRuntime) -> io::Result<ExitCode> {
             all = false;
             println!(&rt; "{name} is not as expected")?;
         }
+    }
+    if !are_all_rows(&rt)? {
+        all = false;
+    }
+    if let Some((what, number)) = wrong(rt.alloc())? {
+        all = false;
+        println!(&rt; "{what} ({number}) is not as expected")?;
     }
     if !all {
         return Ok(ExitCode::FAILURE);

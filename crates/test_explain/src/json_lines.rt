@@ -4,10 +4,13 @@ use crate::octets::{BAD_SIZE, BROKEN_INSIDE, CUT, TERMINATION, UNKNOWN, octets_o
 use dia_dict::Dictionary;
 use msg_json::put_json;
 use std::alloc::Global;
-use std::test::Fail;
 
-/// Whether this is the line of the octets that the digits spell, and whether they have a fault.
-fn says(alloc: Global, number: u64, offset: u64, digits: &str, refused: bool, line: &str) -> bool {
+/// The number and the offset of a message, its digits, whether it has a fault, and what is said of it.
+type Row = (u64, u64, &'static str, bool, &'static str);
+
+/// Whether a row is so.
+fn says(alloc: Global, row: &Row) -> bool {
+    let (number, offset, digits, refused, line) = *row;
     let (octets, made) = octets_of(digits);
     let mut out = Vec::new(alloc);
     let Ok(dictionary) = Dictionary::base(alloc) else {
@@ -46,12 +49,6 @@ const TERMINATION_LINE: &str = "{\"number\":1,\"offset\":0,\
 \"fault\":null}
 ";
 
-#[test]
-fn each_header_field_and_each_avp_has_its_members(rt: HostRuntime) -> Result<(), Fail> {
-    assert!(rt; says(rt.alloc(), 1, 0, TERMINATION, false, TERMINATION_LINE));
-    Ok(())
-}
-
 const BAD_SIZE_LINE: &str = "{\"number\":2,\"offset\":168,\
 \"abbreviation\":\"DPR\",\"name\":\"Disconnect-Peer-Request\",\"flags\":\"R---\",\
 \"version\":1,\"length\":68,\"command\":282,\"application\":0,\"hop_by_hop\":1,\"end_to_end\":2,\
@@ -77,22 +74,6 @@ const BROKEN_INSIDE_LINE: &str = "{\"number\":18446744073709551615,\"offset\":18
 \"fault\":{\"result_code\":5014,\"name\":\"DIAMETER_INVALID_AVP_LENGTH\",\"reason\":\"an AVP has a wrong length\",\
 \"failed\":{\"code\":421,\"vendor\":null,\"name\":\"CC-Total-Octets\",\"place\":28}}}
 ";
-
-#[test]
-fn a_wrong_length_is_told_with_its_place(rt: HostRuntime) -> Result<(), Fail> {
-    assert!(rt; says(rt.alloc(), 2, 168, BAD_SIZE, true, BAD_SIZE_LINE));
-    assert!(rt;
-        says(
-            rt.alloc(),
-            u64::MAX,
-            u64::MAX,
-            BROKEN_INSIDE,
-            true,
-            BROKEN_INSIDE_LINE
-        )
-    );
-    Ok(())
-}
 
 const UNKNOWN_LINE: &str = "{\"number\":1,\"offset\":0,\
 \"abbreviation\":\"DWA\",\"name\":\"Device-Watchdog-Answer\",\"flags\":\"--ET\",\
@@ -123,10 +104,28 @@ const MISSING_LINE: &str = "{\"number\":1,\"offset\":0,\
 \"failed\":{\"code\":268,\"vendor\":null,\"name\":\"Result-Code\",\"place\":null}}}
 ";
 
+/// Each header field and each AVP is told, a wrong length with its place, and what is unknown, cut off or missing.
+const ROWS: &[Row] = &[
+    (1, 0, TERMINATION, false, TERMINATION_LINE),
+    (2, 168, BAD_SIZE, true, BAD_SIZE_LINE),
+    (u64::MAX, u64::MAX, BROKEN_INSIDE, true, BROKEN_INSIDE_LINE),
+    (1, 0, UNKNOWN, true, UNKNOWN_LINE),
+    (1, 0, CUT, true, CUT_LINE),
+    (1, 0, MISSING, true, MISSING_LINE),
+];
+
+/// The place of the first row that isn't so.
+fn wrong_row(alloc: Global) -> Option<usize> {
+    for (place, row) in ROWS.iter().enumerate() {
+        if !says(alloc, row) {
+            return Some(place);
+        }
+    }
+    None
+}
+
 #[test]
-fn what_is_unknown_cut_off_or_missing_is_told(rt: HostRuntime) -> Result<(), Fail> {
-    assert!(rt; says(rt.alloc(), 1, 0, UNKNOWN, true, UNKNOWN_LINE));
-    assert!(rt; says(rt.alloc(), 1, 0, CUT, true, CUT_LINE));
-    assert!(rt; says(rt.alloc(), 1, 0, MISSING, true, MISSING_LINE));
-    Ok(())
+fn each_message_has_its_line(rt: HostRuntime) {
+    let wrong = wrong_row(rt.alloc());
+    assert!(rt; wrong.is_none(), "{wrong:?}");
 }

@@ -31,7 +31,7 @@ fn says(alloc: Global, dictionary: &Dictionary, code: u32, data: &[u8], members:
 }
 
 /// Code, data and members.
-const ROWS: [(u32, &[u8], &str); 22] = [
+const ROWS: &[(u32, &[u8], &str)] = &[
     (
         263,
         b"c1;1",
@@ -110,14 +110,20 @@ const ROWS: [(u32, &[u8], &str); 22] = [
     ),
 ];
 
+/// The members of the first row that aren't there.
+fn wrong_row(alloc: Global, dictionary: &Dictionary) -> Option<&'static str> {
+    for (code, data, members) in ROWS {
+        if !says(alloc, dictionary, *code, data, members) {
+            return Some(members);
+        }
+    }
+    None
+}
+
 #[test]
 fn data_say_what_their_type_is(rt: HostRuntime) -> Result<(), Fail> {
     let dictionary = Dictionary::base(rt.alloc())?;
-    for (code, data, members) in ROWS {
-        assert!(rt;
-            says(rt.alloc(), &dictionary, code, data, members),
-            "{members}"
-        );
-    }
+    let wrong = wrong_row(rt.alloc(), &dictionary);
+    assert!(rt; wrong.is_none(), "{wrong:?}");
     Ok(())
 }

@@ -4,10 +4,13 @@ use crate::octets::{BAD_SIZE, BROKEN_INSIDE, CUT, TERMINATION, UNKNOWN, octets_o
 use dia_dict::Dictionary;
 use msg_explain::explain;
 use std::alloc::Global;
-use std::test::Fail;
 
-/// Whether this is said of the octets that the digits spell, and whether they have a fault.
-fn says(alloc: Global, number: u64, offset: u64, digits: &str, refused: bool, text: &str) -> bool {
+/// The number and the offset of a message, its digits, whether it has a fault, and what is said of it.
+type Row = (u64, u64, &'static str, bool, &'static str);
+
+/// Whether a row is so.
+fn says(alloc: Global, row: &Row) -> bool {
+    let (number, offset, digits, refused, text) = *row;
     let (octets, made) = octets_of(digits);
     let mut out = Vec::new(alloc);
     let Ok(dictionary) = Dictionary::base(alloc) else {
@@ -32,12 +35,6 @@ message 1 at octet 0: CCR Credit-Control-Request RP--, version 1, length 168, co
     152: 417 CC-Service-Specific-Units -M- 16 35
 ";
 
-#[test]
-fn each_header_field_and_each_avp_has_its_line(rt: HostRuntime) -> Result<(), Fail> {
-    assert!(rt; says(rt.alloc(), 1, 0, TERMINATION, false, TERMINATION_TEXT));
-    Ok(())
-}
-
 const BAD_SIZE_TEXT: &str = "\
 message 2 at octet 168: DPR Disconnect-Peer-Request R---, version 1, length 68, command 282, application 0, hop-by-hop 1, end-to-end 2
   20: 264 Origin-Host -M- 17 \"c.example\"
@@ -53,22 +50,6 @@ message 18446744073709551615 at octet 18446744073709551615: DWR Device-Watchdog-
 fault 5014 DIAMETER_INVALID_AVP_LENGTH in message 18446744073709551615 at octet 18446744073709551615: an AVP has a wrong length: AVP 421 CC-Total-Octets at its octet 28
 ";
 
-#[test]
-fn a_wrong_length_is_told_with_its_place(rt: HostRuntime) -> Result<(), Fail> {
-    assert!(rt; says(rt.alloc(), 2, 168, BAD_SIZE, true, BAD_SIZE_TEXT));
-    assert!(rt;
-        says(
-            rt.alloc(),
-            u64::MAX,
-            u64::MAX,
-            BROKEN_INSIDE,
-            true,
-            BROKEN_INSIDE_TEXT
-        )
-    );
-    Ok(())
-}
-
 const UNKNOWN_TEXT: &str = "\
 message 1 at octet 0: DWA Device-Watchdog-Answer --ET, version 1, length 56, command 280, application 0, hop-by-hop 1, end-to-end 255
   20: 9999/10415 unknown VM- 16 0x00000007
@@ -82,9 +63,27 @@ message 1 at octet 0: no whole header 0x01000038800001
 fault 5015 DIAMETER_INVALID_MESSAGE_LENGTH in message 1 at octet 0: the length in the header is not that of the message
 ";
 
+/// Each header field and each AVP is told, a wrong length with its place, and what is unknown, cut off or missing.
+const ROWS: &[Row] = &[
+    (1, 0, TERMINATION, false, TERMINATION_TEXT),
+    (2, 168, BAD_SIZE, true, BAD_SIZE_TEXT),
+    (u64::MAX, u64::MAX, BROKEN_INSIDE, true, BROKEN_INSIDE_TEXT),
+    (1, 0, UNKNOWN, true, UNKNOWN_TEXT),
+    (1, 0, CUT, true, CUT_TEXT),
+];
+
+/// The place of the first row that isn't so.
+fn wrong_row(alloc: Global) -> Option<usize> {
+    for (place, row) in ROWS.iter().enumerate() {
+        if !says(alloc, row) {
+            return Some(place);
+        }
+    }
+    None
+}
+
 #[test]
-fn what_is_unknown_or_cut_off_is_in_hexadecimal(rt: HostRuntime) -> Result<(), Fail> {
-    assert!(rt; says(rt.alloc(), 1, 0, UNKNOWN, true, UNKNOWN_TEXT));
-    assert!(rt; says(rt.alloc(), 1, 0, CUT, true, CUT_TEXT));
-    Ok(())
+fn each_message_is_told_in_names(rt: HostRuntime) {
+    let wrong = wrong_row(rt.alloc());
+    assert!(rt; wrong.is_none(), "{wrong:?}");
 }

@@ -159,48 +159,54 @@ fn all_hold(alloc: Global, dictionary: &Dictionary, rows: &[Row<'_>]) -> Result<
     Ok(true)
 }
 
-/// Whether the faults of lists come by place.
-fn lists_hold(alloc: Global, dictionary: &Dictionary) -> Result<bool, WriteError> {
-    let cut_state = [0, 0, 1, 0x16, 0x40];
-    let cut_unknown = [0, 0, 0x27, 0x0f, 0x40];
-    let rows: [Row<'_>; 10] = [
-        (&HOST, &UNKNOWN, 0, 0, b"", 0, b""),
-        (&HOST, &UNKNOWN_M, 0, 0, b"", 5001, &UNKNOWN_M),
-        (&UNKNOWN_M, &BAD_REALM, 0, 0, b"", 5001, &UNKNOWN_M),
-        (&BAD_REALM, &UNKNOWN_M, 0, 0, b"", 5004, &BAD_REALM),
-        (&HOST, &SHORT_STATE, 0, 0, b"", 5014, &ZERO_STATE),
-        (&HOST, &LONG_OCTETS, 0, 0, b"", 5014, &ZERO_OCTETS),
-        (&BAD_REALM, &LONG_OCTETS, 0, 0, b"", 5004, &BAD_REALM),
-        // A header that is cut off: its missing octets count as zero.
-        (&HOST, &cut_state, 0, 0, b"", 5014, &ZERO_STATE),
-        (&HOST, &cut_unknown, 0, 0, b"", 5014, &NO_UNKNOWN),
-        (&HOST, &CUT_VENDOR, 0, 0, b"", 5014, &ZERO_VENDOR),
-    ];
-    all_hold(alloc, dictionary, &rows)
-}
+/// Origin-State-Id, AVP 9999 and Origin-Host, each with a header that is cut off.
+const CUT_STATE: [u8; 5] = [0, 0, 1, 0x16, 0x40];
 
-/// Whether the faults inside groups come at the group's place, and groups have at most 4 levels.
-fn groups_hold(alloc: Global, dictionary: &Dictionary) -> Result<bool, WriteError> {
-    let cut_host = [0, 0, 1, 8, 0x40, 0, 0];
-    let rows: [Row<'_>; 12] = [
-        // Two AVPs inside groups and one behind.
-        (&ZERO_OCTETS, &UNKNOWN, 1, 4, &HOST, 0, b""),
-        (&UNKNOWN_M, &LONG_OCTETS, 1, 4, &BAD_REALM, 5001, &UNKNOWN_M),
-        (&UNKNOWN, &LONG_OCTETS, 1, 4, &BAD_REALM, 5014, &ZERO_OCTETS),
-        (&HOST, &BAD_REALM, 1, 4, &UNKNOWN_M, 5004, &BAD_REALM),
-        (&HOST, &HOST, 1, 4, &UNKNOWN_M, 5001, &UNKNOWN_M),
-        (&HOST, &SHORT_STATE, 1, 4, &cut_host, 5014, &ZERO_STATE),
-        // The fifth level is one too many.
-        (&HOST, b"", 4, 4, b"", 0, b""),
-        (&HOST, b"", 5, 6, b"", 5012, b""),
-        (b"", b"", 4, 4, b"", 0, b""),
-        (b"", b"", 5, 6, b"", 5012, b""),
-        // What is wrong before a group too many comes first.
-        (&UNKNOWN_M, &GROUP, 4, 4, b"", 5001, &UNKNOWN_M),
-        (&GROUP, &UNKNOWN_M, 4, 4, b"", 5012, b""),
-    ];
-    all_hold(alloc, dictionary, &rows)
-}
+const CUT_UNKNOWN: [u8; 5] = [0, 0, 0x27, 0x0f, 0x40];
+
+const CUT_HOST: [u8; 7] = [0, 0, 1, 8, 0x40, 0, 0];
+
+/// The faults of lists come by place.
+const LISTS: &[Row<'static>] = &[
+    (&HOST, &UNKNOWN, 0, 0, b"", 0, b""),
+    (&HOST, &UNKNOWN_M, 0, 0, b"", 5001, &UNKNOWN_M),
+    (&UNKNOWN_M, &BAD_REALM, 0, 0, b"", 5001, &UNKNOWN_M),
+    (&BAD_REALM, &UNKNOWN_M, 0, 0, b"", 5004, &BAD_REALM),
+    (&HOST, &SHORT_STATE, 0, 0, b"", 5014, &ZERO_STATE),
+    (&HOST, &LONG_OCTETS, 0, 0, b"", 5014, &ZERO_OCTETS),
+    (&BAD_REALM, &LONG_OCTETS, 0, 0, b"", 5004, &BAD_REALM),
+    // A header that is cut off: its missing octets count as zero.
+    (&HOST, &CUT_STATE, 0, 0, b"", 5014, &ZERO_STATE),
+    (&HOST, &CUT_UNKNOWN, 0, 0, b"", 5014, &NO_UNKNOWN),
+    (&HOST, &CUT_VENDOR, 0, 0, b"", 5014, &ZERO_VENDOR),
+];
+
+/// The faults inside groups come at the group's place, and groups have at most 4 levels.
+const GROUPS: &[Row<'static>] = &[
+    // Two AVPs inside groups and one behind.
+    (&ZERO_OCTETS, &UNKNOWN, 1, 4, &HOST, 0, b""),
+    (&UNKNOWN_M, &LONG_OCTETS, 1, 4, &BAD_REALM, 5001, &UNKNOWN_M),
+    (&UNKNOWN, &LONG_OCTETS, 1, 4, &BAD_REALM, 5014, &ZERO_OCTETS),
+    (&HOST, &BAD_REALM, 1, 4, &UNKNOWN_M, 5004, &BAD_REALM),
+    (&HOST, &HOST, 1, 4, &UNKNOWN_M, 5001, &UNKNOWN_M),
+    (&HOST, &SHORT_STATE, 1, 4, &CUT_HOST, 5014, &ZERO_STATE),
+    // The fifth level is one too many.
+    (&HOST, b"", 4, 4, b"", 0, b""),
+    (&HOST, b"", 5, 6, b"", 5012, b""),
+    (b"", b"", 4, 4, b"", 0, b""),
+    (b"", b"", 5, 6, b"", 5012, b""),
+    // What is wrong before a group too many comes first.
+    (&UNKNOWN_M, &GROUP, 4, 4, b"", 5001, &UNKNOWN_M),
+    (&GROUP, &UNKNOWN_M, 4, 4, b"", 5012, b""),
+];
+
+/// What stands behind 128 AVPs, the number of the fault and its failed AVP.
+const BEHIND_FULL: &[(&[u8], u32, &[u8])] = &[
+    (b"", 0, b""),
+    (&UNKNOWN, 5012, b""),
+    (&UNKNOWN_M, 5012, b""),
+    (&[0, 0, 0x27, 0x0f, 0x40, 0, 0, 11, 0x61], 5014, &NO_UNKNOWN),
+];
 
 /// Whether a list has at most 128 AVPs at each level; `full` has as many.
 fn full_lists_hold(
@@ -208,24 +214,16 @@ fn full_lists_hold(
     dictionary: &Dictionary,
     full: &[u8],
 ) -> Result<bool, WriteError> {
-    let cut = [0, 0, 0x27, 0x0f, 0x40, 0, 0, 11, 0x61];
-    let rows: [Row<'_>; 4] = [
-        (full, b"", 0, 4, b"", 0, b""),
-        (full, &UNKNOWN, 0, 4, b"", 5012, b""),
-        (full, &UNKNOWN_M, 0, 4, b"", 5012, b""),
-        (full, &cut, 0, 4, b"", 5014, &NO_UNKNOWN),
-    ];
-    all_hold(alloc, dictionary, &rows)
-}
-
-#[test]
-fn the_first_fault_comes_by_place_with_its_failed_avp(rt: HostRuntime) -> Result<(), Fail> {
-    let alloc = rt.alloc();
-    let full = full_list(alloc)?;
-    let dictionary = Dictionary::base(alloc)?;
-    assert!(rt; lists_hold(alloc, &dictionary)? && groups_hold(alloc, &dictionary)?);
-    assert!(rt; full_lists_hold(alloc, &dictionary, &full)?);
-    Ok(())
+    for (behind, number, failed) in BEHIND_FULL {
+        if !holds(
+            alloc,
+            dictionary,
+            &(full, behind, 0, 4, b"", *number, failed),
+        )? {
+            return Ok(false);
+        }
+    }
+    Ok(true)
 }
 
 /// A code and data, and the number of the fault in an EVENT request and in any other message.
@@ -300,15 +298,14 @@ fn event_holds(alloc: Global, dictionary: &Dictionary, row: &EventRow) -> Result
     Ok(is_fault(alloc, fault, *number, failed))
 }
 
-#[test]
-fn requested_action_counts_where_the_first_cc_request_type_is_4(
-    rt: HostRuntime,
-) -> Result<(), Fail> {
-    let dictionary = Dictionary::base(rt.alloc())?;
+/// Whether a Requested-Action counts where the first CC-Request-Type is 4.
+fn events_hold(alloc: Global, dictionary: &Dictionary) -> Result<bool, AllocError> {
     for row in EVENTS {
-        assert!(rt; event_holds(rt.alloc(), &dictionary, row)?);
+        if !event_holds(alloc, dictionary, row)? {
+            return Ok(false);
+        }
     }
-    Ok(())
+    Ok(true)
 }
 
 /// Whether octets are AVPs without fault, of these codes.
@@ -323,15 +320,14 @@ fn lists(dictionary: &Dictionary, octets: &[u8], codes: &[u32]) -> bool {
             .all(|(avp, code)| avp.code == *code)
 }
 
-#[test]
-fn avps_without_fault_are_listed_where_they_lie(rt: HostRuntime) -> Result<(), Fail> {
-    let alloc = rt.alloc();
-    let dictionary = Dictionary::base(alloc)?;
+/// Whether AVPs without fault are listed where they lie.
+fn are_listed(alloc: Global, dictionary: &Dictionary, full: &[u8]) -> Result<bool, AllocError> {
     let octets = joined(alloc, &joined(alloc, &HOST, &GROUP)?, &UNKNOWN)?;
-    assert!(rt; lists(&dictionary, &octets, &[264, 446, 9999]));
-    assert!(rt; lists(&dictionary, &[], &[]));
-    assert!(rt; lists(&dictionary, &full_list(alloc)?, &[9999; MAX_AVPS]));
-    Ok(())
+    Ok(
+        lists(dictionary, &octets, &[264, 446, 9999])
+            && lists(dictionary, &[], &[])
+            && lists(dictionary, full, &[9999; MAX_AVPS]),
+    )
 }
 
 /// The answer of a survey with room for two AVPs: the number of its fault, 0 where there is none, nothing without room.
@@ -344,41 +340,47 @@ fn in_two(dictionary: &Dictionary, octets: &[u8]) -> Option<u32> {
     }
 }
 
-#[test]
-fn a_list_without_room_for_all_avps_is_told(rt: HostRuntime) -> Result<(), Fail> {
-    let alloc = rt.alloc();
-    let dictionary = Dictionary::base(alloc)?;
-    let two = joined(alloc, &HOST, &GROUP)?;
-    assert!(rt; in_two(&dictionary, &two) == Some(0));
-    assert!(rt; in_two(&dictionary, &joined(alloc, &two, &UNKNOWN)?) == None);
-    // A fault among the first two comes before, and so does what is left behind them and is broken.
-    let faulty = joined(alloc, &HOST, &BAD_REALM)?;
-    assert!(rt; in_two(&dictionary, &joined(alloc, &faulty, &UNKNOWN)?) == Some(5004));
-    assert!(rt; in_two(&dictionary, &joined(alloc, &two, &UNKNOWN[..7])?) == Some(5014));
-    Ok(())
+/// Two AVPs and what stands behind them, and the answer. A fault among the first two comes before, and so does what is left behind
+/// them and is broken.
+const IN_TWO: &[(&[u8], &[u8], &[u8], Option<u32>)] = &[
+    (&HOST, &GROUP, b"", Some(0)),
+    (&HOST, &GROUP, &UNKNOWN, None),
+    (&HOST, &BAD_REALM, &UNKNOWN, Some(5004)),
+    (&HOST, &GROUP, &[0, 0, 0x27, 0x0f, 0, 0, 0], Some(5014)),
+];
+
+/// Whether a list without room for all AVPs is told.
+fn rooms_hold(alloc: Global, dictionary: &Dictionary) -> Result<bool, AllocError> {
+    for (first, second, behind, answer) in IN_TWO {
+        let octets = joined(alloc, &joined(alloc, first, second)?, behind)?;
+        if in_two(dictionary, &octets) != *answer {
+            return Ok(false);
+        }
+    }
+    Ok(true)
 }
+
+/// Values of which credit control does not know some.
+const VALUES: &[ValueRow<'static>] = &[
+    (263, b"", 5004, 5004),
+    (263, b"s", 0, 0),
+    (263, &[0x61; 255], 0, 0),
+    (263, &[0x61; 256], 5004, 5004),
+    (416, &[0, 0, 0, 0], 5004, 5004),
+    (416, &[0, 0, 0, 1], 0, 0),
+    (416, &[0, 0, 0, 4], 0, 0),
+    (416, &[0, 0, 0, 5], 5004, 5004),
+    (416, &[0, 0, 1, 1], 5004, 5004),
+    (416, &[0, 0, 1], 5014, 5014),
+    (436, &[0, 0, 0, 0], 0, 0),
+    (436, &[0, 0, 0, 3], 0, 0),
+    (436, &[0, 0, 0, 4], 5004, 0),
+    (436, &[1, 0, 0, 3], 5004, 0),
+];
 
 /// Whether the values that credit control does not know are refused.
 fn values_hold(alloc: Global, dictionary: &Dictionary) -> Result<bool, WriteError> {
-    let longest = [0x61; 255];
-    let long = [0x61; 256];
-    let rows: [ValueRow<'_>; 14] = [
-        (263, b"", 5004, 5004),
-        (263, b"s", 0, 0),
-        (263, &longest, 0, 0),
-        (263, &long, 5004, 5004),
-        (416, &[0, 0, 0, 0], 5004, 5004),
-        (416, &[0, 0, 0, 1], 0, 0),
-        (416, &[0, 0, 0, 4], 0, 0),
-        (416, &[0, 0, 0, 5], 5004, 5004),
-        (416, &[0, 0, 1, 1], 5004, 5004),
-        (416, &[0, 0, 1], 5014, 5014),
-        (436, &[0, 0, 0, 0], 0, 0),
-        (436, &[0, 0, 0, 3], 0, 0),
-        (436, &[0, 0, 0, 4], 5004, 0),
-        (436, &[1, 0, 0, 3], 5004, 0),
-    ];
-    for row in &rows {
+    for row in VALUES {
         if !value_holds(alloc, dictionary, row)? {
             return Ok(false);
         }
@@ -386,35 +388,38 @@ fn values_hold(alloc: Global, dictionary: &Dictionary) -> Result<bool, WriteErro
     Ok(true)
 }
 
-#[test]
-fn values_that_credit_control_does_not_know_are_5004(rt: HostRuntime) -> Result<(), Fail> {
-    let alloc = rt.alloc();
-    let dictionary = Dictionary::base(alloc)?;
-    assert!(rt; values_hold(alloc, &dictionary)?);
-    Ok(())
+/// Codes, and the AVP that is named where it is missing: zeros of the least size of its type.
+const MISSING: &[(u32, &[u8])] = &[
+    (461, &NO_CONTEXT),
+    (278, &ZERO_STATE),
+    (421, &ZERO_OCTETS),
+    (9999, &NO_UNKNOWN),
+];
+
+fn missing_hold(alloc: Global, dictionary: &Dictionary) -> bool {
+    for (code, failed) in MISSING {
+        let fault = missing_fault(dictionary, *code);
+        if !is_fault(alloc, Some(fault), 5005, failed) {
+            return false;
+        }
+    }
+    true
 }
 
-#[test]
-fn a_missing_avp_has_zeros_of_the_least_size_of_its_type(rt: HostRuntime) -> Result<(), Fail> {
-    let alloc = rt.alloc();
-    let mut dictionary = Dictionary::base(alloc)?;
-    let rows: [(u32, &[u8]); 4] = [
-        (461, &NO_CONTEXT),
-        (278, &ZERO_STATE),
-        (421, &ZERO_OCTETS),
-        (9999, &NO_UNKNOWN),
-    ];
-    for (code, failed) in rows {
-        let fault = missing_fault(&dictionary, code);
-        assert!(rt; is_fault(alloc, Some(fault), 5005, failed), "{code}");
-    }
-    // An AVP that was added is known in groups too.
-    let row: Row<'_> = (&UNKNOWN_M, b"", 2, 2, b"", 5001, &UNKNOWN_M);
-    assert!(rt; holds(alloc, &dictionary, &row)?);
-    dictionary.add(9999, None, "Test", AvpKind::Unsigned32)?;
-    let row: Row<'_> = (&UNKNOWN_M, b"", 2, 2, b"", 5014, &ZERO_UNKNOWN);
-    assert!(rt; holds(alloc, &dictionary, &row)?);
-    Ok(())
+/// Whether an AVP that is added is known in groups too.
+fn added_is_known(alloc: Global, dictionary: &mut Dictionary) -> Result<bool, WriteError> {
+    let was = holds(
+        alloc,
+        dictionary,
+        &(&UNKNOWN_M, b"", 2, 2, b"", 5001, &UNKNOWN_M),
+    )?;
+    let added = dictionary.add(9999, None, "Test", AvpKind::Unsigned32);
+    let is = holds(
+        alloc,
+        dictionary,
+        &(&UNKNOWN_M, b"", 2, 2, b"", 5014, &ZERO_UNKNOWN),
+    )?;
+    Ok(was && added.is_ok() && is)
 }
 
 /// Subscription-Id within Subscription-Id, with reserved flags 0x1f and padding 0xff; the last padding is missing.
@@ -465,12 +470,67 @@ fn is_group_of(
     Ok(list.len() == count && out.as_slice() == encoding)
 }
 
+/// Whether reserved flags and padding become zero at every level.
+fn is_canonical(alloc: Global, dictionary: &Dictionary) -> Result<bool, WriteError> {
+    let canonical = canonical_encoding(alloc, dictionary)?;
+    Ok(
+        canonical.as_slice() == EVEN.as_slice()
+            && is_group_of(alloc, dictionary, &ODD[8..], 2, &EVEN[8..])?,
+    )
+}
+
+/// The first that doesn't hold with the dictionary of the base.
+fn wrong_tree(
+    alloc: Global,
+    dictionary: &Dictionary,
+    full: &[u8],
+) -> Result<Option<&'static str>, WriteError> {
+    let shown = [
+        (all_hold(alloc, dictionary, LISTS)?, "faults of lists"),
+        (all_hold(alloc, dictionary, GROUPS)?, "faults in groups"),
+        (
+            full_lists_hold(alloc, dictionary, full)?,
+            "faults of full lists",
+        ),
+        (
+            events_hold(alloc, dictionary)?,
+            "Requested-Action counts where the first CC-Request-Type is 4",
+        ),
+        (
+            are_listed(alloc, dictionary, full)?,
+            "AVPs are listed where they lie",
+        ),
+        (rooms_hold(alloc, dictionary)?, "a list without room"),
+        (
+            values_hold(alloc, dictionary)?,
+            "values that credit control does not know",
+        ),
+        (missing_hold(alloc, dictionary), "a missing AVP"),
+        (
+            is_canonical(alloc, dictionary)?,
+            "reserved flags and padding",
+        ),
+    ];
+    for (holds, what) in shown {
+        if !holds {
+            return Ok(Some(what));
+        }
+    }
+    Ok(None)
+}
+
 #[test]
-fn reserved_flags_and_padding_become_zero_at_every_level(rt: HostRuntime) -> Result<(), Fail> {
-    let alloc = rt.alloc();
-    let dictionary = Dictionary::base(alloc)?;
-    let canonical = canonical_encoding(alloc, &dictionary)?;
-    assert!(rt; canonical.as_slice() == EVEN.as_slice());
-    assert!(rt; is_group_of(alloc, &dictionary, &ODD[8..], 2, &EVEN[8..])?);
+fn the_first_fault_comes_by_place_and_encodings_are_canonical(rt: HostRuntime) -> Result<(), Fail> {
+    let full = full_list(rt.alloc())?;
+    let dictionary = Dictionary::base(rt.alloc())?;
+    let wrong = wrong_tree(rt.alloc(), &dictionary, &full)?;
+    assert!(rt; wrong.is_none(), "{wrong:?}");
+    Ok(())
+}
+
+#[test]
+fn an_avp_that_is_added_is_known(rt: HostRuntime) -> Result<(), Fail> {
+    let mut dictionary = Dictionary::base(rt.alloc())?;
+    assert!(rt; added_is_known(rt.alloc(), &mut dictionary)?);
     Ok(())
 }

@@ -13,7 +13,7 @@ fn says(alloc: Global, dictionary: &Dictionary, code: u32, data: &[u8], text: &s
 }
 
 /// Code, data and text.
-const ROWS: [(u32, &[u8], &str); 27] = [
+const ROWS: &[(u32, &[u8], &str)] = &[
     (263, b"c1;1", "\"c1;1\""),
     (264, b"a\"b\\\n\x7f~", "\"a\\\"b\\\\\\x0a\\x7f~\""),
     (281, &[0xc3, 0xa9], "\"\\xc3\\xa9\""),
@@ -63,17 +63,8 @@ const ROWS: [(u32, &[u8], &str); 27] = [
     (456, &[1, 2], "0x0102"),
 ];
 
-#[test]
-fn data_say_what_their_type_is(rt: HostRuntime) -> Result<(), Fail> {
-    let dictionary = Dictionary::base(rt.alloc())?;
-    for (code, data, text) in ROWS {
-        assert!(rt; says(rt.alloc(), &dictionary, code, data, text), "{text}");
-    }
-    Ok(())
-}
-
 /// Times: 1972 is that of RFC 5905, and the ends of the eras those of RFC 6733 section 4.3.1.
-const TIMES: [(&[u8], &str); 10] = [
+const TIMES: &[(&[u8], &str)] = &[
     (&[0x87, 0x6c, 0xe5, 0x80], "2272060800 1972-01-01T00:00:00Z"),
     (&[0x80, 0, 0, 0], "2147483648 1968-01-20T03:14:08Z"),
     (&[0xff, 0xff, 0xff, 0xff], "4294967295 2036-02-07T06:28:15Z"),
@@ -86,31 +77,63 @@ const TIMES: [(&[u8], &str); 10] = [
     (&[0x78, 0x7e, 0x9e, 0x00], "2021563904 2100-03-01T00:00:00Z"),
 ];
 
-#[test]
-fn times_are_dates_from_1968_to_2104(rt: HostRuntime) -> Result<(), Fail> {
-    let dictionary = Dictionary::base(rt.alloc())?;
-    for (data, text) in TIMES {
-        assert!(rt; says(rt.alloc(), &dictionary, 55, data, text), "{text}");
+/// Command Codes, whether of a request, and their names.
+const COMMANDS: &[(u32, bool, &str)] = &[
+    (257, true, "CER Capabilities-Exchange-Request"),
+    (258, false, "RAA Re-Auth-Answer"),
+    (271, true, "ACR Accounting-Request"),
+    (272, false, "CCA Credit-Control-Answer"),
+    (274, true, "ASR Abort-Session-Request"),
+    (275, false, "STA Session-Termination-Answer"),
+    (280, true, "DWR Device-Watchdog-Request"),
+    (282, false, "DPA Disconnect-Peer-Answer"),
+    (9, true, "unknown command"),
+];
+
+/// The first text that isn't that of its data.
+fn wrong_value(alloc: Global, dictionary: &Dictionary) -> Option<&'static str> {
+    for (code, data, text) in ROWS {
+        if !says(alloc, dictionary, *code, data, text) {
+            return Some(text);
+        }
     }
-    Ok(())
+    None
+}
+
+/// The first date that isn't that of its time.
+fn wrong_time(alloc: Global, dictionary: &Dictionary) -> Option<&'static str> {
+    for (data, text) in TIMES {
+        if !says(alloc, dictionary, 55, data, text) {
+            return Some(text);
+        }
+    }
+    None
+}
+
+/// Whether a command has this name.
+fn is_named(alloc: Global, number: u32, request: bool, text: &str) -> bool {
+    let mut out = Vec::new(alloc);
+    put_command(&mut out, number, request).is_ok() && out.as_slice() == text.as_bytes()
+}
+
+/// The first name that isn't that of its command.
+fn wrong_name(alloc: Global) -> Option<&'static str> {
+    for (number, request, text) in COMMANDS {
+        if !is_named(alloc, *number, *request, text) {
+            return Some(text);
+        }
+    }
+    None
 }
 
 #[test]
-fn commands_have_names(rt: HostRuntime) -> Result<(), Fail> {
-    for (number, request, text) in [
-        (257, true, "CER Capabilities-Exchange-Request"),
-        (258, false, "RAA Re-Auth-Answer"),
-        (271, true, "ACR Accounting-Request"),
-        (272, false, "CCA Credit-Control-Answer"),
-        (274, true, "ASR Abort-Session-Request"),
-        (275, false, "STA Session-Termination-Answer"),
-        (280, true, "DWR Device-Watchdog-Request"),
-        (282, false, "DPA Disconnect-Peer-Answer"),
-        (9, true, "unknown command"),
-    ] {
-        let mut out = Vec::new(rt.alloc());
-        put_command(&mut out, number, request)?;
-        assert!(rt; out.as_slice() == text.as_bytes(), "{text}");
-    }
+fn data_times_and_commands_are_told_in_words(rt: HostRuntime) -> Result<(), Fail> {
+    let dictionary = Dictionary::base(rt.alloc())?;
+    let value = wrong_value(rt.alloc(), &dictionary);
+    assert!(rt; value.is_none(), "data: {value:?}");
+    let time = wrong_time(rt.alloc(), &dictionary);
+    assert!(rt; time.is_none(), "a time: {time:?}");
+    let name = wrong_name(rt.alloc());
+    assert!(rt; name.is_none(), "a command: {name:?}");
     Ok(())
 }

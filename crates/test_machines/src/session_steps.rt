@@ -1,43 +1,23 @@
-//! The machines of a session's server and client over callbacks that keep their laws: what is printed of walks, as a separate
-//! reading of the tables and the laws gives it.
+//! The machines of a peer, and of a session's server and client, over callbacks that keep their laws: what is printed of walks, as
+//! a separate reading of the tables and the laws gives it.
 
 ghost use Rattle.tab_law.specs.Acts.{Permits};
 
+use crate::peer_steps::wins_the_election;
+use base_list::AddError;
 use bench_device::{Counting, Status};
 use client_rules::{client_laws, register_client};
+use peer_rules::{peer_laws, register_peer};
 use role_tables::{CLIENT_TABLE, SERVER_TABLE};
 use server_rules::{register_server, server_laws};
-use std::alloc::Global;
+use std::alloc::{AllocError, Global};
 use std::test::Fail;
 use tab_call::{Ask, Calls, Do, Registry, StoredAct, StoredGuard};
-use tab_law::{ActLaw, Acted, Scene, emitted, high_into, holds, permits};
+use tab_law::{ActLaw, Acted, LawBook, Scene, emitted, high_into, holds, permits};
 use tab_walk::walk_on;
 
-/// The callbacks of a role, each answering by its law: a guard as the law holds, an action as told.
-macro_rules! calls_of {
-    ($alloc:expr, $laws:expr, $answer:path) => {{
-        let mut guards = Vec::new($alloc);
-        for place in 0..$laws.guards().len() {
-            let law = &$laws.guards().at(place).value;
-            let own = law.copy($alloc)?;
-            let ask: Ask = Box::new($alloc, move |scene: &Scene| holds(&own, scene))?;
-            guards.push(StoredGuard::new(law.copy($alloc)?, ask))?;
-        }
-        let mut acts = Vec::new($alloc);
-        for place in 0..$laws.acts().len() {
-            let law = &$laws.acts().at(place).value;
-            let own = law.copy($alloc)?;
-            let act: Do = Box::new($alloc, move |scene: &Scene, room: &mut Acted| {
-                $answer(&own, scene, room);
-            })?;
-            acts.push(StoredAct::new(law.copy($alloc)?, act))?;
-        }
-        Calls { guards, acts }
-    }};
-}
-
 /// Writes the answer that a law permits with 1 unit granted, if it permits one, else with as many as it permits.
-pub fn grants_one(law: &ActLaw, scene: &Scene, room: &mut Acted)
+fn grants_one(law: &ActLaw, scene: &Scene, room: &mut Acted)
     ensures { Permits law.now scene.now room.new.regs room.new.deeds }
 {
     high_into(law, scene, room);
@@ -377,51 +357,113 @@ Send-Fail PendingI Idle row 9
 ",
 );
 
-#[test]
-fn a_session_of_a_server_goes_as_its_table_says(rt: HostRuntime) -> Result<(), Fail> {
-    let alloc = rt.alloc();
-    let laws = server_laws(alloc)?;
-    let calls = calls_of!(alloc, laws, high_into);
-    let mut registry = Registry::new(alloc);
-    register_server(alloc, &mut registry, calls)?;
-    let wrong = wrong_walk(
-        alloc,
-        &registry,
-        SERVER_TABLE,
-        &[GRANT, REFUSED, EVENTS, GROUPS],
-    );
-    assert!(rt; wrong.is_none(), "{wrong:?}");
-    Ok(())
-}
-
-#[test]
-fn a_session_of_a_client_goes_as_its_table_says(rt: HostRuntime) -> Result<(), Fail> {
-    let alloc = rt.alloc();
-    let laws = client_laws(alloc)?;
-    let calls = calls_of!(alloc, laws, high_into);
-    let mut registry = Registry::new(alloc);
-    register_client(alloc, &mut registry, calls)?;
-    let wrong = wrong_walk(alloc, &registry, CLIENT_TABLE, &[CUT_OFF, GOES_ON, SESSION]);
-    assert!(rt; wrong.is_none(), "{wrong:?}");
-    Ok(())
-}
-
-/// What is printed where 1 unit of 60 is granted.
-const ONE_OF_SIXTY: &str = "\
+/// A walk on which 1 unit of 60 is granted.
+const ONE_OF_SIXTY: Walk = (
+    "Initial 2=7 3=7 4=1 5=1 6=1 7=100 9=60 10=3 12=2001 13=60\n",
+    "\
 Initial Idle Open row 3
   Reserve 1
   To-Peer 0 0 7 7 2 1 1 0 0 0 3 0 2001 1
   Arm 1 600
-";
+",
+);
+
+#[derive(Clone, Copy)]
+enum Role {
+    Peer,
+    Client,
+    Server,
+    /// A server whose callbacks grant 1 unit where they may.
+    Sparing,
+}
+
+/// What is shown of a role.
+const ROLES: &[(&str, Role)] = &[
+    ("a peer wins the election", Role::Peer),
+    ("a session of a client goes as its table says", Role::Client),
+    ("a session of a server goes as its table says", Role::Server),
+    ("a callback may reserve less than is offered", Role::Sparing),
+];
+
+fn laws_of(alloc: Global, role: Role) -> Result<LawBook, AllocError> {
+    match role {
+        Role::Peer => peer_laws(alloc),
+        Role::Client => client_laws(alloc),
+        Role::Server | Role::Sparing => server_laws(alloc),
+    }
+}
+
+/// Writes what a role's callback answers by its law.
+fn answer(law: &ActLaw, scene: &Scene, role: Role, room: &mut Acted)
+    ensures { Permits law.now scene.now room.new.regs room.new.deeds }
+{
+    match role {
+        Role::Sparing => grants_one(law, scene, room),
+        _ => high_into(law, scene, room),
+    }
+}
+
+/// Whether a role is registered with its callbacks.
+fn is_registered(alloc: Global, registry: &mut Registry, role: Role, calls: Calls) -> bool {
+    match role {
+        Role::Peer => register_peer(alloc, registry, calls).is_ok(),
+        Role::Client => register_client(alloc, registry, calls).is_ok(),
+        Role::Server | Role::Sparing => register_server(alloc, registry, calls).is_ok(),
+    }
+}
+
+/// What goes wrong over a role's callbacks.
+fn wrong_over(alloc: Global, registry: &Registry, role: Role) -> Option<&'static str> {
+    match role {
+        Role::Peer if wins_the_election(alloc, registry) => None,
+        Role::Peer => Some("the steps of a peer"),
+        Role::Client => { wrong_walk(alloc, registry, CLIENT_TABLE, &[CUT_OFF, GOES_ON, SESSION]) }
+        Role::Server => {
+            wrong_walk(
+                alloc,
+                registry,
+                SERVER_TABLE,
+                &[GRANT, REFUSED, EVENTS, GROUPS],
+            )
+        }
+        Role::Sparing => wrong_walk(alloc, registry, SERVER_TABLE, &[ONE_OF_SIXTY]),
+    }
+}
+
+/// What goes wrong over callbacks of a role that answer by these laws.
+fn wrong_by(alloc: Global, laws: &LawBook, role: Role) -> Result<Option<&'static str>, AddError> {
+    let mut guards = Vec::new(alloc);
+    for entry in laws.guards().as_slice() {
+        let own = entry.value.copy(alloc)?;
+        let ask: Ask = Box::new(alloc, move |scene: &Scene| holds(&own, scene))?;
+        guards.push(StoredGuard::new(entry.value.copy(alloc)?, ask))?;
+    }
+    let mut acts = Vec::new(alloc);
+    for entry in laws.acts().as_slice() {
+        let own = entry.value.copy(alloc)?;
+        let act: Do = Box::new(alloc, move |scene: &Scene, room: &mut Acted| {
+            answer(&own, scene, role, room);
+        })?;
+        acts.push(StoredAct::new(entry.value.copy(alloc)?, act))?;
+    }
+    let mut registry = Registry::new(alloc);
+    if !is_registered(alloc, &mut registry, role, Calls { guards, acts }) {
+        return Ok(Some("the registry"));
+    }
+    Ok(wrong_over(alloc, &registry, role))
+}
+
+/// What goes wrong with a role.
+fn wrong_with(alloc: Global, role: Role) -> Result<Option<&'static str>, AddError> {
+    let laws = laws_of(alloc, role)?;
+    wrong_by(alloc, &laws, role)
+}
 
 #[test]
-fn a_callback_may_reserve_less_than_is_offered(rt: HostRuntime) -> Result<(), Fail> {
-    let alloc = rt.alloc();
-    let laws = server_laws(alloc)?;
-    let calls = calls_of!(alloc, laws, grants_one);
-    let mut registry = Registry::new(alloc);
-    register_server(alloc, &mut registry, calls)?;
-    let events = "Initial 2=7 3=7 4=1 5=1 6=1 7=100 9=60 10=3 12=2001 13=60\n";
-    assert!(rt; walks(alloc, &registry, SERVER_TABLE, events, ONE_OF_SIXTY));
+fn machines_go_as_their_tables_say(rt: HostRuntime) -> Result<(), Fail> {
+    for (name, role) in ROLES {
+        let wrong = wrong_with(rt.alloc(), *role)?;
+        assert!(rt; wrong.is_none(), "{name}: {wrong:?}");
+    }
     Ok(())
 }

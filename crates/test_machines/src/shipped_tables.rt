@@ -6,8 +6,7 @@ use client_rules::client_laws;
 use peer_rules::peer_laws;
 use role_tables::{CLIENT_TABLE, PEER_TABLE, SERVER_TABLE};
 use server_rules::server_laws;
-use std::alloc::Global;
-use std::test::Fail;
+use std::alloc::{AllocError, Global};
 use tab_law::LawBook;
 
 /// The states of a peer, by first appearance.
@@ -29,41 +28,32 @@ const CLIENT_STATES: [&str; 6] = [
 const SERVER_STATES: [&str; 2] = ["Idle", "Open"];
 
 /// Whether a table names what laws name, and has these states.
-fn names(alloc: Global, text: &str, laws: &LawBook, states: &[&'static str]) -> Result<bool, Fail> {
-    Ok(
-        has_the_names_of(alloc, text.as_bytes(), laws)?
-            && has_states(alloc, text.as_bytes(), states)?,
-    )
-}
-
-#[test]
-fn the_shipped_tables_are_printed_as_they_are_written(rt: HostRuntime) -> Result<(), Fail> {
-    for text in [PEER_TABLE, CLIENT_TABLE, SERVER_TABLE] {
-        assert!(rt; is_printed_as_written(rt.alloc(), text.as_bytes())?);
+fn names(
+    alloc: Global,
+    text: &str,
+    laws: Result<LawBook, AllocError>,
+    states: &[&'static str],
+) -> bool {
+    match laws {
+        Ok(laws) => {
+            has_the_names_of(alloc, text.as_bytes(), &laws)
+                && has_states(alloc, text.as_bytes(), states)
+        }
+        Err(_) => false,
     }
-    Ok(())
 }
 
 #[test]
-fn the_table_of_a_peer_names_what_its_laws_name(rt: HostRuntime) -> Result<(), Fail> {
-    let alloc = rt.alloc();
-    let laws = peer_laws(alloc)?;
-    assert!(rt; names(alloc, PEER_TABLE, &laws, &PEER_STATES)?);
-    Ok(())
+fn the_shipped_tables_are_printed_as_they_are_written(rt: HostRuntime) {
+    for text in [PEER_TABLE, CLIENT_TABLE, SERVER_TABLE] {
+        assert!(rt; is_printed_as_written(rt.alloc(), text.as_bytes()));
+    }
 }
 
 #[test]
-fn the_table_of_a_client_names_what_its_laws_name(rt: HostRuntime) -> Result<(), Fail> {
+fn a_table_names_what_its_laws_name(rt: HostRuntime) {
     let alloc = rt.alloc();
-    let laws = client_laws(alloc)?;
-    assert!(rt; names(alloc, CLIENT_TABLE, &laws, &CLIENT_STATES)?);
-    Ok(())
-}
-
-#[test]
-fn the_table_of_a_server_names_what_its_laws_name(rt: HostRuntime) -> Result<(), Fail> {
-    let alloc = rt.alloc();
-    let laws = server_laws(alloc)?;
-    assert!(rt; names(alloc, SERVER_TABLE, &laws, &SERVER_STATES)?);
-    Ok(())
+    assert!(rt; names(alloc, PEER_TABLE, peer_laws(alloc), &PEER_STATES));
+    assert!(rt; names(alloc, CLIENT_TABLE, client_laws(alloc), &CLIENT_STATES));
+    assert!(rt; names(alloc, SERVER_TABLE, server_laws(alloc), &SERVER_STATES));
 }

@@ -3,7 +3,6 @@
 use base_codes::{DeedCode, ResultCode, session_fact, session_register};
 use base_list::{AddError, AddFault, Octets};
 use std::alloc::{AllocError, Global};
-use std::test::Fail;
 use tab_law::{
     ActLaw, Atom, Chain, Change, Deed, Field, GuardLaw, LawBook, MAX_ACTIONS, MAX_GUARDS,
     MAX_KINDS, Numbers, PLACES, Scene, Term, Terms, Test, emitted, high, holds, permits,
@@ -36,34 +35,37 @@ fn four_and_six(alloc: Global) -> Result<Numbers, AllocError> {
     Ok(Numbers::new(numbers))
 }
 
+/// What a guard of one test answers at a request number.
+fn answer_of(alloc: Global, number: u64, test: Test) -> Result<bool, AllocError> {
+    let mut scene = blank();
+    scene.facts[session_fact::REQUEST_NUMBER] = number;
+    Ok(holds(&guard(alloc, test)?, &scene))
+}
+
 /// What guards of one test answer at a request number: whether it is 5, differs from 5, is below 5,
 /// at least 5, 4 or 6.
 fn answers(alloc: Global, number: u64) -> Result<[bool; 5], AllocError> {
     let five = Atom::Constant(5);
-    let mut scene = blank();
-    scene.facts[session_fact::REQUEST_NUMBER] = number;
-    Ok([
-        holds(&guard(alloc, Test::Equal(NUMBER, five))?, &scene),
-        holds(&guard(alloc, Test::Differing(NUMBER, five))?, &scene),
-        holds(&guard(alloc, Test::Below(NUMBER, five))?, &scene),
-        holds(&guard(alloc, Test::AtLeast(NUMBER, five))?, &scene),
-        holds(
-            &guard(alloc, Test::Among(NUMBER, four_and_six(alloc)?))?,
-            &scene,
-        ),
-    ])
+    let equal = answer_of(alloc, number, Test::Equal(NUMBER, five))?;
+    let differing = answer_of(alloc, number, Test::Differing(NUMBER, five))?;
+    let below = answer_of(alloc, number, Test::Below(NUMBER, five))?;
+    let at_least = answer_of(alloc, number, Test::AtLeast(NUMBER, five))?;
+    let among = answer_of(alloc, number, Test::Among(NUMBER, four_and_six(alloc)?))?;
+    Ok([equal, differing, below, at_least, among])
 }
 
+/// A request number, and what the guards answer.
+const ANSWERS: &[(u64, [bool; 5])] = &[
+    (4, [false, true, true, false, true]),
+    (5, [true, false, false, true, false]),
+    (6, [false, true, false, true, true]),
+];
+
 #[test]
-fn each_test_is_met_where_it_says(rt: HostRuntime) -> Result<(), Fail> {
-    for (number, wanted) in [
-        (4, [false, true, true, false, true]),
-        (5, [true, false, false, true, false]),
-        (6, [false, true, false, true, true]),
-    ] {
-        assert!(rt; answers(rt.alloc(), number)? == wanted, "at {number}");
+fn each_test_is_met_where_it_says(rt: HostRuntime) {
+    for (number, wanted) in ANSWERS {
+        assert!(rt; answers(rt.alloc(), *number) == Ok(*wanted), "at {number}");
     }
-    Ok(())
 }
 
 /// An answer to the last request, with success; the fact's number counts round.
@@ -108,11 +110,16 @@ fn is_copied(alloc: Global, law: &GuardLaw) -> bool {
     }
 }
 
+fn mine_and_success_hold(alloc: Global) -> bool {
+    match mine_and_success(alloc) {
+        Ok(law) => answers_so(&law) && is_copied(alloc, &law),
+        Err(_) => false,
+    }
+}
+
 #[test]
-fn a_guard_needs_all_its_tests_and_numbers_count_round(rt: HostRuntime) -> Result<(), Fail> {
-    let law = mine_and_success(rt.alloc())?;
-    assert!(rt; answers_so(&law) && is_copied(rt.alloc(), &law));
-    Ok(())
+fn a_guard_needs_all_its_tests_and_numbers_count_round(rt: HostRuntime) {
+    assert!(rt; mine_and_success_hold(rt.alloc()));
 }
 
 fn number(value: u64) -> Term {
@@ -163,32 +170,49 @@ fn may_reserve(law: &ActLaw, regs: &[u64; PLACES], units: u64) -> bool {
     permits(law, &offered(), regs, &[deed(DeedCode::Reserve, units)])
 }
 
-#[test]
-fn a_pick_may_be_any_value_of_its_range(rt: HostRuntime) -> Result<(), Fail> {
-    let law = reserve(rt.alloc())?;
-    let acted = high(&law, &offered());
-    assert!(rt; acted.regs[session_register::GRANTED] == 60);
-    assert!(rt;
-        acted.regs[session_register::UNIT] == 7,
-        "a term reads the register before the action"
-    );
-    assert!(rt;
-        acted.deeds.as_slice() == [deed(DeedCode::Reserve, 60)].as_slice(),
-        "a deed reads it after the action"
-    );
-    assert!(rt; DeedCode::Reserve.number() == 20);
-    for (units, answer) in [(0, false), (1, true), (60, true), (61, false)] {
-        let mut regs = acted.regs;
-        regs[session_register::GRANTED] = units;
-        assert!(rt; may_reserve(&law, &regs, units) == answer, "at {units}");
-        regs[session_register::FINAL] = 1;
-        assert!(rt; !may_reserve(&law, &regs, units), "another register stays");
+/// Units, and whether they may be reserved.
+const UNITS: &[(u64, bool)] = &[(0, false), (1, true), (60, true), (61, false)];
+
+/// Whether so many units may be reserved, or may not, and with another register changed never.
+fn is_reserved(law: &ActLaw, acted: &[u64; PLACES], units: u64, answer: bool) -> bool {
+    let mut regs = *acted;
+    regs[session_register::GRANTED] = units;
+    let is_answered = may_reserve(law, &regs, units) == answer;
+    regs[session_register::FINAL] = 1;
+    is_answered & !may_reserve(law, &regs, units)
+}
+
+/// The place of the first line of the table that isn't so.
+fn wrong_units(law: &ActLaw, acted: &[u64; PLACES]) -> Option<usize> {
+    for (place, (units, answer)) in UNITS.iter().enumerate() {
+        if !is_reserved(law, acted, *units, *answer) {
+            return Some(place);
+        }
     }
-    assert!(rt;
-        !permits(&law, &offered(), &acted.regs, &[]),
-        "the deed is owed"
-    );
-    Ok(())
+    None
+}
+
+/// The highest pick: the register before the action is read by a term, and the one after it by a deed, which is owed.
+fn is_highest(law: &ActLaw) -> bool {
+    let acted = high(law, &offered());
+    acted.regs[session_register::GRANTED] == 60
+        && acted.regs[session_register::UNIT] == 7
+        && acted.deeds.as_slice() == [deed(DeedCode::Reserve, 60)].as_slice()
+        && wrong_units(law, &acted.regs) == None
+        && !permits(law, &offered(), &acted.regs, &[])
+}
+
+fn picks(alloc: Global) -> bool {
+    match reserve(alloc) {
+        Ok(law) => is_highest(&law),
+        Err(_) => false,
+    }
+}
+
+#[test]
+fn a_pick_may_be_any_value_of_its_range(rt: HostRuntime) {
+    assert!(rt; DeedCode::Reserve.number() == 20);
+    assert!(rt; picks(rt.alloc()));
 }
 
 /// A sum, a difference and the lesser of numbers, and five deeds.
@@ -221,12 +245,16 @@ fn is_kept(alloc: Global, law: &ActLaw, other: &ActLaw) -> bool {
     }
 }
 
+fn ends_hold(alloc: Global) -> bool {
+    match (ends(alloc), reserve(alloc)) {
+        (Ok(law), Ok(other)) => stops(&law) && is_kept(alloc, &law, &other),
+        _ => false,
+    }
+}
+
 #[test]
-fn sums_stop_at_the_ends_and_the_first_four_emits_count(rt: HostRuntime) -> Result<(), Fail> {
-    let law = ends(rt.alloc())?;
-    let other = reserve(rt.alloc())?;
-    assert!(rt; stops(&law) && is_kept(rt.alloc(), &law, &other));
-    Ok(())
+fn sums_stop_at_the_ends_and_the_first_four_emits_count(rt: HostRuntime) {
+    assert!(rt; ends_hold(rt.alloc()));
 }
 
 /// Five deeds with a condition: a fact, or the register that the action sets, isn't 0. The second and the last have
@@ -264,12 +292,17 @@ fn leaves_out(law: &ActLaw) -> bool {
         && emitted(law, &scene, &scene.regs).len() == 2
 }
 
+fn conditions_hold(alloc: Global) -> bool {
+    let none = ActLaw::new(Vec::new(alloc));
+    match with_conditions(alloc) {
+        Ok(law) => leaves_out(&law) && is_kept(alloc, &law, &none),
+        Err(_) => false,
+    }
+}
+
 #[test]
-fn a_condition_that_is_0_emits_nothing_and_counts(rt: HostRuntime) -> Result<(), Fail> {
-    let law = with_conditions(rt.alloc())?;
-    let none = ActLaw::new(Vec::new(rt.alloc()));
-    assert!(rt; leaves_out(&law) && is_kept(rt.alloc(), &law, &none));
-    Ok(())
+fn a_condition_that_is_0_emits_nothing_and_counts(rt: HostRuntime) {
+    assert!(rt; conditions_hold(rt.alloc()));
 }
 
 /// As many arguments as a deed has, and the last of them.
@@ -286,23 +319,32 @@ fn widest(alloc: Global) -> Result<ActLaw, AllocError> {
     Ok(ActLaw::new(changes))
 }
 
-#[test]
-fn a_deed_has_64_arguments(rt: HostRuntime) -> Result<(), Fail> {
-    let law = widest(rt.alloc())?;
+/// Whether the only deed of an action has all facts, of which the last is 9.
+fn has_all_facts(law: &ActLaw) -> bool {
     let mut scene = blank();
     scene.facts[63] = 9;
-    let deeds = high(&law, &scene).deeds;
-    assert!(rt; deeds.len() == 1);
-    assert!(rt; deeds.as_slice()[0].a == scene.facts);
-    Ok(())
+    match high(law, &scene).deeds.as_slice() {
+        [deed] => deed.a == scene.facts,
+        _ => false,
+    }
+}
+
+#[test]
+fn a_deed_has_64_arguments(rt: HostRuntime) {
+    let law = widest(rt.alloc());
+    assert!(rt; matches!(&law, Ok(law) if has_all_facts(law)));
+}
+
+fn chain_keeps() -> bool {
+    let mut chain = Chain::new();
+    chain.push([1; PLACES]);
+    chain.push([2; PLACES]);
+    chain.as_slice() == [[1; PLACES], [2; PLACES]].as_slice()
 }
 
 #[test]
 fn a_chain_keeps_its_members(rt: HostRuntime) {
-    let mut chain = Chain::new();
-    chain.push([1; PLACES]);
-    chain.push([2; PLACES]);
-    assert!(rt; chain.as_slice() == [[1; PLACES], [2; PLACES]].as_slice());
+    assert!(rt; chain_keeps());
 }
 
 /// A name of its own for each number.
@@ -318,24 +360,20 @@ fn fill_kinds(book: &mut LawBook) -> Result<(), AddError> {
     Ok(())
 }
 
-/// What is wrong with a kind that is added.
-fn refused_kind(book: &mut LawBook, name: &[u8]) -> Option<AddFault> {
-    match book.add_kind(name) {
-        Err(AddError::Fault(fault)) => Some(fault),
-        _ => None,
-    }
+/// Whether a full book has its last kind, and refuses a name that it has and a new one.
+fn refuses_kinds(book: &mut LawBook) -> bool {
+    let full = book.kinds().len() == MAX_KINDS
+        && book.kinds().find(&numbered(127)) == Some(127)
+        && book.kinds().find(b"CCA-I") == None;
+    full && book.add_kind(&numbered(0)) == Err(AddError::Fault(AddFault::Taken))
+        && book.add_kind(b"CCA-I") == Err(AddError::Fault(AddFault::Full))
+        && book.kinds().len() == MAX_KINDS
 }
 
 #[test]
 fn a_name_is_taken_before_the_book_is_full(rt: HostRuntime) {
     let mut book = LawBook::new(rt.alloc());
-    assert!(rt; fill_kinds(&mut book) == Ok(()));
-    assert!(rt; book.kinds().len() == MAX_KINDS);
-    assert!(rt; book.kinds().find(&numbered(127)) == Some(127));
-    assert!(rt; book.kinds().find(b"CCA-I") == None);
-    assert!(rt; refused_kind(&mut book, &numbered(0)) == Some(AddFault::Taken));
-    assert!(rt; refused_kind(&mut book, b"CCA-I") == Some(AddFault::Full));
-    assert!(rt; book.kinds().len() == MAX_KINDS);
+    assert!(rt; fill_kinds(&mut book) == Ok(()) && refuses_kinds(&mut book));
     assert!(rt; AddFault::Taken.number() == 1 && AddFault::Full.number() == 2);
 }
 
@@ -361,23 +399,25 @@ fn fill_guards(alloc: Global, book: &mut LawBook, law: &GuardLaw) -> Result<(), 
     Ok(())
 }
 
-#[test]
-fn a_guard_that_is_refused_comes_back(rt: HostRuntime) -> Result<(), Fail> {
-    let alloc = rt.alloc();
-    let law = guard(alloc, Test::Below(Field::Register(2), Atom::Fact(3)))?;
+/// Whether a full book has that law under its last name.
+fn ends_with(book: &LawBook, law: &GuardLaw) -> bool {
+    book.guards().len() == MAX_GUARDS
+        && book.guards().at(63).name.as_slice() == numbered(63).as_slice()
+        && book.guards().at(63).value.is_same(law)
+}
+
+fn guards_come_back(alloc: Global, law: &GuardLaw) -> Result<bool, AddError> {
     let mut book = LawBook::new(alloc);
-    assert!(rt; fill_guards(alloc, &mut book, &law) == Ok(()));
-    assert!(rt; book.guards().len() == MAX_GUARDS);
-    assert!(rt; book.guards().at(63).name.as_slice() == numbered(63).as_slice());
-    assert!(rt; book.guards().at(63).value.is_same(&law));
-    for (number, fault) in [(63, AddFault::Taken), (64, AddFault::Full)] {
-        let name = numbered(number);
-        assert!(rt;
-            comes_back(alloc, &mut book, &law, &name, fault)?,
-            "{number}"
-        );
-    }
-    Ok(())
+    fill_guards(alloc, &mut book, law)?;
+    let taken = comes_back(alloc, &mut book, law, &numbered(63), AddFault::Taken)?;
+    let full = comes_back(alloc, &mut book, law, &numbered(64), AddFault::Full)?;
+    Ok(taken & full & ends_with(&book, law))
+}
+
+#[test]
+fn a_guard_that_is_refused_comes_back(rt: HostRuntime) {
+    let law = guard(rt.alloc(), Test::Below(Field::Register(2), Atom::Fact(3)));
+    assert!(rt; matches!(&law, Ok(law) if guards_come_back(rt.alloc(), law) == Ok(true)));
 }
 
 /// Adds an action as many times as a book may have actions.
@@ -388,17 +428,25 @@ fn fill_acts(alloc: Global, book: &mut LawBook) -> Result<(), AddError> {
     Ok(())
 }
 
-#[test]
-fn an_action_is_refused_where_the_book_is_full(rt: HostRuntime) -> Result<(), Fail> {
-    let alloc = rt.alloc();
-    let law = reserve(alloc)?;
+/// Whether a full book has that law at a place.
+fn has_at(book: &LawBook, place: usize, law: &ActLaw) -> bool {
+    book.acts().len() == MAX_ACTIONS
+        && place < MAX_ACTIONS
+        && book.acts().at(place).value.is_same(law)
+}
+
+fn acts_are_refused(alloc: Global) -> Result<bool, AddError> {
     let mut book = LawBook::new(alloc);
-    assert!(rt; fill_acts(alloc, &mut book) == Ok(()));
-    assert!(rt; book.acts().len() == MAX_ACTIONS);
-    assert!(rt; book.acts().at(5).value.is_same(&law));
-    let added = book.add_act(b"Charge", law);
-    assert!(rt; added.map_err(AddError::from) == Err(AddError::Fault(AddFault::Full)));
-    Ok(())
+    fill_acts(alloc, &mut book)?;
+    let law = reserve(alloc)?;
+    let was_kept = has_at(&book, 5, &law);
+    let added = book.add_act(b"Charge", law).map_err(AddError::from);
+    Ok(was_kept & (added == Err(AddError::Fault(AddFault::Full))))
+}
+
+#[test]
+fn an_action_is_refused_where_the_book_is_full(rt: HostRuntime) {
+    assert!(rt; acts_are_refused(rt.alloc()) == Ok(true));
 }
 
 /// Whether a copy of a name is the same.
@@ -409,9 +457,14 @@ fn is_copied_name(alloc: Global, name: &Octets) -> bool {
     }
 }
 
+fn name_is_copied(alloc: Global) -> bool {
+    match b"mine".to_vec(alloc) {
+        Ok(name) => is_copied_name(alloc, &Octets::new(name)),
+        Err(_) => false,
+    }
+}
+
 #[test]
-fn a_copied_name_is_the_same(rt: HostRuntime) -> Result<(), Fail> {
-    let name = Octets::new(b"mine".to_vec(rt.alloc())?);
-    assert!(rt; is_copied_name(rt.alloc(), &name));
-    Ok(())
+fn a_copied_name_is_the_same(rt: HostRuntime) {
+    assert!(rt; name_is_copied(rt.alloc()));
 }

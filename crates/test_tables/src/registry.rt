@@ -3,7 +3,7 @@
 ghost use Rattle.std.specs.Prelude.{◌<◌};
 
 use base_list::{AddError, AddFault};
-use std::test::Fail;
+use std::alloc::Global;
 use tab_call::{Ask, Do, Registry, StoredAct, StoredGuard};
 use tab_law::{
     ActLaw, Acted, GuardLaw, MAX_ACTIONS, MAX_GUARDS, MAX_KINDS, Scene, high_into, holds,
@@ -16,81 +16,78 @@ fn numbered(number: u8) -> [u8; 2]
     [b'a' + number / 26, b'a' + number % 26]
 }
 
-/// What is wrong with a kind that is added.
-fn refused_kind(registry: &mut Registry, name: &[u8]) -> Option<AddFault> {
-    match registry.add_kind(name) {
-        Err(AddError::Fault(fault)) => Some(fault),
-        _ => None,
-    }
-}
-
-#[test]
-fn a_kind_is_taken_before_the_registry_is_full(rt: HostRuntime) -> Result<(), Fail> {
-    let mut registry = Registry::new(rt.alloc());
+/// Adds as many kinds as a registry may have.
+fn fill_kinds(registry: &mut Registry) -> Result<(), AddError> {
     for number in 0..MAX_KINDS as u8 {
         registry.add_kind(&numbered(number))?;
     }
-    assert!(rt; refused_kind(&mut registry, b"aa") == Some(AddFault::Taken));
-    assert!(rt; refused_kind(&mut registry, b"CCA-I") == Some(AddFault::Full));
-    assert!(rt; registry.laws().kinds().len() == MAX_KINDS);
     Ok(())
 }
 
-#[test]
-fn a_guard_is_taken_before_the_registry_is_full(rt: HostRuntime) -> Result<(), Fail> {
-    let alloc = rt.alloc();
+/// Whether a kind whose name is taken is refused for that, and a new one since the registry is full.
+fn refuses_kinds(registry: &mut Registry) -> bool {
+    fill_kinds(registry) == Ok(())
+        && registry.add_kind(b"aa") == Err(AddError::Fault(AddFault::Taken))
+        && registry.add_kind(b"CCA-I") == Err(AddError::Fault(AddFault::Full))
+        && registry.laws().kinds().len() == MAX_KINDS
+}
+
+/// The numbers of the guards, or of the actions, that are refused: the last whose name is taken, and the last without room.
+type Refusals = (u8, u8);
+
+/// The refusals with one more. The first name comes again as number 64, where there is no room either.
+fn noted(refusals: Refusals, number: u8, added: Result<(), AddError>) -> Refusals {
+    match added {
+        Err(AddError::Fault(AddFault::Taken)) => (number, refusals.1),
+        Err(AddError::Fault(AddFault::Full)) => (refusals.0, number),
+        _ => refusals,
+    }
+}
+
+/// The refusals of guards, and how many there are in the end.
+fn guard_refusals(alloc: Global) -> Result<(Refusals, usize), AddError> {
     let law = GuardLaw::new(Vec::new(alloc));
     let mut registry = Registry::new(alloc);
-    let mut faults = (0, 0);
+    let mut refusals = (0, 0);
     for number in 0..MAX_GUARDS as u8 + 2 {
         let own = law.copy(alloc)?;
         let ask: Ask = Box::new(alloc, move |scene: &Scene| holds(&own, scene))?;
         let stored = StoredGuard::new(law.copy(alloc)?, ask);
-        // The first name comes again as the last but one, where there is no room either.
         let name = numbered(if number == 64 { 0 } else { number });
-        match registry.add_guard(&name, stored) {
-            Ok(()) => {}
-            Err(refused) => {
-                if refused.error == AddError::Fault(AddFault::Taken) {
-                    faults.0 = number;
-                }
-                if refused.error == AddError::Fault(AddFault::Full) {
-                    faults.1 = number;
-                }
-            }
-        }
+        let added = registry.add_guard(&name, stored).map_err(AddError::from);
+        refusals = noted(refusals, number, added);
     }
-    assert!(rt; faults == (64, 65));
-    assert!(rt; registry.laws().guards().len() == MAX_GUARDS);
-    Ok(())
+    Ok((refusals, registry.laws().guards().len()))
+}
+
+/// The same of actions.
+fn act_refusals(alloc: Global) -> Result<(Refusals, usize), AddError> {
+    let law = ActLaw::new(Vec::new(alloc));
+    let mut registry = Registry::new(alloc);
+    let mut refusals = (0, 0);
+    for number in 0..MAX_ACTIONS as u8 + 2 {
+        let own = law.copy(alloc)?;
+        let act: Do = Box::new(alloc, move |scene: &Scene, room: &mut Acted| {
+            high_into(&own, scene, room);
+        })?;
+        let stored = StoredAct::new(law.copy(alloc)?, act);
+        let name = numbered(if number == 64 { 0 } else { number });
+        let added = registry.add_act(&name, stored).map_err(AddError::from);
+        refusals = noted(refusals, number, added);
+    }
+    Ok((refusals, registry.laws().acts().len()))
 }
 
 #[test]
-fn an_action_is_taken_before_the_registry_is_full(rt: HostRuntime) -> Result<(), Fail> {
-    let alloc = rt.alloc();
-    let law = ActLaw::new(Vec::new(alloc));
-    let mut registry = Registry::new(alloc);
-    let mut faults = (0, 0);
-    for number in 0..MAX_ACTIONS as u8 + 2 {
-        let own = law.copy(alloc)?;
-        let done: Do = Box::new(alloc, move |scene: &Scene, room: &mut Acted| {
-            high_into(&own, scene, room);
-        })?;
-        let stored = StoredAct::new(law.copy(alloc)?, done);
-        let name = numbered(if number == 64 { 0 } else { number });
-        match registry.add_act(&name, stored) {
-            Ok(()) => {}
-            Err(refused) => {
-                if refused.error == AddError::Fault(AddFault::Taken) {
-                    faults.0 = number;
-                }
-                if refused.error == AddError::Fault(AddFault::Full) {
-                    faults.1 = number;
-                }
-            }
-        }
-    }
-    assert!(rt; faults == (64, 65));
-    assert!(rt; registry.laws().acts().len() == MAX_ACTIONS);
-    Ok(())
+fn a_name_is_taken_before_the_registry_is_full(rt: HostRuntime) {
+    let mut registry = Registry::new(rt.alloc());
+    assert!(rt; refuses_kinds(&mut registry), "kinds");
+    assert!(rt;
+        guard_refusals(rt.alloc()) == Ok(((64, 65), MAX_GUARDS)),
+        "guards"
+    );
+    assert!(rt;
+        act_refusals(rt.alloc()) == Ok(((64, 65), MAX_ACTIONS)),
+        "actions"
+    );
 }

@@ -1,6 +1,6 @@
 //! Steps over stored callbacks: which row takes an event, what its actions leave, and which tables are bound.
 
-ghost use Rattle.std.specs.Prelude.{IfOk};
+ghost use Rattle.std.specs.Prelude.{IfSome};
 ghost use Rattle.tab_law.specs.Acts.{Permits};
 ghost use Rattle.tab_step.specs.Bind.{IsBoundTo};
 
@@ -112,11 +112,16 @@ fn event(kind: u8, request: u64, code: u64) -> Event {
 }
 
 /// A text's table, bound to a book.
-fn bound_to(alloc: Global, text: &str, book: &LawBook) -> Result<Bound, Fail>
-    ensures { IfOk result (λ bound. IsBoundTo bound book.now) }
+fn bound_to(alloc: Global, text: &str, book: &LawBook) -> Option<Bound>
+    ensures { IfSome result (λ bound. IsBoundTo bound book.now) }
 {
-    let table = parse(alloc, text.as_bytes())?;
-    Ok(bind(alloc, table, book)?)
+    let Ok(table) = parse(alloc, text.as_bytes()) else {
+        return None;
+    };
+    match bind(alloc, table, book) {
+        Ok(bound) => Some(bound),
+        Err(_) => None,
+    }
 }
 
 /// What is compared of a step: its row, the state and the service's register after it, and its only
@@ -165,8 +170,10 @@ fn are_taken(bound: &Bound, registry: &Registry) -> bool
 }
 
 /// Whether a client waits until it is granted.
-fn waits(alloc: Global, registry: &Registry) -> Result<bool, Fail> {
-    let bound = bound_to(alloc, CLIENT, registry.laws())?;
+fn waits(alloc: Global, registry: &Registry) -> bool {
+    let Some(bound) = bound_to(alloc, CLIENT, registry.laws()) else {
+        return false;
+    };
     let events = [
         event(0, 0, 5012),
         event(0, 1, 2001),
@@ -179,8 +186,10 @@ fn waits(alloc: Global, registry: &Registry) -> Result<bool, Fail> {
         (None, 0, 2, 1, 0),
         (Some(0), 1, 1, 30, 1),
     ];
-    let steps = run(alloc, &bound, registry, &start(), &events)?;
-    Ok(are_taken(&bound, registry) && are_outcomes(steps.as_slice(), &wanted))
+    let Ok(steps) = run(alloc, &bound, registry, &start(), &events) else {
+        return false;
+    };
+    are_outcomes(steps.as_slice(), &wanted) && are_taken(&bound, registry)
 }
 
 /// Whether register 1 counts on from 1 in a chain.
@@ -215,35 +224,51 @@ fn is_full(stepped: &Stepped) -> bool {
 }
 
 /// Whether eight actions with four deeds each fill a step, and room that was full is as good as new.
-fn fills(alloc: Global, registry: &Registry) -> Result<bool, Fail> {
-    let bound = bound_to(alloc, BUSY, registry.laws())?;
+fn fills(alloc: Global, registry: &Registry) -> bool {
+    let Some(bound) = bound_to(alloc, BUSY, registry.laws()) else {
+        return false;
+    };
     let mut room = Stepped::new();
     step_into(&bound, registry, &start(), &event(2, 0, 0), &mut room);
     let was_full = is_full(&room);
     step_into(&bound, registry, &start(), &event(1, 0, 0), &mut room);
-    Ok(was_full && is_outcome(&room, (None, 0, 0, 1, 0)) && room.chain.is_empty())
+    was_full && is_outcome(&room, (None, 0, 0, 1, 0)) && room.chain.is_empty()
+}
+
+/// Whether this is a step from the start at an answer to the first request.
+fn is_one(bound: &Bound, book: &LawBook, stepped: &Stepped) -> bool
+    requires { IsBoundTo bound.now book.now }
+{
+    is_step(bound, book, &start(), &event(0, 0, 2001), stepped)
+}
+
+/// Whether a step is one; with another row, state or register, or without its chain, it is none.
+fn is_judged_by(bound: &Bound, book: &LawBook, step: &mut Stepped) -> bool
+    requires { IsBoundTo bound.now book.now }
+{
+    let was = is_one(bound, book, step);
+    step.row = Some(1);
+    let row = is_one(bound, book, step);
+    step.row = Some(0);
+    step.after.state = 0;
+    let state = is_one(bound, book, step);
+    step.after.state = 1;
+    step.after.regs[63] = 1;
+    let register = is_one(bound, book, step);
+    step.after.regs[63] = 0;
+    let again = is_one(bound, book, step);
+    step.chain.clear();
+    let chain = is_one(bound, book, step);
+    was & again & !row & !state & !register & !chain
 }
 
 /// Whether a step is judged as one until its row, its state, a register, its chain or a deed is another.
-fn is_judged(alloc: Global, registry: &Registry) -> Result<bool, Fail> {
-    let bound = bound_to(alloc, CLIENT, registry.laws())?;
-    let told = event(0, 0, 2001);
-    let mut room = step(&bound, registry, &start(), told);
-    let book = registry.laws();
-    let was = is_step(&bound, book, &start(), &told, &room);
-    room.row = Some(1);
-    let row = is_step(&bound, book, &start(), &told, &room);
-    room.row = Some(0);
-    room.after.state = 0;
-    let state = is_step(&bound, book, &start(), &told, &room);
-    room.after.state = 1;
-    room.after.regs[63] = 1;
-    let register = is_step(&bound, book, &start(), &told, &room);
-    room.after.regs[63] = 0;
-    let again = is_step(&bound, book, &start(), &told, &room);
-    room.chain.clear();
-    let chain = is_step(&bound, book, &start(), &told, &room);
-    Ok(was && again && !row && !state && !register && !chain)
+fn is_judged(alloc: Global, registry: &Registry) -> bool {
+    let Some(bound) = bound_to(alloc, CLIENT, registry.laws()) else {
+        return false;
+    };
+    let mut room = step(&bound, registry, &start(), event(0, 0, 2001));
+    is_judged_by(&bound, registry.laws(), &mut room)
 }
 
 /// Whether that is the first name of the client's table that a book lacks.
@@ -301,48 +326,67 @@ fn long_text(alloc: Global) -> Result<String, AllocError> {
 }
 
 /// Whether the last of 512 rows takes an event.
-fn takes_the_last(alloc: Global, registry: &Registry) -> Result<bool, Fail> {
-    let text = long_text(alloc)?;
-    let bound = bound_to(alloc, text.as_str(), registry.laws())?;
+fn takes_the_last(alloc: Global, registry: &Registry) -> bool {
+    let Ok(text) = long_text(alloc) else {
+        return false;
+    };
+    let Some(bound) = bound_to(alloc, text.as_str(), registry.laws()) else {
+        return false;
+    };
     let stepped = step(&bound, registry, &start(), event(1, 0, 0));
-    Ok(is_outcome(&stepped, (Some(511), 1, 2, 30, 2)))
+    is_outcome(&stepped, (Some(511), 1, 2, 30, 2))
 }
 
-/// Whether all of these hold.
-fn all_hold(alloc: Global, registry: &Registry) -> Result<bool, Fail> {
-    Ok(
-        waits(alloc, registry)?
-            && fills(alloc, registry)?
-            && is_judged(alloc, registry)?
-            && takes_the_last(alloc, registry)?,
-    )
-}
-
-#[test]
-fn steps_over_callbacks_that_answer_by_their_laws(rt: HostRuntime) -> Result<(), Fail> {
-    let alloc = rt.alloc();
-    let book = full_book(alloc)?;
-    let mut registry = Registry::new(alloc);
-    for name in [b"CCA-I".as_slice(), b"Tx", b"Go"] {
-        registry.add_kind(name)?;
+/// The first of these that doesn't hold.
+fn wrong_steps(alloc: Global, registry: &Registry) -> Option<&'static str> {
+    if !waits(alloc, registry) {
+        return Some("a client waits");
     }
-    for place in 0..book.guards().len() {
-        let entry = book.guards().at(place);
+    if !fills(alloc, registry) {
+        return Some("eight actions fill a step");
+    }
+    if !is_judged(alloc, registry) {
+        return Some("a step is judged");
+    }
+    if !takes_the_last(alloc, registry) {
+        return Some("the last of 512 rows");
+    }
+    None
+}
+
+/// Adds the kinds of the full book.
+fn add_kinds(registry: &mut Registry) -> Result<(), AddError> {
+    registry.add_kind(b"CCA-I")?;
+    registry.add_kind(b"Tx")?;
+    registry.add_kind(b"Go")
+}
+
+/// The first that doesn't hold over callbacks that answer by the laws of a book.
+fn wrong_over(alloc: Global, book: &LawBook) -> Result<Option<&'static str>, AddError> {
+    let mut registry = Registry::new(alloc);
+    add_kinds(&mut registry)?;
+    for entry in book.guards().as_slice() {
         let own = entry.value.copy(alloc)?;
         let ask: Ask = Box::new(alloc, move |scene: &Scene| holds(&own, scene))?;
         let stored = StoredGuard::new(entry.value.copy(alloc)?, ask);
-        assert!(rt; registry.add_guard(entry.name.as_slice(), stored).is_ok());
+        registry.add_guard(entry.name.as_slice(), stored)?;
     }
-    for place in 0..book.acts().len() {
-        let entry = book.acts().at(place);
+    for entry in book.acts().as_slice() {
         let own = entry.value.copy(alloc)?;
         let act: Do = Box::new(alloc, move |scene: &Scene, room: &mut Acted| {
             high_into(&own, scene, room);
         })?;
         let stored = StoredAct::new(entry.value.copy(alloc)?, act);
-        assert!(rt; registry.add_act(entry.name.as_slice(), stored).is_ok());
+        registry.add_act(entry.name.as_slice(), stored)?;
     }
-    assert!(rt; all_hold(alloc, &registry)?);
+    Ok(wrong_steps(alloc, &registry))
+}
+
+#[test]
+fn steps_over_callbacks_that_answer_by_their_laws(rt: HostRuntime) -> Result<(), Fail> {
+    let book = full_book(rt.alloc())?;
+    let wrong = wrong_over(rt.alloc(), &book)?;
+    assert!(rt; wrong.is_none(), "{wrong:?}");
     Ok(())
 }
 
@@ -371,42 +415,54 @@ fn choose(law: &ActLaw, scene: &Scene, value: u64, room: &mut Acted)
 }
 
 /// Register 3 after a step whose action picks.
-fn picked(alloc: Global, registry: &Registry) -> Result<u64, Fail> {
+fn picked(alloc: Global, registry: &Registry) -> Option<u64> {
     let bound = bound_to(alloc, PICKING, registry.laws())?;
-    Ok(step(&bound, registry, &start(), event(0, 0, 0)).after.regs[3])
+    Some(step(&bound, registry, &start(), event(0, 0, 0)).after.regs[3])
+}
+
+/// Register 3 after an action, where each register was 9.
+fn picked_by(stored: &StoredAct) -> u64 {
+    let scene = Scene {
+        regs: [9; PLACES],
+        facts: [0; PLACES],
+    };
+    let mut room = Acted::new();
+    stored.act(&scene, &mut room);
+    room.regs[3]
+}
+
+/// What two callbacks of one name, of which the first picks 2 and the second 1, leave in register 3: after a step behind each.
+type Picked = [Option<u64>; 2];
+
+/// What they leave; of the one that comes back its error, and what it picks; and how many actions there are then.
+fn picks(
+    alloc: Global,
+    law: &ActLaw,
+) -> Result<(Picked, Option<(AddError, u64)>, usize), AddError> {
+    let mut registry = Registry::new(alloc);
+    registry.add_kind(b"Go")?;
+    let mut after = [None, None];
+    let mut back = None;
+    for place in 0..2u8 {
+        let own = law.copy(alloc)?;
+        let value = u64::from(2 - place);
+        let act: Do = Box::new(alloc, move |scene: &Scene, room: &mut Acted| {
+            choose(&own, scene, value, room);
+        })?;
+        let stored = StoredAct::new(law.copy(alloc)?, act);
+        if let Err(refused) = registry.add_act(b"Pick", stored) {
+            back = Some((refused.error, picked_by(&refused.back)));
+        }
+        after[place as usize] = picked(alloc, &registry);
+    }
+    Ok((after, back, registry.laws().acts().len()))
 }
 
 #[test]
 fn a_closure_picks_and_one_of_the_same_name_comes_back(rt: HostRuntime) -> Result<(), Fail> {
-    let alloc = rt.alloc();
-    let law = pick(alloc)?;
-    let mut registry = Registry::new(alloc);
-    registry.add_kind(b"Go")?;
-    let own = law.copy(alloc)?;
-    let two: Do = Box::new(alloc, move |scene: &Scene, room: &mut Acted| {
-        choose(&own, scene, 2, room);
-    })?;
-    let first = registry.add_act(b"Pick", StoredAct::new(law.copy(alloc)?, two));
-    assert!(rt; first.is_ok());
-    assert!(rt; picked(alloc, &registry)? == 2);
-    let own = law.copy(alloc)?;
-    let one: Do = Box::new(alloc, move |scene: &Scene, room: &mut Acted| {
-        choose(&own, scene, 1, room);
-    })?;
-    match registry.add_act(b"Pick", StoredAct::new(law, one)) {
-        Ok(()) => assert!(rt; false),
-        Err(refused) => {
-            let scene = Scene {
-                regs: [9; PLACES],
-                facts: [0; PLACES],
-            };
-            assert!(rt; refused.error == AddError::Fault(AddFault::Taken));
-            let mut room = Acted::new();
-            refused.back.act(&scene, &mut room);
-            assert!(rt; room.regs[3] == 1);
-        }
-    }
-    assert!(rt; registry.laws().acts().len() == 1);
-    assert!(rt; picked(alloc, &registry)? == 2);
+    let law = pick(rt.alloc())?;
+    let (after, back, count) = picks(rt.alloc(), &law)?;
+    assert!(rt; after == [Some(2), Some(2)] && count == 1);
+    assert!(rt; back == Some((AddError::Fault(AddFault::Taken), 1)));
     Ok(())
 }

@@ -1,8 +1,8 @@
 //! What `read_on` prints in names, and where it says that reading stopped. The expected texts are written by hand.
+use crate::messages::Wrong;
 use bench_device::{Counting, Status};
 use msg_text::{Style, read_on};
-use std::alloc::Global;
-use std::test::Fail;
+use std::alloc::{AllocError, Global};
 
 const DWR: &str = "\
 0100002880000118000000000000000100000001
@@ -48,13 +48,19 @@ fn prints(alloc: Global, input: &str, wanted: &str) -> bool {
         && sink.device.as_slice() == wanted.as_bytes()
 }
 
-#[test]
-fn a_stop_has_its_place_behind_a_message(rt: HostRuntime) -> Result<(), Fail> {
-    for (behind, end, why) in BEHIND {
-        let input = format!(in rt.alloc(); "{DWR}\n{behind}")?;
-        let wanted = format!(in rt.alloc(); "{DWR_TEXT}{end}{why}")?;
-        let is_printed = prints(rt.alloc(), input.as_str(), wanted.as_str());
-        assert!(rt; is_printed, "of {behind}");
+/// Whether this end, for this reason, is printed behind the DWR's lines.
+fn stops(alloc: Global, (behind, end, why): (&str, &str, &str)) -> Result<bool, AllocError> {
+    let input = format!(in alloc; "{DWR}\n{behind}")?;
+    let wanted = format!(in alloc; "{DWR_TEXT}{end}{why}")?;
+    Ok(prints(alloc, input.as_str(), wanted.as_str()))
+}
+
+/// The first stop that hasn't its place behind a message.
+pub(crate) fn wrong_stop(alloc: Global) -> Result<Wrong<'static>, AllocError> {
+    for (place, row) in BEHIND.iter().enumerate() {
+        if !stops(alloc, *row)? {
+            return Ok(Some((row.0, place)));
+        }
     }
-    Ok(())
+    Ok(None)
 }

@@ -1,9 +1,7 @@
 //! Messages by words, and what `read` prints of them. A list of rows has one in each line; empty lines, and lines that begin
 //! with `#`, are none.
-use super::streams::{prints, read};
-use std::alloc::Global;
-use std::process::Abort;
-use std::test::Fail;
+use crate::streams::{prints, read};
+use std::alloc::{AllocError, Global};
 
 /// Headers without version and length, by the command's name, and AVPs. Words that are not listed are digits themselves.
 const WORDS: &[(&str, &str)] = &[
@@ -84,65 +82,67 @@ fn digits_of(word: &str) -> &str {
 }
 
 /// The digits of a message by words: its header, and its AVPs.
-fn message(alloc: Global, words: &str) -> Result<String, Fail> {
+fn message(alloc: Global, words: &str) -> Result<String, AllocError> {
     let mut octets = String::new(alloc);
     for word in words.split(' ') {
         octets.push_str(digits_of(word))?;
     }
     let len = 4 + octets.len() / 2;
-    Ok(format!(in alloc; "01{len:06x}{octets}")?)
+    format!(in alloc; "01{len:06x}{octets}")
 }
 
-/// Whether a row of a list is none: it is empty, or begins with `#`.
-fn is_no_row(row: &str) -> bool {
-    row.is_empty() || row.starts_with('#')
+/// What the rows of a list say.
+#[derive(Clone, Copy)]
+pub(crate) enum Rows {
+    /// Of each row's message its fault is printed: `MESSAGE | FAULT`.
+    Refused,
+    /// Each row's message is written as the one beside it: `MESSAGE | MESSAGE`.
+    Written,
+    /// Each row's message is written as it is.
+    Kept,
 }
 
-/// Of each row's message its fault is printed: `MESSAGE | FAULT`.
-pub(crate) fn refused(rt: &impl Abort, alloc: Global, rows: &str) -> Result<(), Fail> {
-    for row in rows.split('\n') {
-        if is_no_row(row) {
-            continue;
-        }
-        let (words, fault) = row.split_once(" | ").ok_or("a row of two")?;
-        let input = message(alloc, words)?;
-        let wanted = format!(in alloc; "fault {fault}\n")?;
-        let is_named = prints(alloc, input.as_str(), wanted.as_str(), 1)?;
-        assert!(rt; is_named, "of {words}");
-    }
-    Ok(())
+/// What isn't as expected: a row or a text, and its place in its list, or its size.
+pub(crate) type Wrong<'a> = Option<(&'a str, usize)>;
+
+/// Whether of a message its fault is printed.
+fn is_refused(alloc: Global, words: &str, fault: &str) -> Result<bool, AllocError> {
+    let input = message(alloc, words)?;
+    let wanted = format!(in alloc; "fault {fault}\n")?;
+    Ok(prints(alloc, input.as_str(), wanted.as_str(), 1))
 }
 
 /// Whether a message is written as the other, and no fault is printed.
-fn is_written(alloc: Global, words: &str, encoded: &str) -> Result<bool, Fail> {
+fn is_written(alloc: Global, words: &str, encoded: &str) -> Result<bool, AllocError> {
     let input = message(alloc, words)?;
     let other = message(alloc, encoded)?;
     let wanted = format!(in alloc; "octets {other}\n")?;
-    let (status, text) = read(alloc, input.as_str())?;
-    Ok(text.as_str().ends_with(wanted.as_str()) && status == 0)
+    let (status, text) = read(alloc, input.as_str());
+    match str::from_utf8(&text) {
+        Ok(text) => Ok(text.ends_with(wanted.as_str()) && status == 0),
+        Err(_) => Ok(false),
+    }
 }
 
-/// Each row's message is written as the one beside it: `MESSAGE | MESSAGE`.
-pub(crate) fn written(rt: &impl Abort, alloc: Global, rows: &str) -> Result<(), Fail> {
-    for row in rows.split('\n') {
-        if is_no_row(row) {
-            continue;
-        }
-        let (words, encoded) = row.split_once(" | ").ok_or("a row of two")?;
-        let is_written = is_written(alloc, words, encoded)?;
-        assert!(rt; is_written, "of {words}");
+/// Whether a row is as it says. An empty one, or one that begins with `#`, says nothing.
+fn is_right(alloc: Global, kind: Rows, row: &str) -> Result<bool, AllocError> {
+    if row.is_empty() || row.starts_with('#') {
+        return Ok(true);
     }
-    Ok(())
+    match (kind, row.split_once(" | ")) {
+        (Rows::Kept, None) => is_written(alloc, row, row),
+        (Rows::Refused, Some((words, fault))) => is_refused(alloc, words, fault),
+        (Rows::Written, Some((words, encoded))) => is_written(alloc, words, encoded),
+        _ => Ok(false),
+    }
 }
 
-/// Each row's message is written as it is.
-pub(crate) fn kept(rt: &impl Abort, alloc: Global, rows: &str) -> Result<(), Fail> {
-    for row in rows.split('\n') {
-        if is_no_row(row) {
-            continue;
+/// The first row of a list that isn't so.
+pub(crate) fn wrong_row(alloc: Global, kind: Rows, rows: &str) -> Result<Wrong<'_>, AllocError> {
+    for (place, row) in rows.split('\n').enumerate() {
+        if !is_right(alloc, kind, row)? {
+            return Ok(Some((row, place)));
         }
-        let is_kept = is_written(alloc, row, row)?;
-        assert!(rt; is_kept, "of {row}");
     }
-    Ok(())
+    Ok(None)
 }

@@ -1,10 +1,9 @@
 //! Readers and writers in memory, and what `read_on` prints of a text.
 use bench_device::Counting;
 use msg_text::{Style, read_on};
-use std::alloc::Global;
+use std::alloc::{AllocError, Global};
 use std::io;
 use std::io::{ErrorKind, Read, Write};
-use std::test::Fail;
 
 /// Gives its octets in pieces, and then fails with this error, or ends.
 #[derive(Drop)]
@@ -58,16 +57,15 @@ impl Write for Narrow {
 }
 
 /// What is printed of a reader's text, and the status.
-pub(crate) fn read_from(alloc: Global, reader: Pieces<'_>) -> Result<(u8, String), Fail> {
+pub(crate) fn read_from(alloc: Global, reader: Pieces<'_>) -> (u8, Vec<u8>) {
     let mut source = Counting::new(reader);
     let mut sink = Counting::new(Vec::new(alloc));
     let status = read_on(Style::Plain, alloc, &mut source, &mut sink);
-    let text = String::from_utf8(sink.device).map_err(|_| "text")?;
-    Ok((status.code(), text))
+    (status.code(), sink.device)
 }
 
 /// The same of a text in pieces of a few characters.
-pub(crate) fn read(alloc: Global, input: &str) -> Result<(u8, String), Fail> {
+pub(crate) fn read(alloc: Global, input: &str) -> (u8, Vec<u8>) {
     let octets = input.as_bytes();
     read_from(
         alloc,
@@ -80,24 +78,24 @@ pub(crate) fn read(alloc: Global, input: &str) -> Result<(u8, String), Fail> {
 }
 
 /// Whether this text is printed of the reader's, and this is the status.
-pub(crate) fn prints_from(
-    alloc: Global,
-    reader: Pieces<'_>,
-    wanted: &str,
-    code: u8,
-) -> Result<bool, Fail> {
-    let (status, text) = read_from(alloc, reader)?;
-    Ok(text.as_str() == wanted && status == code)
+pub(crate) fn prints_from(alloc: Global, reader: Pieces<'_>, wanted: &str, code: u8) -> bool {
+    let (status, text) = read_from(alloc, reader);
+    text.as_slice() == wanted.as_bytes() && status == code
 }
 
 /// The same of a text in pieces of a few characters.
-pub(crate) fn prints(alloc: Global, input: &str, wanted: &str, code: u8) -> Result<bool, Fail> {
-    let (status, text) = read(alloc, input)?;
-    Ok(text.as_str() == wanted && status == code)
+pub(crate) fn prints(alloc: Global, input: &str, wanted: &str, code: u8) -> bool {
+    let (status, text) = read(alloc, input);
+    text.as_slice() == wanted.as_bytes() && status == code
 }
 
 /// A text with a `*` for so many of a part.
-pub(crate) fn filled(alloc: Global, text: &str, part: &str, count: usize) -> Result<String, Fail> {
+pub(crate) fn filled(
+    alloc: Global,
+    text: &str,
+    part: &str,
+    count: usize,
+) -> Result<String, AllocError> {
     let mut all = String::new(alloc);
     for (place, piece) in text.split('*').enumerate() {
         if place > 0 {
@@ -110,16 +108,14 @@ pub(crate) fn filled(alloc: Global, text: &str, part: &str, count: usize) -> Res
     Ok(all)
 }
 
-/// The same of texts with a `*` for a part of each.
+/// Whether this is printed of a text, where a `*` in each stands for a part of its own.
 pub(crate) fn prints_filled(
     alloc: Global,
-    input: &str,
-    part: &str,
-    wanted: &str,
-    lines: &str,
+    (input, part): (&str, &str),
+    (wanted, lines): (&str, &str),
     code: u8,
-) -> Result<bool, Fail> {
+) -> Result<bool, AllocError> {
     let input = filled(alloc, input, part, 1)?;
     let wanted = filled(alloc, wanted, lines, 1)?;
-    prints(alloc, input.as_str(), wanted.as_str(), code)
+    Ok(prints(alloc, input.as_str(), wanted.as_str(), code))
 }

@@ -1,8 +1,9 @@
 //! What `read_lines` prints: each line by itself, and what is told of a bad one. The expected texts are written by hand.
+use crate::messages::Wrong;
+use crate::streams::filled;
 use bench_device::{Counting, Status};
 use msg_text::{Style, read_lines};
-use std::alloc::Global;
-use std::test::Fail;
+use std::alloc::{AllocError, Global};
 
 /// A message whose command isn't read, which makes one line in each style.
 const SHORT: &str = "0100001480000119000000000000000100000001";
@@ -39,16 +40,6 @@ fn prints(alloc: Global, style: Style, input: &str, wanted: &str, status: Status
         && sink.device.as_slice() == wanted.as_bytes()
 }
 
-#[test]
-fn each_line_is_printed_by_itself(rt: HostRuntime) -> Result<(), Fail> {
-    for (lines, wanted, status) in PLAIN {
-        let input = super::streams::filled(rt.alloc(), lines, SHORT, 1)?;
-        let is_printed = prints(rt.alloc(), Style::Plain, input.as_str(), wanted, *status);
-        assert!(rt; is_printed, "of {lines}");
-    }
-    Ok(())
-}
-
 /// The second of two lines in names.
 const NAMED: &str = "\
 line 1: bad hex at character 3: each octet wants two hexadecimal digits, and between digits only blanks may stand
@@ -56,16 +47,33 @@ message 2 at octet 0: unknown command R---, version 1, length 20, command 281, a
 fault 3001 DIAMETER_COMMAND_UNSUPPORTED in message 2 at octet 0: no command with this code and flag R is read here
 ";
 
-#[test]
-fn a_message_has_the_number_of_its_line(rt: HostRuntime) -> Result<(), Fail> {
-    let input = format!(in rt.alloc(); "01 x\n{SHORT}\n")?;
-    let named = prints(
-        rt.alloc(),
+/// The first lines of which something else is printed.
+fn wrong_plain(alloc: Global) -> Result<Wrong<'static>, AllocError> {
+    for (place, (lines, wanted, status)) in PLAIN.iter().enumerate() {
+        let input = filled(alloc, lines, SHORT, 1)?;
+        if !prints(alloc, Style::Plain, input.as_str(), wanted, *status) {
+            return Ok(Some((lines, place)));
+        }
+    }
+    Ok(None)
+}
+
+/// Whether a message has the number of its line.
+fn is_named(alloc: Global) -> Result<bool, AllocError> {
+    let input = format!(in alloc; "01 x\n{SHORT}\n")?;
+    Ok(prints(
+        alloc,
         Style::Explained,
         input.as_str(),
         NAMED,
         Status::Refused,
-    );
-    assert!(rt; named);
-    Ok(())
+    ))
+}
+
+/// The first lines that aren't printed by themselves.
+pub(crate) fn wrong_lines(alloc: Global) -> Result<Wrong<'static>, AllocError> {
+    if !is_named(alloc)? {
+        return Ok(Some(("the number of a line", 2)));
+    }
+    wrong_plain(alloc)
 }

@@ -1,10 +1,10 @@
 //! What is printed of an input, and how reading it ends.
-use super::streams::{Narrow, Pieces, filled, prints, prints_filled, prints_from};
+use crate::messages::Wrong;
+use crate::streams::{Narrow, Pieces, filled, prints, prints_filled, prints_from};
 use bench_device::{Counting, Status};
 use msg_text::{Style, read_on};
-use std::alloc::Global;
+use std::alloc::{AllocError, Global};
 use std::io::ErrorKind;
-use std::test::Fail;
 
 const DWR: &str = "\
 0100003880000118000000000000000100000001\
@@ -114,14 +114,36 @@ const TEXTS: &[(&str, &str, u8)] = &[
     ("*\n*", "**", 0),
 ];
 
+/// The first text of which something else is printed.
+fn wrong_text(alloc: Global) -> Result<Wrong<'static>, AllocError> {
+    for (place, (input, wanted, status)) in TEXTS.iter().enumerate() {
+        if !prints_filled(alloc, (input, DWR), (wanted, DWR_TEXT), *status)? {
+            return Ok(Some((input, place)));
+        }
+    }
+    Ok(None)
+}
+
 /// Whether a front of the DWR is a fault.
-fn is_front_refused(alloc: Global, count: usize) -> Result<bool, Fail> {
-    let front = DWR.get(..count).ok_or("a front")?;
-    prints(alloc, front, "fault 5015\n", 1)
+fn is_front_refused(alloc: Global, count: usize) -> bool {
+    match DWR.get(..count) {
+        Some(front) => prints(alloc, front, "fault 5015\n", 1),
+        None => false,
+    }
+}
+
+/// The octets of the first front of the DWR that isn't a fault.
+fn wrong_front(alloc: Global) -> Wrong<'static> {
+    for count in 1..56 {
+        if !is_front_refused(alloc, 2 * count) {
+            return Some(("a front of the DWR", count));
+        }
+    }
+    None
 }
 
 /// Whether two DWRs and these digits, in pieces of a size, print their lines and this end.
-fn is_cut(alloc: Global, size: usize, error: Option<ErrorKind>) -> Result<bool, Fail> {
+fn is_cut(alloc: Global, size: usize, error: Option<ErrorKind>) -> Result<bool, AllocError> {
     let (text, lines, status) = if error.is_some() {
         ("**01", "**read fault\n", 3)
     } else {
@@ -134,50 +156,40 @@ fn is_cut(alloc: Global, size: usize, error: Option<ErrorKind>) -> Result<bool, 
         size,
         error,
     };
-    prints_from(alloc, reader, wanted.as_str(), status)
+    Ok(prints_from(alloc, reader, wanted.as_str(), status))
 }
 
-#[test]
-fn messages_and_faults_are_printed(rt: HostRuntime) -> Result<(), Fail> {
-    for (input, wanted, status) in TEXTS {
-        let is_printed = prints_filled(rt.alloc(), input, DWR, wanted, DWR_TEXT, *status)?;
-        assert!(rt; is_printed, "of {input}");
-    }
-    for count in 1..56 {
-        let is_refused = is_front_refused(rt.alloc(), 2 * count)?;
-        assert!(rt; is_refused, "of {count} octets");
-    }
+/// The first size of pieces in which something else is printed.
+fn wrong_size(alloc: Global) -> Result<Wrong<'static>, AllocError> {
     for size in [1, 7, 41, 112, 4095] {
-        for error in [None, Some(ErrorKind::BrokenPipe)] {
-            let is_printed = is_cut(rt.alloc(), size, error)?;
-            assert!(rt; is_printed, "in pieces of {size}");
+        if !is_cut(alloc, size, None)? || !is_cut(alloc, size, Some(ErrorKind::BrokenPipe))? {
+            return Ok(Some(("pieces", size)));
         }
     }
-    Ok(())
+    Ok(None)
 }
 
-#[test]
-fn a_reader_without_end_is_a_read_fault(rt: HostRuntime) -> Result<(), Fail> {
+/// Whether a reader without end is a read fault.
+fn is_endless(alloc: Global) -> Result<bool, AllocError> {
     let mut source = Counting::new(Pieces {
         octets: DWR.as_bytes(),
         size: 9,
         error: Some(ErrorKind::Interrupted),
     });
-    let mut sink = Counting::new(Vec::new(rt.alloc()));
-    let status = read_on(Style::Plain, rt.alloc(), &mut source, &mut sink);
-    let wanted = format!(in rt.alloc();
-        "{DWR_TEXT}read fault: no end of input after 1048576 reads\n"
-    )?;
-    assert!(rt; sink.device.as_slice() == wanted.as_bytes());
-    assert!(rt; status.code() == 3);
-    assert!(rt; source.reads == 1_048_576);
-    assert!(rt; source.failures == 0);
-    Ok(())
+    let mut sink = Counting::new(Vec::new(alloc));
+    let status = read_on(Style::Plain, alloc, &mut source, &mut sink);
+    let wanted = format!(in alloc; "{DWR_TEXT}read fault: no end of input after 1048576 reads\n")?;
+    Ok(
+        sink.device.as_slice() == wanted.as_bytes()
+            && status.code() == 3
+            && source.reads == 1_048_576
+            && source.failures == 0,
+    )
 }
 
 /// Whether a writer with this room takes a front of the text, and the status is 3. It fails with the error, or takes nothing
 /// in 1,048,576 writes.
-fn is_write_fault(alloc: Global, room: usize, error: Option<ErrorKind>) -> Result<bool, Fail> {
+fn is_write_fault(alloc: Global, room: usize, error: Option<ErrorKind>) -> bool {
     let mut source = Counting::new(Pieces {
         octets: DWR.as_bytes(),
         size: 4095,
@@ -186,31 +198,43 @@ fn is_write_fault(alloc: Global, room: usize, error: Option<ErrorKind>) -> Resul
     let taken = Vec::new(alloc);
     let mut sink = Counting::new(Narrow { taken, room, error });
     let status = read_on(Style::Plain, alloc, &mut source, &mut sink);
-    let front = DWR_TEXT.as_bytes().get(..room).ok_or("a front")?;
     let failures = if error == Some(ErrorKind::BrokenPipe) {
         1
     } else {
         0
     };
-    Ok(
-        status == Status::Fault
-            && sink.device.taken.as_slice() == front
-            && sink.failures == failures
-            && sink.idle == 1_048_576 * (1 - failures),
-    )
+    status == Status::Fault
+        && DWR_TEXT.as_bytes().get(..room) == Some(sink.device.taken.as_slice())
+        && sink.failures == failures
+        && sink.idle == 1_048_576 * (1 - failures)
 }
 
-#[test]
-fn a_writer_that_fails_or_takes_nothing_is_a_write_fault(rt: HostRuntime) -> Result<(), Fail> {
-    for (room, error) in [
+/// The place of the first writer that fails, or takes nothing, without a write fault.
+fn wrong_writer(alloc: Global) -> Wrong<'static> {
+    let writers = [
         (0, Some(ErrorKind::BrokenPipe)),
         (50, Some(ErrorKind::BrokenPipe)),
         (0, None),
         (50, None),
         (50, Some(ErrorKind::WouldBlock)),
-    ] {
-        let is_fault = is_write_fault(rt.alloc(), room, error)?;
-        assert!(rt; is_fault, "with room for {room}");
+    ];
+    for (place, (room, error)) in writers.iter().enumerate() {
+        if !is_write_fault(alloc, *room, *error) {
+            return Some(("a writer", place));
+        }
     }
-    Ok(())
+    None
+}
+
+/// The first input of which something else is printed, or that ends otherwise.
+pub(crate) fn wrong_input(alloc: Global) -> Result<Wrong<'static>, AllocError> {
+    let endless = if is_endless(alloc)? {
+        None
+    } else {
+        Some(("a reader without end", 0))
+    };
+    let text = wrong_text(alloc)?;
+    let size = wrong_size(alloc)?;
+    let front = wrong_front(alloc);
+    Ok(text.or(front).or(size).or(endless).or(wrong_writer(alloc)))
 }
