@@ -5,3 +5,4 @@ pub mod PlaceLemmas
 pub mod RunLemmas
 pub mod PauseLemmas
 pub mod LineLemmas
+pub mod ExampleLemmas

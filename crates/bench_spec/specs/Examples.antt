@@ -1,6 +1,6 @@
 -- What the small log says, computed; and logs that differ in one value and are wrong. A wrong definition doesn't pass these lines.
 use Rattle.std.specs.Prelude.{◌≡◌, ◌≢◌, ℕ, ◌==◌, ◌++◌, ◌&&◌, Bool, true, false, List, [], ◌∷◌, Option, Some, None, take, refl, option_map}
-use Rattle.std.proofs.Common.{ap}
+use Rattle.std.proofs.Common.{ap, sym}
 use Rattle.std.proofs.Math.Nat.{le-suc}
 use Rattle.std.proofs.lemmas.Bool.{false≢true}
 use Rattle.base_codes.specs.DeedCodes.{coded}
@@ -11,15 +11,16 @@ use Rattle.tab_step.specs.Moves.{row_taken}
 use Rattle.bench_item.specs.Entries.{Entry, Move, Moved}
 use Rattle.bench_item.specs.Posts.{no_facts}
 use Rattle.bench_item.specs.declared.item.Item.{Item}
-use Rattle.bench_item.specs.declared.item.Item.TheVariants.{Arm}
+use Rattle.bench_item.specs.declared.item.Item.TheVariants.{Arm, ToMachine}
 use Rattle.bench_item.specs.declared.item.MachineItem.{MachineItem}
 use Rattle.bench_item.specs.declared.source.Source.TheVariants.{Desk, Shard}
 use Rattle.bench_item.specs.declared.step.Step.TheVariants.{Drop, Fired, Lift, Told, Work}
+use Rattle.bench_item.specs.declared.step.StepFault.{StepFault}
 use Rattle.bench_item.specs.declared.step.StepFault.TheVariants.{Nothing, Paused, Unknown}
 use Rattle.bench_spec.specs.Booked.{book_at, event_with_quote, outcomes_for, want_of}
 use Rattle.bench_spec.specs.ExampleLog.{after_work, armed_with, asking, before_work, carried, laws, log, move_by, peer_a, peer_table, regs_with, reserved_by, reserving, settings, told, worked_by}
 use Rattle.bench_spec.specs.Items.{IsCarried, IsFront, armed, dropped, hand, inbox, lifted, outbox, posts}
-use Rattle.bench_spec.specs.Legal.{BecomesOf, IsMove, is_met}
+use Rattle.bench_spec.specs.Legal.{BecomesOf, IsMove, MayFollow, is_met}
 use Rattle.bench_spec.specs.Machines.{directory, state_of}
 use Rattle.bench_spec.specs.Refusal.{refusal}
 
@@ -69,6 +70,10 @@ is_done Refused = false
 abbrev first_is_done : List Outcome → Bool
 first_is_done [] = false
 first_is_done (outcome ∷ outcomes) = is_done outcome
+
+abbrev is_taken : Option StepFault → Bool
+is_taken None = true
+is_taken (Some fault) = false
 
 -- the views
 pub machines : directory settings.node 0 log ≡ peer_a ∷ []
@@ -190,3 +195,27 @@ reserved_again same = false≢true (ap first_is_done same)
 pub quoted_event : event_with_quote (book_at settings []) (want_of laws asking (reserving Refused).before) asking.event ≡ (reserving Refused).event
 unfolding coded own left_where debited unpaid
 quoted_event = refl
+
+-- so none of these entries may follow: the lift of another item than the one that was put out,
+pub no_other_item : MayFollow settings after_work (carried (Lift (Shard 0)) (Some (armed_with 2))) → ⊥
+no_other_item follows = other_item (follows.order.sources (Shard 0)).lifted_front
+
+-- or of that one, where the deed armed for 31 ticks,
+pub no_other_post : MayFollow settings (before_work ++ worked_by 31 ∷ []) (carried (Lift (Shard 0)) (Some (armed_with 1))) → ⊥
+no_other_post follows = other_post (follows.order.sources (Shard 0)).lifted_front
+
+-- a move by the second of two rows that match,
+pub no_second_row : MayFollow settings before_work (record { step = Work 0; item = Some told; handled = Some (Move (move_by 1 30)) }) → ⊥
+no_second_row follows = second_row follows.parts.2.move
+
+-- a timer that fires with a generation with which it isn't armed,
+pub no_other_generation : MayFollow settings log (carried (Fired 0 2) None) → ⊥
+no_other_generation follows = false≢true (ap is_taken follows.could)
+
+-- a move for a timer that fires late,
+pub no_late_move : (moved : Moved) → MayFollow settings log (record { step = Work 0; item = Some (ToMachine (fired_with 0)); handled = Some (Move moved) }) → ⊥
+no_late_move moved follows = late_move moved follows.parts
+
+-- or a Reserve of 60 units that is done where 40 are left
+pub no_second_reserve : MayFollow settings (reserved_by (Done 60 0) ∷ []) (reserved_by (Done 60 0)) → ⊥
+no_second_reserve follows = reserved_again (sym follows.parts.2.outcomes)

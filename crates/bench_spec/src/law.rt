@@ -1,5 +1,6 @@
 //! Laws of legal logs, over all settings and logs.
-ghost use Rattle.bench_spec.specs.Legal.{BookIsAnswered, EachIsRun, FrontsAreLegal, GoesBack, GoesOn, NoneIsOver, PauseOnlyRefuses};
+ghost use Rattle.bench_spec.specs.ExampleLog as example;
+ghost use Rattle.bench_spec.specs.Legal.{BookIsAnswered, EachIsRun, FrontsAreLegal, GoesBack, GoesOn, IsLegal, NoneIsOver, PauseOnlyRefuses};
 
 /// One more entry that may follow keeps a log legal.
 pub fn legal_goes_on()
@@ -36,4 +37,9 @@ pub fn legal_is_run()
 /// A step that may be taken while shards are paused may be taken while none is.
 pub fn pause_only_refuses()
     ensures { PauseOnlyRefuses }
+{}
+
+/// A log of six entries is legal: a desk tells a peer Start, its machine moves, and its timer is armed.
+pub fn example_is_legal()
+    ensures { IsLegal example.settings example.log }
 {}

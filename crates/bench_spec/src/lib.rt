@@ -15,6 +15,6 @@
 mod law;
 
 pub use law::{
-    fronts_are_legal, legal_book_is_answered, legal_goes_back, legal_goes_on, legal_is_run,
-    legal_never_over,
+    example_is_legal, fronts_are_legal, legal_book_is_answered, legal_goes_back, legal_goes_on,
+    legal_is_run, legal_never_over,
 };
