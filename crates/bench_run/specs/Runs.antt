@@ -27,7 +27,7 @@ pub record ReadsMessages {I O : Type 0} (remaining : I → Option (List ℕ)) (r
   pub whole : answer ≡ statuses.Done → IsAtEnd (remaining source')
   pub some : answer ≡ statuses.Refused → reads source < reads source'
 
--- A table and then events were read whole, and what is told is the walk of the table over the events, over all laws.
+-- A table, or its image, and then events were read whole, and what is told is the walk of the table over the events, over all laws.
 pub record WalksTable {I O : Type 0} (remaining : I → Option (List ℕ)) (reads failures : I → ℕ) (contents : O → Option (List ℕ)) (write_failures idle : O → ℕ) (source source' : I) (sink sink' : O) (answer : Status) : Type 0 where
   pub table : List ℕ
   pub events : List ℕ

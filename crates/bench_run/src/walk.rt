@@ -1,4 +1,4 @@
-//! `walk`: a table stepped over events, by callbacks that answer by the laws of all roles; the names that tables may use.
+//! `walk`: a table or its image stepped over events, by callbacks that answer by the laws of all roles; the names that tables may use.
 ghost use Rattle.std.specs.Prelude.{◌≡◌, ◌≢◌, ◌⊎◌, ◌<◌, ◌≤◌, ◌+◌, ◌*◌, ◌-◌, ◌^◌, max, IfOk, OnErr};
 ghost use Rattle.bench_device.specs.Devices.{HasWriteCause, IsRun, Tells};
 ghost use Rattle.bench_run.specs.Runs.{TellsNoMemory, TellsTable, WalksTable};

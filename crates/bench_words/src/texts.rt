@@ -26,13 +26,14 @@ message has the number of the line. `line 3: bad hex` tells the line, counted fr
   dbench read --explain examples/dwr.hex
   dbench read --json examples/dwr.hex | jq .session";
 
-pub(crate) const WALK_ABOUT: &str = "Step a state table over events and print each step";
+pub(crate) const WALK_ABOUT: &str =
+    "Step a state table or its image over events and print each step";
 
 pub(crate) const WALK_LONG_ABOUT: &str = "\
-Step a state table over events and print each step.
+Step a state table or its image over events and print each step.
 
-Reads TABLE, whose columns are State, Event, Action and Next, and then the events to their end. The machine starts in
-the first state of the table with all registers 0. Each event prints a line `KIND FROM TO row N` (rows count from 0;
+Reads TABLE, whose columns are State, Event, Action and Next, or an image of one as `asm` prints it, and then the events to
+their end. The machine starts in the first state of the table with all registers 0. Each event prints a line `KIND FROM TO row N` (rows count from 0;
 `row -` where no row takes the event, whose one deed is then Unlisted), and under it a line for each deed.
 
 A line of events is KIND N=V ..: a kind that `--names` lists, and then facts, number and value in decimal, each number
@@ -45,7 +46,8 @@ printed walk may be handed in again once ` FROM TO row N` is cut off.
 
 Nothing is stepped where something is wrong. `line N fault C` is the first fault of the table, `unbound NAME` a name
 of the table that `--names` doesn't list, `bad line N` the first line of events that is none, from 1; the line below
-says what was wanted.";
+says what was wanted. `bad hex` and `at N fault C` are what is wrong with an image; `list --help` says more. TABLE is an
+image where its first character that is no blank is a hexadecimal digit.";
 
 pub(crate) const DRAW_ABOUT: &str = "Draw a state table as a graph, for Graphviz";
 

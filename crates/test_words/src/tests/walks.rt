@@ -83,6 +83,12 @@ Tx Wait Wait row -
   Unlisted 0 0 0 0 0 0 0 0 0 0 0 0 0 0 0 0 0 0 0 0 0 0 0 0 0 0 0 0 0 0 0 0 0 0 0 0 0 0 0 0 0 0 0 0 0 0 0 0 0 0 0 0 0 0 0 0 0 0 0 0 0 0 0 5
 ";
 
+/// The table's image, of format 1.
+const IMAGE: &str = "\
+44544931 00020001000200020002 \
+0457616974 04446f6e65 054343412d49 046d696e65 0773756363657373 0d4772616e742d53657276696365 0b456e642d53657276696365 \
+0000ffff0017 010000 0200000f 0201000f 0300 0401 010001 0301 0400 05";
+
 /// A name of 40 bytes.
 const LONG: &str = "  State  Event                                     Action  Next
   Wait   abcdefghijabcdefghijabcdefghijabcdefghij  -       Wait
@@ -137,6 +143,11 @@ const WALKS: &[(&str, &str, &str, Status)] = &[
     (TABLE, "", "", Status::Done),
     (TABLE, "Tx 63=5\n", TO_THE_LAST, Status::Done),
     (TABLE, "CCA-I 64=1\n", BAD_1, Status::Refused),
+    (IMAGE, EVENTS, PRINTED, Status::Done),
+    (IMAGE, "Tx 63=5\n", TO_THE_LAST, Status::Done),
+    (IMAGE, "CCA-I 12\n", BAD_1, Status::Refused),
+    ("\n 0x", EVENTS, "bad hex\n", Status::Refused),
+    ("44544931", EVENTS, "at 4 fault 2\n", Status::Refused),
     (TABLE, "CCA-I 12=1 12=1\n", BAD_1, Status::Refused),
     (TABLE, "CCA-I 12\n", BAD_1, Status::Refused),
     (
