@@ -152,11 +152,6 @@ fn wrong_read(alloc: Global) -> Option<usize> {
     None
 }
 
-#[test]
-fn octets_are_avps_or_have_a_first_fault_with_its_place(rt: HostRuntime) {
-    assert!(rt; wrong_read(rt.alloc()) == None);
-}
-
 /// What so many AVPs without data and so many zeros behind them are read as.
 fn count_of_empty(
     alloc: Global,
@@ -166,12 +161,29 @@ fn count_of_empty(
     Ok(count_of(alloc, &empty_avps(alloc, count, zeros)?, 0))
 }
 
+/// How many AVPs without data, how many zeros behind them, and what they are read as: a list has at most 128 AVPs.
+const LARGE: &[(usize, usize, Result<usize, (u8, usize)>)] = &[
+    (128, 0, Ok(128)),
+    (128, 1, Err((4, 1024))),
+    (129, 0, Err((4, 1024))),
+];
+
+/// The place of the first line of the table that isn't so.
+fn wrong_large(alloc: Global) -> Result<Option<usize>, AllocError> {
+    for (place, (count, zeros, read)) in LARGE.iter().enumerate() {
+        if count_of_empty(alloc, *count, *zeros)? != *read {
+            return Ok(Some(place));
+        }
+    }
+    Ok(None)
+}
+
 #[test]
-fn a_list_has_at_most_128_avps(rt: HostRuntime) -> Result<(), Fail> {
-    let alloc = rt.alloc();
-    assert!(rt; count_of_empty(alloc, 128, 0)? == Ok(128));
-    assert!(rt; count_of_empty(alloc, 128, 1)? == Err((4, 1024)));
-    assert!(rt; count_of_empty(alloc, 129, 0)? == Err((4, 1024)));
+fn octets_are_avps_or_have_a_first_fault_with_its_place(rt: HostRuntime) -> Result<(), Fail> {
+    let read = wrong_read(rt.alloc());
+    assert!(rt; read.is_none(), "{read:?}");
+    let large = wrong_large(rt.alloc())?;
+    assert!(rt; large.is_none(), "a large list: {large:?}");
     Ok(())
 }
 
@@ -263,12 +275,6 @@ fn wrong_unsigned64(alloc: Global) -> Option<usize> {
     None
 }
 
-#[test]
-fn numbers_have_the_size_of_their_type(rt: HostRuntime) {
-    assert!(rt; wrong_unsigned32(rt.alloc()) == None);
-    assert!(rt; wrong_unsigned64(rt.alloc()) == None);
-}
-
 /// Data, and whether they are a DiameterIdentity.
 const IDENTITIES: &[(&[u8], bool)] = &[
     (b"a.example", true),
@@ -331,21 +337,21 @@ fn is_no_text(alloc: Global, data: &[u8]) -> bool {
     }
 }
 
-/// The first text of the table that isn't read so.
-fn wrong_text(alloc: Global) -> Option<&'static str> {
-    for (data, text) in TEXTS {
+/// The place of the first text of the table that isn't read so.
+fn wrong_text(alloc: Global) -> Option<usize> {
+    for (place, (data, text)) in TEXTS.iter().enumerate() {
         if !is_text(alloc, data, text) {
-            return Some(text);
+            return Some(place);
         }
     }
     None
 }
 
-/// The first fault of the table that isn't found.
-fn wrong_no_text(alloc: Global) -> Option<&'static str> {
-    for (fault, data) in NO_TEXTS {
+/// The place of the first line of the table that is read as a text.
+fn wrong_no_text(alloc: Global) -> Option<usize> {
+    for (place, (_, data)) in NO_TEXTS.iter().enumerate() {
         if !is_no_text(alloc, data) {
-            return Some(fault);
+            return Some(place);
         }
     }
     None
@@ -359,13 +365,6 @@ fn wrong_identity(alloc: Global) -> Option<usize> {
         }
     }
     None
-}
-
-#[test]
-fn text_is_utf8_and_an_identity_is_ascii(rt: HostRuntime) {
-    assert!(rt; wrong_text(rt.alloc()) == None);
-    assert!(rt; wrong_no_text(rt.alloc()) == None);
-    assert!(rt; wrong_identity(rt.alloc()) == None);
 }
 
 /// 2001:db8::7.
@@ -421,9 +420,29 @@ fn wrong_address(alloc: Global) -> Option<usize> {
     None
 }
 
+/// The first table of numbers, texts and addresses in which a line isn't so, and its place. Numbers have the size of their type,
+/// text is UTF-8, an identity is ASCII, and an address has a family and its size.
+fn wrong_data(alloc: Global) -> Option<(&'static str, usize)> {
+    let tables = [
+        ("Unsigned32", wrong_unsigned32(alloc)),
+        ("Unsigned64", wrong_unsigned64(alloc)),
+        ("a text", wrong_text(alloc)),
+        ("no text", wrong_no_text(alloc)),
+        ("DiameterIdentity", wrong_identity(alloc)),
+        ("Address", wrong_address(alloc)),
+    ];
+    for (name, wrong) in tables {
+        if let Some(place) = wrong {
+            return Some((name, place));
+        }
+    }
+    None
+}
+
 #[test]
-fn an_address_has_a_family_and_its_size(rt: HostRuntime) {
-    assert!(rt; wrong_address(rt.alloc()) == None);
+fn data_are_values_of_their_type(rt: HostRuntime) {
+    let wrong = wrong_data(rt.alloc());
+    assert!(rt; wrong.is_none(), "{wrong:?}");
 }
 
 /// Whether an AVP's data are a group of so many AVPs, or have this fault.
@@ -515,8 +534,10 @@ fn wrong_large_group(alloc: Global) -> Option<usize> {
 
 #[test]
 fn a_group_is_avps_at_most_128_within_at_most_4_levels(rt: HostRuntime) {
-    assert!(rt; wrong_group(rt.alloc()) == None);
-    assert!(rt; wrong_large_group(rt.alloc()) == None);
+    let group = wrong_group(rt.alloc());
+    assert!(rt; group.is_none(), "{group:?}");
+    let large = wrong_large_group(rt.alloc());
+    assert!(rt; large.is_none(), "a large group: {large:?}");
 }
 
 /// Whether data are too long for the AVP of a list.

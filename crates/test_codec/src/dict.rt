@@ -3,7 +3,7 @@
 use base_list::{AddError, AddFault};
 use dia_avp::{Address, AvpView, AvpsIn};
 use dia_dict::{AvpKind, Definition, DictFault, Dictionary, Field};
-use std::alloc::Global;
+use std::alloc::{AllocError, Global};
 use std::test::Fail;
 
 /// AVP Code, name and type, type by type.
@@ -279,17 +279,21 @@ fn wrong_value(dictionary: &Dictionary) -> Option<usize> {
     None
 }
 
-#[test]
-fn data_have_the_value_or_the_fault_of_their_type(rt: HostRuntime) -> Result<(), Fail> {
-    let alloc = rt.alloc();
+/// Whether a group that is broken behind 128 AVPs is one with too many.
+fn is_broken_behind_128(alloc: Global, dictionary: &Dictionary) -> Result<bool, AllocError> {
     let mut many = Vec::new(alloc);
     for _ in 0..128 {
         many.extend_from_slice(&[0, 0, 0, 1, 0, 0, 0, 8])?;
     }
     many.push(0)?;
-    let dictionary = Dictionary::base(alloc)?;
-    assert!(rt; wrong_value(&dictionary) == None);
-    let broken_behind_128 = dictionary.typed(&view(443, true, &many));
-    assert!(rt; broken_behind_128 == Err(DictFault::BadValue));
+    Ok(dictionary.typed(&view(443, true, &many)) == Err(DictFault::BadValue))
+}
+
+#[test]
+fn data_have_the_value_or_the_fault_of_their_type(rt: HostRuntime) -> Result<(), Fail> {
+    let dictionary = Dictionary::base(rt.alloc())?;
+    let value = wrong_value(&dictionary);
+    assert!(rt; value.is_none(), "{value:?}");
+    assert!(rt; is_broken_behind_128(rt.alloc(), &dictionary)?, "128 AVPs");
     Ok(())
 }

@@ -2,7 +2,6 @@
 
 use dia_frame::{FeedError, FrameFault, Framer};
 use std::alloc::Global;
-use std::test::Fail;
 
 /// A Device-Watchdog-Request of 56 octets.
 const DWR: [u8; 56] = [
@@ -62,16 +61,30 @@ fn waits_at_each(framer: &mut Framer, octets: &[u8], count: usize) -> bool {
     true
 }
 
+/// The first place where the DWR is cut and isn't one frame.
+fn wrong_cut(alloc: Global) -> Option<usize> {
+    for at in 0..=DWR.len() {
+        if !is_one_frame(alloc, at) {
+            return Some(at);
+        }
+    }
+    None
+}
+
+/// Whether the DWR, octet by octet, is one frame.
+fn is_one_frame_of_octets(alloc: Global) -> bool {
+    let mut framer = Framer::new(alloc, 4096);
+    waits_at_each(&mut framer, &DWR[..55], 0)
+        && waits_at_each(&mut framer, &DWR[55..], 1)
+        && waits_at_each(&mut framer, &DWR[..19], 1)
+        && both_have_dwr_and_19_octets(&mut framer)
+}
+
 #[test]
 fn a_message_is_one_frame_however_it_is_cut(rt: HostRuntime) {
-    for at in 0..=DWR.len() {
-        assert!(rt; is_one_frame(rt.alloc(), at), "cut at {at}");
-    }
-    let mut framer = Framer::new(rt.alloc(), 4096);
-    assert!(rt; waits_at_each(&mut framer, &DWR[..55], 0));
-    assert!(rt; waits_at_each(&mut framer, &DWR[55..], 1));
-    assert!(rt; waits_at_each(&mut framer, &DWR[..19], 1));
-    assert!(rt; both_have_dwr_and_19_octets(&mut framer));
+    let cut = wrong_cut(rt.alloc());
+    assert!(rt; cut.is_none(), "cut at {cut:?}");
+    assert!(rt; is_one_frame_of_octets(rt.alloc()), "octet by octet");
 }
 
 /// Whether a length whose last octets are these is refused by the feed of the fourth octet.
@@ -96,12 +109,17 @@ fn is_longest(alloc: Global) -> bool {
         && gives(&mut framer, &message)
 }
 
-#[test]
-fn a_length_is_20_to_the_limit_and_a_multiple_of_4(rt: HostRuntime) {
-    for (high, low) in [(0, 16), (0, 22), (16, 4)] {
-        assert!(rt; is_bad_length(rt.alloc(), high, low), "{high} {low}");
+/// The last two octets of lengths that are refused.
+const BAD_LENGTHS: &[(u8, u8)] = &[(0, 16), (0, 22), (16, 4)];
+
+/// The first of them that isn't refused.
+fn wrong_length(alloc: Global) -> Option<(u8, u8)> {
+    for (high, low) in BAD_LENGTHS {
+        if !is_bad_length(alloc, *high, *low) {
+            return Some((*high, *low));
+        }
     }
-    assert!(rt; is_longest(rt.alloc()));
+    None
 }
 
 /// Whether two frames before a bad version are kept.
@@ -117,11 +135,19 @@ fn keeps_two_frames(alloc: Global) -> bool {
         && framer.rest_len() == 0
 }
 
+/// Whether a stream that begins with another version is refused.
+fn is_bad_version(alloc: Global) -> bool {
+    let mut framer = Framer::new(alloc, 4096);
+    framer.feed(&[2]) == VERSION
+}
+
 #[test]
-fn frames_before_a_fault_are_kept(rt: HostRuntime) {
-    let mut framer = Framer::new(rt.alloc(), 4096);
-    assert!(rt; framer.feed(&[2]) == VERSION);
-    assert!(rt; keeps_two_frames(rt.alloc()));
+fn a_version_is_1_and_a_length_20_to_the_limit_and_a_multiple_of_4(rt: HostRuntime) {
+    let length = wrong_length(rt.alloc());
+    assert!(rt; length.is_none(), "{length:?}");
+    assert!(rt; is_longest(rt.alloc()), "the longest");
+    assert!(rt; is_bad_version(rt.alloc()), "a version");
+    assert!(rt; keeps_two_frames(rt.alloc()), "frames before a fault");
 }
 
 /// Each fault with its number and its text.
@@ -140,20 +166,29 @@ const FAULTS: &[(FrameFault, u8, &str)] = &[
 ];
 
 /// Whether an error is printed so.
-fn is_printed(alloc: Global, error: FeedError, text: &str) -> Result<bool, Fail> {
-    let printed = format!(in alloc; "{error}")?;
-    Ok(printed.as_str() == text)
+fn is_printed(alloc: Global, error: FeedError, text: &str) -> bool {
+    match &format!(in alloc; "{error}") {
+        Ok(printed) => printed.as_str() == text,
+        Err(_) => false,
+    }
+}
+
+/// The text of the first fault that has another number or text.
+fn wrong_fault(alloc: Global) -> Option<&'static str> {
+    for (fault, number, text) in FAULTS {
+        if fault.number() != *number || !is_printed(alloc, FeedError::Fault(*fault), text) {
+            return Some(text);
+        }
+    }
+    if is_printed(alloc, FeedError::NoMemory, "out of memory") {
+        None
+    } else {
+        Some("no memory")
+    }
 }
 
 #[test]
-fn faults_have_numbers_and_texts(rt: HostRuntime) -> Result<(), Fail> {
-    for (fault, number, text) in FAULTS {
-        assert!(rt; fault.number() == *number, "{text}");
-        assert!(rt;
-            is_printed(rt.alloc(), FeedError::Fault(*fault), text)?,
-            "{text}"
-        );
-    }
-    assert!(rt; is_printed(rt.alloc(), FeedError::NoMemory, "out of memory")?);
-    Ok(())
+fn faults_have_numbers_and_texts(rt: HostRuntime) {
+    let fault = wrong_fault(rt.alloc());
+    assert!(rt; fault.is_none(), "{fault:?}");
 }
