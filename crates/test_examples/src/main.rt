@@ -1,7 +1,7 @@
 //! Reads each example that a word names, in the folder where it runs, and compares what is printed, and the exit status, with
 //! `expected/NAME.txt`; of a word `explained/NAME` what is printed in names. Then tries the rows of `rows/`, and messages,
 //! texts, readers and writers that are made here. What is not as expected is named, a row by its file and line. If all is, the
-//! last line tells how many examples there were.
+//! last line tells how many examples and rows there were.
 #![tactic(auto)]
 
 mod commands;
@@ -18,7 +18,7 @@ use explained::wrong_stop;
 use faults::wrong_fault;
 use inputs::wrong_input;
 use lines::wrong_lines;
-use messages::{Rows, Wrong, wrong_row};
+use messages::{Rows, Wrong, number_of, wrong_row};
 use msg_text::{Style, read_on};
 use std::alloc::{AllocError, Global};
 use std::process::ExitCode;
@@ -46,25 +46,28 @@ fn is_as_expected(rt: &HostRuntime, word: &str) -> io::Result<bool> {
     Ok(sink.device.as_slice() == fs::read(rt, wanted.as_str())?.as_slice())
 }
 
-/// Whether the rows of a file are as they say; the first that isn't is told, with its line.
-fn are_rows(rt: &HostRuntime, file: &str, kind: Rows) -> io::Result<bool> {
+/// How many rows a file has, if they are as they say; the first that isn't is told, with its line.
+fn right_rows(rt: &HostRuntime, file: &str, kind: Rows) -> io::Result<Option<usize>> {
     let rows = fs::read_to_string(rt, file)?;
     match wrong_row(rt.alloc(), kind, rows.as_str())? {
-        None => Ok(true),
+        None => Ok(Some(number_of(rows.as_str()))),
         Some((row, place)) => {
             let line = place.saturating_add(1);
             println!(rt; "{file}:{line}: {row} is not as expected")?;
-            Ok(false)
+            Ok(None)
         }
     }
 }
 
-/// Whether the rows of all files are as they say.
-fn are_all_rows(rt: &HostRuntime) -> io::Result<bool> {
-    let refused = are_rows(rt, "rows/refused.rows", Rows::Refused)?;
-    let written = are_rows(rt, "rows/written.rows", Rows::Written)?;
-    let kept = are_rows(rt, "rows/kept.rows", Rows::Kept)?;
-    Ok(refused && written && kept)
+/// How many rows all files have, if they are as they say.
+fn all_rows(rt: &HostRuntime) -> io::Result<Option<usize>> {
+    let refused = right_rows(rt, "rows/refused.rows", Rows::Refused)?;
+    let written = right_rows(rt, "rows/written.rows", Rows::Written)?;
+    let kept = right_rows(rt, "rows/kept.rows", Rows::Kept)?;
+    match (refused, written, kept) {
+        (Some(a), Some(b), Some(c)) => Ok(Some(a.saturating_add(b).saturating_add(c))),
+        _ => Ok(None),
+    }
 }
 
 /// What of all that is made here isn't as expected.
@@ -86,7 +89,8 @@ fn main(rt: HostRuntime) -> io::Result<ExitCode> {
             println!(&rt; "{name} is not as expected")?;
         }
     }
-    if !are_all_rows(&rt)? {
+    let rows = all_rows(&rt)?;
+    if rows.is_none() {
         all = false;
     }
     if let Some((what, number)) = wrong(rt.alloc())? {
@@ -97,6 +101,7 @@ fn main(rt: HostRuntime) -> io::Result<ExitCode> {
         return Ok(ExitCode::FAILURE);
     }
     let count = words.len().saturating_sub(1);
-    println!(&rt; "{count} examples as expected")?;
+    let rows = rows.unwrap_or(0);
+    println!(&rt; "{count} examples and {rows} rows as expected")?;
     Ok(ExitCode::SUCCESS)
 }

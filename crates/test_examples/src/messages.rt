@@ -124,9 +124,25 @@ fn is_written(alloc: Global, words: &str, encoded: &str) -> Result<bool, AllocEr
     }
 }
 
-/// Whether a row is as it says. An empty one, or one that begins with `#`, says nothing.
+/// Whether a line is a row: an empty one, or one that begins with `#`, is none.
+fn is_row(line: &str) -> bool {
+    !line.is_empty() && !line.starts_with('#')
+}
+
+/// How many rows a list has.
+pub(crate) fn number_of(rows: &str) -> usize {
+    let mut number = 0usize;
+    for line in rows.split('\n') {
+        if is_row(line) {
+            number = number.saturating_add(1);
+        }
+    }
+    number
+}
+
+/// Whether a line is as it says, if it is a row.
 fn is_right(alloc: Global, kind: Rows, row: &str) -> Result<bool, AllocError> {
-    if row.is_empty() || row.starts_with('#') {
+    if !is_row(row) {
         return Ok(true);
     }
     match (kind, row.split_once(" | ")) {
