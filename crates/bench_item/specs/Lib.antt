@@ -1,5 +1,7 @@
+pub mod Past
 pub mod Entries
 pub mod Keys
+pub mod Lines
 pub mod Posts
 pub mod Steps
 pub mod PostExamples

@@ -12,13 +12,19 @@
 //! What a deed posts is a definition alone so far: `specs/Posts.antt`.
 #![tactic(auto)]
 
+mod entry;
+mod hears;
 mod item;
 mod key;
 mod limit;
 mod line_state;
+mod opening;
+mod series;
 mod source;
 mod step;
 
+pub use entry::{Entry, Handled, Moved};
+pub use hears::{Heard, Hears, LineEvent, Turn};
 pub use item::{Condition, Item, LineItem, MachineItem};
 pub use key::{Key, Role};
 pub use limit::{
@@ -26,5 +32,7 @@ pub use limit::{
     MAX_SHARDS, MAX_WAITING, WORK_ROOM,
 };
 pub use line_state::LineState;
+pub use opening::Opening;
+pub use series::Series;
 pub use source::Source;
 pub use step::{Step, StepFault};

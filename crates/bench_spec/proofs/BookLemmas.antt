@@ -10,7 +10,10 @@ use Rattle.acct_totals.specs.declared.op.Op.{Op}
 use Rattle.acct_totals.specs.declared.op.Outcome.{Outcome}
 use Rattle.server_wants.specs.declared.want.Want.{Want}
 use Rattle.tab_law.specs.declared.scene.Deed.{Deed}
-use Rattle.bench_item.specs.Entries.{Entry, Handled, TooBusy, Stale, Move, Moved}
+use Rattle.bench_item.specs.declared.entry.Entry.{Entry}
+use Rattle.bench_item.specs.declared.entry.Handled.{Handled}
+use Rattle.bench_item.specs.declared.entry.Moved.{Moved}
+use Rattle.bench_item.specs.declared.entry.Handled.TheVariants.{TooBusy, Stale, Move}
 use Rattle.bench_item.specs.declared.item.Item.{Item}
 use Rattle.bench_item.specs.declared.item.Item.TheVariants.{ToMachine, ToLine, Dial, Undial, Arm, Disarm}
 use Rattle.bench_item.specs.declared.item.MachineItem.{MachineItem}

@@ -12,7 +12,7 @@ use Rattle.tab_law.specs.declared.law.Change.TheVariants.{Emit, Set}
 use Rattle.tab_law.specs.declared.law.Term.TheVariants.{Just, Sum}
 use Rattle.tab_law.specs.declared.scene.Scene.{Scene}
 use Rattle.tab_step.specs.Moves.{scene_of}
-use Rattle.bench_item.specs.Entries.{Entry}
+use Rattle.bench_item.specs.declared.entry.Entry.{Entry}
 use Rattle.bench_item.specs.Posts.{no_facts}
 use Rattle.bench_item.specs.declared.item.Item.{Item}
 use Rattle.bench_item.specs.declared.source.Source.{Source}

@@ -1,6 +1,6 @@
 -- Longer and shorter legal logs.
 use Rattle.std.proofs.Common.{List, [], ◌∷◌, ◌++◌}
-use Rattle.bench_item.specs.Entries.{Entry}
+use Rattle.bench_item.specs.declared.entry.Entry.{Entry}
 use Rattle.bench_spec.specs.Legal.{IsLegal, MayFollow}
 use Rattle.bench_spec.specs.Settings.{Settings}
 use Rattle.bench_spec.proofs.AfterLemmas.{EachAfter-front, EachAfter-last, EachAfter-snoc}

@@ -1,7 +1,7 @@
 -- A step that may be taken while shards are paused may be taken while none is.
 use Rattle.std.proofs.Common.{◌≡◌, List, [], ◌∷◌, Bool, true, false, Option, Some, None, subst}
 use Rattle.std.specs.Prelude.{find, option_map}
-use Rattle.bench_item.specs.Entries.{Entry}
+use Rattle.bench_item.specs.declared.entry.Entry.{Entry}
 use Rattle.bench_item.specs.declared.step.Step.{Step}
 use Rattle.bench_item.specs.declared.step.Step.TheVariants.{Joined, Dialled, Came, Lost, Told, Fired, Lift, Drop, Work}
 use Rattle.bench_item.specs.declared.step.StepFault.{StepFault}

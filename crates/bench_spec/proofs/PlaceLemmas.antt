@@ -5,7 +5,7 @@ use Rattle.std.specs.List.{list_any, position_or_len}
 use Rattle.std.proofs.lemmas.Bool.{false≢true}
 use Rattle.std.proofs.lemmas.List.Elements.{filter-append}
 use Rattle.std.proofs.lemmas.Map.Views.{any-filter_same}
-use Rattle.bench_spec.specs.Past.{distinct}
+use Rattle.bench_item.specs.Past.{distinct}
 
 -- a list that goes on with an item that passes
 place_before : {X : Type 0} (p : X → Bool) (xs : List X) (k : X) (rest : List X) → p k ≡ true → position_or_len p (xs ++ k ∷ rest) ≡ position_or_len p xs

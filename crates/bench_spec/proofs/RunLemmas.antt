@@ -10,7 +10,10 @@ use Rattle.std.proofs.lemmas.Slice.Eq.{bytes_eq-Decides}
 use Rattle.acct_book.specs.Laws.{EachAfter}
 use Rattle.tab_step.specs.declared.machine.MachineState.{MachineState}
 use Rattle.tab_text.specs.Contents.{Contents}
-use Rattle.bench_item.specs.Entries.{Entry, Handled, TooBusy, Stale, Move, Moved}
+use Rattle.bench_item.specs.declared.entry.Entry.{Entry}
+use Rattle.bench_item.specs.declared.entry.Handled.{Handled}
+use Rattle.bench_item.specs.declared.entry.Moved.{Moved}
+use Rattle.bench_item.specs.declared.entry.Handled.TheVariants.{TooBusy, Stale, Move}
 use Rattle.bench_item.specs.Keys.{Node, home, is_same_key, is_same_role, key_of, number_at, peers_in}
 use Rattle.bench_item.specs.declared.item.Item.{Item}
 use Rattle.bench_item.specs.declared.item.Item.TheVariants.{ToMachine, ToLine, Dial, Undial, Arm, Disarm}
@@ -21,7 +24,7 @@ use Rattle.bench_item.specs.declared.key.Role.TheVariants.{Peer, Client, Server}
 use Rattle.bench_item.specs.declared.step.Step.{Step}
 use Rattle.bench_spec.specs.Legal.{AreRuns, HasParts, IsLegal, IsRun, MayFollow, MovesNext}
 use Rattle.bench_spec.specs.Machines.{keys_in, moves_in, moves_of, number_for, start, state_after}
-use Rattle.bench_spec.specs.Past.{distinct}
+use Rattle.bench_item.specs.Past.{distinct}
 use Rattle.bench_spec.specs.Settings.{Settings, table_of}
 use Rattle.bench_spec.proofs.AfterLemmas.{flat_map-snoc}
 use Rattle.bench_spec.proofs.BookLemmas.{entry_of, moves_next}

@@ -23,11 +23,13 @@ use Rattle.tab_law.specs.Books.{Laws}
 use Rattle.tab_law.specs.declared.scene.Deed.{Deed}
 use Rattle.tab_step.specs.declared.machine.Event.{Event}
 use Rattle.tab_step.specs.declared.machine.MachineState.{MachineState}
-use Rattle.bench_item.specs.Entries.{Entry, Moved}
+use Rattle.bench_item.specs.declared.entry.Entry.{Entry}
+use Rattle.bench_item.specs.declared.entry.Moved.{Moved}
 use Rattle.bench_item.specs.declared.item.MachineItem.{MachineItem}
 use Rattle.bench_item.specs.declared.key.Role.{Role}
 use Rattle.bench_item.specs.declared.key.Role.TheVariants.{Server}
-use Rattle.bench_spec.specs.Machines.{machine_item, moved_in}
+use Rattle.bench_item.specs.Entries.{moved_in}
+use Rattle.bench_spec.specs.Machines.{machine_item}
 use Rattle.bench_spec.specs.Settings.{Settings}
 
 -- the same event with its kind's place in the laws of a server, if it is one of these kinds

@@ -10,7 +10,9 @@ use Rattle.tab_law.specs.declared.scene.Deed.{Deed}
 use Rattle.tab_text.specs.Contents.{Contents}
 use Rattle.tab_text.specs.declared.row.Row.{Row}
 use Rattle.acct_totals.specs.declared.op.Outcome.{Outcome}
-use Rattle.bench_item.specs.Entries.{Entry, Move, Moved}
+use Rattle.bench_item.specs.declared.entry.Entry.{Entry}
+use Rattle.bench_item.specs.declared.entry.Moved.{Moved}
+use Rattle.bench_item.specs.declared.entry.Handled.TheVariants.{Move}
 use Rattle.bench_item.specs.Keys.{key_of}
 use Rattle.bench_item.specs.Posts.{no_facts}
 use Rattle.bench_item.specs.declared.item.Item.{Item}
@@ -21,7 +23,8 @@ use Rattle.bench_item.specs.declared.key.Role.TheVariants.{Peer, Server}
 use Rattle.bench_item.specs.declared.source.Source.TheVariants.{Desk, Shard}
 use Rattle.bench_item.specs.declared.step.Step.{Step}
 use Rattle.bench_item.specs.declared.step.Step.TheVariants.{Drop, Lift, Told, Work}
-use Rattle.bench_spec.specs.Settings.{LineRules, Settings}
+use Rattle.bench_item.specs.Lines.{LineRules}
+use Rattle.bench_spec.specs.Settings.{Settings}
 
 -- the kinds Start, Timeout and Initial; one action that arms the timer anew for 30 ticks, and one that reserves 60 units
 abbrev pub laws : Laws
@@ -70,7 +73,7 @@ server_table = record {
 
 -- lines to which octets mean nothing
 abbrev pub silent : LineRules
-silent = record { posts = λ line opening happened. []; ends = λ opening happened piece. false; answers = λ opening happened piece. [] }
+silent = record { posts = λ opening happened. []; ends = λ opening happened piece. false; answers = λ opening happened piece. [] }
 
 -- one shard, one page, one desk, the peer `a`, and account 100 with 100 units
 abbrev pub settings : Settings
@@ -83,7 +86,7 @@ settings = record {
   accounts = record { id = 100; given = 100 } ∷ [];
   pages = 1;
   desks = 1;
-  rules = silent;
+  rules = λ line. silent;
 }
 
 abbrev pub peer_a : Key

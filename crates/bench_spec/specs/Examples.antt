@@ -8,7 +8,9 @@ use Rattle.acct_book.specs.Sums.{debited, left_where, own, unpaid}
 use Rattle.acct_totals.specs.declared.op.Outcome.{Outcome}
 use Rattle.acct_totals.specs.declared.op.Outcome.TheVariants.{Done, Refused}
 use Rattle.tab_step.specs.Moves.{row_taken}
-use Rattle.bench_item.specs.Entries.{Entry, Move, Moved}
+use Rattle.bench_item.specs.declared.entry.Entry.{Entry}
+use Rattle.bench_item.specs.declared.entry.Moved.{Moved}
+use Rattle.bench_item.specs.declared.entry.Handled.TheVariants.{Move}
 use Rattle.bench_item.specs.Posts.{no_facts}
 use Rattle.bench_item.specs.declared.item.Item.{Item}
 use Rattle.bench_item.specs.declared.item.Item.TheVariants.{Arm, ToMachine}

@@ -3,7 +3,10 @@ use Rattle.std.specs.Prelude.{◌≡◌, ℕ, ◌+◌, ◌≤◌, ◌==◌, Bool
 use Rattle.std.specs.List.{last_or}
 use Rattle.base_codes.specs.declared.session_register.TheConstants.{TIMER}
 use Rattle.tab_step.specs.declared.machine.Event.{Event}
-use Rattle.bench_item.specs.Entries.{Entry, Handled, TooBusy, Stale, Move, Moved}
+use Rattle.bench_item.specs.declared.entry.Entry.{Entry}
+use Rattle.bench_item.specs.declared.entry.Handled.{Handled}
+use Rattle.bench_item.specs.declared.entry.Moved.{Moved}
+use Rattle.bench_item.specs.declared.entry.Handled.TheVariants.{TooBusy, Stale, Move}
 use Rattle.bench_item.specs.Keys.{Node}
 use Rattle.bench_item.specs.Posts.{Doer, busy_posts, event_for, no_facts, posts_of}
 use Rattle.bench_item.specs.Steps.{is_same_source}

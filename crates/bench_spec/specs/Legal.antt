@@ -6,7 +6,10 @@ use Rattle.tab_law.specs.Books.{NamedPermits}
 use Rattle.tab_step.specs.Moves.{MovesBy, row_taken}
 use Rattle.tab_step.specs.declared.machine.MachineState.{MachineState}
 use Rattle.tab_text.specs.Contents.{Contents}
-use Rattle.bench_item.specs.Entries.{Entry, Handled, TooBusy, Stale, Move, Moved}
+use Rattle.bench_item.specs.declared.entry.Entry.{Entry}
+use Rattle.bench_item.specs.declared.entry.Handled.{Handled}
+use Rattle.bench_item.specs.declared.entry.Moved.{Moved}
+use Rattle.bench_item.specs.declared.entry.Handled.TheVariants.{TooBusy, Stale, Move}
 use Rattle.bench_item.specs.Keys.{home}
 use Rattle.bench_item.specs.declared.item.Item.{Item}
 use Rattle.bench_item.specs.declared.item.Item.TheVariants.{ToMachine}

@@ -1,4 +1,3 @@
-pub mod Past
 pub mod Settings
 pub mod Lines
 pub mod Machines

@@ -2,7 +2,7 @@
 use Rattle.std.specs.Prelude.{◌≡◌, ℕ, List, [], ◌∷◌, Some, None, replicate, refl, take}
 use Rattle.base_codes.specs.DeedCodes.{number_of}
 use Rattle.base_codes.specs.declared.deed_code.DeedCode.TheVariants.{Close}
-use Rattle.bench_item.specs.Entries.{Entry}
+use Rattle.bench_item.specs.declared.entry.Entry.{Entry}
 use Rattle.bench_item.specs.declared.item.Item.{Item}
 use Rattle.bench_item.specs.declared.item.Item.TheVariants.{Dial, ToLine, Undial}
 use Rattle.bench_item.specs.declared.line_state.LineState.TheVariants as at
@@ -12,7 +12,7 @@ use Rattle.bench_item.specs.declared.step.StepFault.TheVariants as faults
 use Rattle.bench_spec.specs.ExampleLog.{carried, settings, silent}
 use Rattle.bench_spec.specs.Lines.{line_state, openings}
 use Rattle.bench_spec.specs.Refusal.{refusal}
-use Rattle.bench_spec.specs.Settings.{Accepted, Dialled}
+use Rattle.bench_item.specs.declared.opening.Opening.TheVariants.{Accepted, Dialled}
 
 -- a Close for a line
 abbrev close : ℕ → Item
@@ -34,23 +34,23 @@ pub opened : openings lines ≡ Accepted ∷ Dialled 0 3 ∷ []
 opened = refl
 
 -- a line without a number
-pub line_0 : line_state silent lines 0 ≡ None
+pub line_0 : line_state (λ line. silent) lines 0 ≡ None
 line_0 = refl
 
-pub line_1_open : line_state silent (take 4 lines) 1 ≡ Some at.Open
+pub line_1_open : line_state (λ line. silent) (take 4 lines) 1 ≡ Some at.Open
 line_1_open = refl
 
-pub line_1_closed : line_state silent lines 1 ≡ Some at.Closed
+pub line_1_closed : line_state (λ line. silent) lines 1 ≡ Some at.Closed
 line_1_closed = refl
 
 -- what was dropped for it before it was opened did nothing
-pub line_2_dialling : line_state silent (take 3 lines) 2 ≡ Some (at.Dialling 0)
+pub line_2_dialling : line_state (λ line. silent) (take 3 lines) 2 ≡ Some (at.Dialling 0)
 line_2_dialling = refl
 
-pub line_2_open : line_state silent lines 2 ≡ Some at.Open
+pub line_2_open : line_state (λ line. silent) lines 2 ≡ Some at.Open
 line_2_open = refl
 
-pub line_3 : line_state silent lines 3 ≡ None
+pub line_3 : line_state (λ line. silent) lines 3 ≡ None
 line_3 = refl
 
 -- octets on a line that is being dialled, on a closed one, on none

@@ -1,18 +1,15 @@
 -- The lines of a log: which were opened, what happened to each, and where it stands.
-use Rattle.std.specs.Prelude.{ℕ, ◌-◌, ◌==◌, ◌&&◌, Bool, true, false, List, [], ◌∷◌, length, flat_map, Option, None, option_map, option_to_list, slice_get, if◌then◌else◌}
-use Rattle.std.specs.List.{list_any}
+use Rattle.std.specs.Prelude.{ℕ, ◌-◌, ◌==◌, List, [], ◌∷◌, length, flat_map, Option, None, option_map, option_to_list, slice_get, if◌then◌else◌}
 use Rattle.std.specs.Option.{option_map_or}
-use Rattle.base_codes.specs.DeedCodes.{number_of}
-use Rattle.base_codes.specs.declared.deed_code.DeedCode.TheVariants.{Close}
-use Rattle.bench_item.specs.Entries.{Entry}
+use Rattle.bench_item.specs.declared.entry.Entry.{Entry}
 use Rattle.bench_item.specs.declared.item.Item.{Item}
 use Rattle.bench_item.specs.declared.item.Item.TheVariants as items
 use Rattle.bench_item.specs.declared.line_state.LineState.{LineState}
-use Rattle.bench_item.specs.declared.line_state.LineState.TheVariants as at
 use Rattle.bench_item.specs.declared.step.Step.{Step}
 use Rattle.bench_item.specs.declared.step.Step.TheVariants as steps
-use Rattle.bench_spec.specs.Past.{any_after}
-use Rattle.bench_spec.specs.Settings.{Opening, Accepted, Dialled, LineStep, Acknowledged, Received, Gone, Delivered, Undialled, LineRules}
+use Rattle.bench_item.specs.declared.opening.Opening.{Opening}
+use Rattle.bench_item.specs.declared.opening.Opening.TheVariants.{Accepted, Dialled}
+use Rattle.bench_item.specs.Lines.{LineStep, Acknowledged, Received, Gone, Delivered, Undialled, LineRules, state_of}
 
 -- the line that an item opens where it is dropped
 abbrev pub dialled_by : Item → List Opening
@@ -61,37 +58,10 @@ line_step line e = by e.step
 abbrev pub line_steps : List Entry → ℕ → List LineStep
 line_steps log line = flat_map (line_step line) (since_opening line log)
 
--- whether a dial of that peer and generation opened the line
-abbrev pub is_dial : ℕ → ℕ → Opening → Bool
-is_dial peer generation Accepted = false
-is_dial peer generation (Dialled p g) = (p == peer) && (g == generation)
-
--- whether a step closes the line, after those before it
-abbrev pub closes : LineRules → Opening → List LineStep → LineStep → Bool
-closes rules opening past Acknowledged = false
-closes rules opening past (Received piece) = rules.ends opening past piece
-closes rules opening past Gone = true
-closes rules opening past (Delivered item) = item.deed.code == number_of Close
-closes rules opening past (Undialled peer generation) = is_dial peer generation opening
-
-abbrev pub is_closed : LineRules → Opening → List LineStep → Bool
-is_closed rules opening happened = any_after (closes rules opening) [] happened
-
-abbrev pub is_acknowledgement : LineStep → Bool
-is_acknowledgement Acknowledged = true
-is_acknowledgement step = false
-
--- where a line stands that is not closed: one that was dialled waits for its acknowledgement
-abbrev pub standing : Opening → List LineStep → LineState
-standing Accepted happened = at.Open
-standing (Dialled peer generation) happened = if list_any is_acknowledgement happened then at.Open else at.Dialling peer
-
 -- where a line stands, if there is one of that number
-abbrev pub line_state : LineRules → List Entry → ℕ → Option LineState
-line_state rules log line =
-    option_map (λ opening. if is_closed rules opening (line_steps log line) then at.Closed else standing opening (line_steps log line))
-    (opening_of log line)
+abbrev pub line_state : (ℕ → LineRules) → List Entry → ℕ → Option LineState
+line_state rules log line = option_map (λ opening. state_of (rules line) opening (line_steps log line)) (opening_of log line)
 
 -- what a line has put out
-abbrev pub line_posts : LineRules → List Entry → ℕ → List Item
-line_posts rules log line = option_map_or (λ opening. rules.posts line opening (line_steps log line)) (opening_of log line) []
+abbrev pub line_posts : (ℕ → LineRules) → List Entry → ℕ → List Item
+line_posts rules log line = option_map_or (λ opening. (rules line).posts opening (line_steps log line)) (opening_of log line) []

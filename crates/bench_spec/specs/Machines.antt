@@ -2,8 +2,12 @@
 use Rattle.std.specs.Prelude.{ℕ, ◌==◌, Bool, true, false, List, [], ◌∷◌, ◌++◌, map, filter, flat_map, position, Option, Some, None, option_map, option_to_list, slice_get, slice_index, slice_set, if◌then◌else◌}
 use Rattle.base_codes.specs.declared.session_register.TheConstants.{MACHINE}
 use Rattle.tab_step.specs.declared.machine.MachineState.{MachineState}
-use Rattle.bench_item.specs.Entries.{Entry, Handled, TooBusy, Move, Moved}
+use Rattle.bench_item.specs.declared.entry.Entry.{Entry}
+use Rattle.bench_item.specs.declared.entry.Handled.{Handled}
+use Rattle.bench_item.specs.declared.entry.Moved.{Moved}
+use Rattle.bench_item.specs.declared.entry.Handled.TheVariants.{TooBusy, Move}
 use Rattle.std.specs.List.{position_or_len}
+use Rattle.bench_item.specs.Entries.{moved_in}
 use Rattle.bench_item.specs.Keys.{Node, home, is_same_key, key_of, number_at, peers_in, place_of, shard_of}
 use Rattle.bench_item.specs.Posts.{no_facts}
 use Rattle.bench_item.specs.declared.item.Condition.{Condition}
@@ -14,7 +18,7 @@ use Rattle.bench_item.specs.declared.key.Key.{Key}
 use Rattle.bench_item.specs.declared.key.Role.TheVariants.{Peer}
 use Rattle.bench_item.specs.declared.step.Step.{Step}
 use Rattle.bench_item.specs.declared.step.Step.TheVariants.{Work}
-use Rattle.bench_spec.specs.Past.{distinct}
+use Rattle.bench_item.specs.Past.{distinct}
 
 -- the event that an item carries to a machine, if it is one that does
 abbrev pub machine_item : Item → List MachineItem
@@ -66,14 +70,6 @@ number_for node log key =
 -- the machine of a number, if there is one
 abbrev pub key_numbered : Node → List Entry → ℕ → Option Key
 key_numbered node log number = slice_get (directory node (shard_of number) log) (place_of number)
-
--- the move of a machine in an entry: stale and busy ones have none
-abbrev pub moved_in : Entry → List Moved
-moved_in e = by e.handled
-  where
-    by : Option Handled → List Moved
-    by (Some (Move moved)) = moved ∷ []
-    by handled = []
 
 -- the moves of a machine: those that items with its key led to
 abbrev pub moves_in : Key → Entry → List Moved

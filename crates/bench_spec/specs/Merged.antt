@@ -4,7 +4,7 @@ use Rattle.std.specs.List.Sorted.{IsStrictlyIncreasing}
 use Rattle.acct_totals.specs.Amounts.{account_of}
 use Rattle.acct_totals.specs.declared.op.Booked.{Booked}
 use Rattle.tab_step.specs.declared.machine.MachineState.{MachineState}
-use Rattle.bench_item.specs.Entries.{Entry}
+use Rattle.bench_item.specs.declared.entry.Entry.{Entry}
 use Rattle.bench_item.specs.Keys.{Node, home}
 use Rattle.bench_item.specs.Posts.{no_facts}
 use Rattle.bench_item.specs.declared.item.Item.{Item}

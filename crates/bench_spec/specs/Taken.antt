@@ -1,6 +1,6 @@
 -- What the calls of a world promise: the clauses that their contracts cite.
 use Rattle.std.specs.Prelude.{◌≡◌, ℕ, Bool, false, List, [], ◌∷◌, ◌++◌, length, replicate, None, unwrap_or, Result, Ok, Err}
-use Rattle.bench_item.specs.Entries.{Entry}
+use Rattle.bench_item.specs.declared.entry.Entry.{Entry}
 use Rattle.bench_item.specs.declared.step.Step.{Step}
 use Rattle.bench_item.specs.declared.step.StepFault.{StepFault}
 use Rattle.bench_item.specs.declared.step.StepFault.TheVariants.{NoMemory}

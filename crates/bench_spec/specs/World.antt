@@ -5,7 +5,8 @@ use Rattle.std.specs.Option.{option_map_or}
 use Rattle.acct_book.specs.Book.{totals_of}
 use Rattle.acct_totals.specs.declared.answer.Totals.{Totals}
 use Rattle.tab_step.specs.declared.machine.MachineState.{MachineState}
-use Rattle.bench_item.specs.Entries.{Entry, Moved}
+use Rattle.bench_item.specs.declared.entry.Entry.{Entry}
+use Rattle.bench_item.specs.declared.entry.Moved.{Moved}
 use Rattle.bench_item.specs.Keys.{is_same_key, is_same_role}
 use Rattle.bench_item.specs.declared.item.Item.{Item}
 use Rattle.bench_item.specs.declared.item.MachineItem.{MachineItem}
@@ -18,7 +19,8 @@ use Rattle.bench_item.specs.declared.step.Step.TheVariants.{Work}
 use Rattle.bench_spec.specs.Booked.{book_at}
 use Rattle.bench_spec.specs.Items.{armed, hand, inbox, outbox}
 use Rattle.bench_spec.specs.Lines.{line_state}
-use Rattle.bench_spec.specs.Machines.{directory, machine_item, moved_in, state_of}
+use Rattle.bench_item.specs.Entries.{moved_in}
+use Rattle.bench_spec.specs.Machines.{directory, machine_item, state_of}
 use Rattle.bench_spec.specs.Sent.{sent}
 use Rattle.bench_spec.specs.Settings.{Settings}
 
