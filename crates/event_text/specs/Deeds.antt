@@ -19,7 +19,10 @@ without_last_zeros [] = []
 without_last_zeros (value ∷ values) =
     if list_all (λ v. v == 0) (value ∷ values) then [] else value ∷ without_last_zeros values
 
--- `  Service 2`: a deed's name or code, and its arguments up to the last that isn't 0
+-- `Service 2`: a deed's name or code, and its arguments up to the last that isn't 0
+abbrev pub deed_words : Deed → List ℕ
+deed_words deed = name_or (deed_name deed.code) deed.code ++ flat_map (λ value. codes " " ++ decimal value) (without_last_zeros deed.a)
+
+-- the same on a line of its own, behind two blanks
 abbrev pub deed_line : Deed → List ℕ
-deed_line deed =
-    codes "  " ++ name_or (deed_name deed.code) deed.code ++ flat_map (λ value. codes " " ++ decimal value) (without_last_zeros deed.a) ++ codes "\n"
+deed_line deed = codes "  " ++ deed_words deed ++ codes "\n"

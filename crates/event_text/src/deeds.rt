@@ -2,7 +2,7 @@
 ghost use Rattle.std.specs.Prelude.{◌≡◌, ◌++◌, OnOk, codes, decimal};
 ghost use Rattle.std.specs.List.{flat_map};
 ghost use Rattle.std.specs.Option.{option_map};
-ghost use Rattle.event_text.specs.Deeds.{deed_line, deed_name, name_or, without_last_zeros};
+ghost use Rattle.event_text.specs.Deeds.{deed_line, deed_name, deed_words, name_or, without_last_zeros};
 
 use base_codes::DeedCode;
 use bench_text::put_number;
@@ -61,12 +61,19 @@ fn put_values(out: &mut Vec<u8>, values: &[u64]) -> Result<(), AllocError>
     Ok(())
 }
 
-/// A deed: two blanks, its name or else its code, and its arguments up to the last that isn't 0.
+/// A deed behind a label: its name or else its code, and its arguments up to the last that isn't 0.
+pub fn put_deed_words(out: &mut Vec<u8>, label: &[u8], deed: &Deed) -> Result<(), AllocError>
+    ensures { OnOk result (out.new.items ≡ out.old.items ++ label.now ++ deed_words deed.now) }
+{
+    put_name(out, label, deed_name(deed.code), u64::from(deed.code))?;
+    put_values(out, without_last_zeros(&deed.a))
+}
+
+/// A deed on a line of its own, behind two blanks.
 pub fn put_deed(out: &mut Vec<u8>, deed: &Deed) -> Result<(), AllocError>
     ensures { OnOk result (out.new.items ≡ out.old.items ++ deed_line deed.now) }
 {
-    put_name(out, b"  ", deed_name(deed.code), u64::from(deed.code))?;
-    put_values(out, without_last_zeros(&deed.a))?;
+    put_deed_words(out, b"  ", deed)?;
     out.extend_from_slice(b"\n")
 }
 

@@ -4,5 +4,5 @@
 mod deeds;
 mod events;
 
-pub use deeds::{put_deed, put_deeds, put_name};
+pub use deeds::{put_deed, put_deed_words, put_deeds, put_name};
 pub use events::{EventsError, read_events};

@@ -1,0 +1,4 @@
+pub mod Names
+pub mod Keys
+pub mod StepLines
+pub mod EntryLines
