@@ -42,7 +42,8 @@ pub fn one_meaning()
         → (octets ≡ others) × (after ≡ other) }
 {}
 
-fn digit_value(c: u8) -> Option<u8>
+/// The value of a hexadecimal digit of either case.
+pub fn digit_value(c: u8) -> Option<u8>
     ensures { result ≡ hex_digit_value c }
 {
     match c {

@@ -69,7 +69,7 @@ fn fact_of(word: &[u8]) -> Option<(usize, u64)>
 }
 
 /// The facts of words; what isn't written is 0.
-fn facts_of(words: &mut Words<'_>) -> Option<[u64; PLACES]>
+pub fn facts_of(words: &mut Words<'_>) -> Option<[u64; PLACES]>
     ensures { result ≡ facts_of (words_left words.old) }
 {
     let mut facts = [0; PLACES];
@@ -102,7 +102,7 @@ fn event_of(book: &LawBook, line: &[u8]) -> Option<Event>
 }
 
 /// Whether a line is passed over: it is empty or begins with a blank.
-fn is_skipped(line: &[u8]) -> bool
+pub fn is_skipped(line: &[u8]) -> bool
     ensures { result ≡ is_skipped line.now }
 {
     match line {

@@ -22,7 +22,7 @@ states_in book Server = book.server_states.items
 -- names in lists: each by its place, a machine by the first that has its number
 abbrev pub names_in : NameBook → NamesOf
 names_in book = record {
-    kind = λ place. slice_get book.kinds.items place;
-    key = λ number. option_map (λ machine. machine.key) (find (λ machine. machine.number == number) book.machines.items);
-    state = λ role place. slice_get (states_in book role) place
-  }
+  kind = λ place. slice_get book.kinds.items place;
+  key = λ number. option_map (λ machine. machine.key) (find (λ machine. machine.number == number) book.machines.items);
+  state = λ role place. slice_get (states_in book role) place;
+}

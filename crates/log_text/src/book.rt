@@ -56,11 +56,7 @@ impl Names for NameBook {
     }
 
     fn key(&self, machine: u64) -> Option<&Key> {
-        match self
-            .machines
-            .iter()
-            .find(|known| known.number == machine)
-        {
+        match self.machines.iter().find(|known| known.number == machine) {
             Some(known) => Some(&known.key),
             None => None,
         }

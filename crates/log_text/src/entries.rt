@@ -43,7 +43,12 @@ fn put_item<N: Names>(out: &mut Vec<u8>, names: &N, item: &MachineItem) -> Resul
     out.extend_from_slice(b"  ")?;
     put_key(out, &item.key)?;
     out.extend_from_slice(b" ")?;
-    put_name(out, b"", names.kind(item.event.kind), u64::from(item.event.kind))
+    put_name(
+        out,
+        b"",
+        names.kind(item.event.kind),
+        u64::from(item.event.kind),
+    )
 }
 
 /// A move, and its deeds below it.

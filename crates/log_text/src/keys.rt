@@ -9,7 +9,7 @@ use bench_text::{put_hex, put_number};
 use std::alloc::AllocError;
 
 /// Whether an octet stands for itself.
-fn is_plain(octet: u8) -> bool
+pub fn is_plain(octet: u8) -> bool
     ensures { result ≡ is_plain octet }
 {
     33 <= octet && octet <= 126 && octet != b'%'

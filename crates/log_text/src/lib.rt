@@ -28,6 +28,6 @@ mod steps;
 
 pub use book::{Machine, NameBook};
 pub use entries::{put_entries, put_entry};
-pub use keys::{put_key, put_machine};
+pub use keys::{is_plain, put_key, put_machine};
 pub use names::Names;
 pub use steps::{put_event, put_step};

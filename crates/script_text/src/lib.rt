@@ -1,0 +1,22 @@
+//! Scripts of the bench: what each line asks for, as `log_text` prints steps. Empty lines, and lines that begin with a blank, are
+//! skipped, so that a printed log may be pasted as a script.
+//!
+//! | File | What it has |
+//! |---|---|
+//! | `asked` | what a line asks for |
+//! | `keys` | the keys of machines |
+//! | `words` | the parts of lines: numbers, octets, sources |
+//! | `lines` | what a line asks for, read |
+//! | `script` | all lines of a script |
+#![tactic(auto)]
+
+mod asked;
+mod keys;
+mod lines;
+mod script;
+mod words;
+
+pub use asked::{Asked, NO_KIND};
+pub use keys::read_key;
+pub use lines::read_line;
+pub use script::{ScriptError, read_script};
