@@ -1,0 +1,4 @@
+pub mod Groups
+pub mod Made
+pub mod Nodes
+pub mod Sessions

@@ -1,0 +1,81 @@
+//! The answer to a request that finds no room.
+
+ghost use Rattle.std.specs.Prelude.{◌≡◌};
+ghost use Rattle.bench_item.specs.Posts.{busy_facts, busy_posts};
+ghost use Rattle.bench_post.specs.Groups.{answer_posts};
+ghost use Rattle.bench_post.specs.Made.{Makes};
+ghost use Rattle.bench_post.specs.Nodes.{node_of};
+
+use crate::message::to_peer;
+use crate::peers::Peers;
+use base_codes::session_fact;
+use bench_item::{Item, MachineItem, Role};
+use std::alloc::{AllocError, Global};
+use tab_law::{LawBook, PLACES};
+
+/// The class of an answer that tells a fault.
+const FAULT: u64 = 3;
+
+/// DIAMETER_TOO_BUSY (RFC 6733 section 7.1.3).
+const TOO_BUSY: u64 = 3004;
+
+/// The facts of that answer: of the request the line, both identifiers, its type and its number.
+fn busy_facts(facts: &[u64; PLACES]) -> [u64; PLACES]
+    ensures { result ≡ busy_facts facts.now }
+{
+    let mut answer = [0; PLACES];
+    answer[session_fact::LINE] = facts[session_fact::LINE];
+    answer[session_fact::HOP_BY_HOP] = facts[session_fact::HOP_BY_HOP];
+    answer[session_fact::END_TO_END] = facts[session_fact::END_TO_END];
+    answer[session_fact::CLASS] = FAULT;
+    answer[session_fact::REQUEST_TYPE] = facts[session_fact::REQUEST_TYPE];
+    answer[session_fact::REQUEST_NUMBER] = facts[session_fact::REQUEST_NUMBER];
+    answer[session_fact::RESULT_CODE] = TOO_BUSY;
+    answer
+}
+
+/// What is posted for an event of a session that finds no room: a request is answered.
+fn answer_request(
+    alloc: Global,
+    laws: &LawBook,
+    peers: &Peers,
+    facts: &[u64; PLACES],
+    session: &[u8],
+) -> Result<Option<Item>, AllocError>
+    ensures { Makes result (answer_posts (node_of laws.now peers.now) facts.now session.now) }
+{
+    if facts[session_fact::CLASS] != 1 {
+        return Ok(None);
+    }
+    let answer = busy_facts(facts);
+    to_peer(
+        alloc,
+        laws,
+        peers,
+        facts[session_fact::PEER],
+        &answer,
+        session,
+    )
+}
+
+/// What is posted, at most one item, for an item whose session finds no room: a request is answered DIAMETER_TOO_BUSY, all else is
+/// dropped. A post whose names have at most 32 octets each takes no memory.
+pub fn busy_posts(
+    alloc: Global,
+    laws: &LawBook,
+    peers: &Peers,
+    item: &MachineItem,
+) -> Result<Option<Item>, AllocError>
+    ensures { Makes result (busy_posts (node_of laws.now peers.now) item.now) }
+{
+    match item.key.role {
+        Role::Server => answer_request(
+            alloc,
+            laws,
+            peers,
+            &item.event.facts,
+            item.key.name.as_slice(),
+        ),
+        Role::Peer | Role::Client => Ok(None),
+    }
+}
