@@ -8,8 +8,8 @@ use Rattle.tab_law.specs.declared.limits.TheConstants.{PLACES}
 use Rattle.tab_step.specs.declared.machine.Event.{Event}
 use Rattle.text_parts.specs.Lines.{Line, lines}
 use Rattle.text_parts.specs.Words.{Word, words}
-use Rattle.event_text.specs.declared.events.EventsError.{EventsError}
-use Rattle.event_text.specs.declared.events.EventsError.TheVariants.{NoMemory, BadLine}
+use Rattle.event_text.specs.declared.events.LinesError.{LinesError}
+use Rattle.event_text.specs.declared.events.LinesError.TheVariants.{NoMemory, BadLine}
 
 -- a number below PLACES and a value
 abbrev pub fact_with : Option ℕ → Option ℕ → Option (ℕ × ℕ)
@@ -90,6 +90,6 @@ abbrev pub first_bad : Laws → List ℕ → Option ℕ
 first_bad laws text = bad_in laws (lines text)
 
 -- the refusal names the first such line, or memory was refused
-abbrev pub IsBadText : Option ℕ → EventsError → Type 0
+abbrev pub IsBadText : Option ℕ → LinesError → Type 0
 IsBadText first NoMemory = Unit {0}
 IsBadText first (BadLine line) = first ≡ Some line

@@ -10,31 +10,31 @@ use tab_law::{LawBook, PLACES};
 use tab_step::Event;
 use text_parts::{Pieces, Words};
 
-/// Why a text holds no list of events.
+/// Why the lines of a text are not what they are read for.
 #[derive(Clone, Copy, PartialEq, Eq)]
-pub enum EventsError {
+pub enum LinesError {
     NoMemory,
-    /// The line, from 1, isn't of the form, its kind isn't in the book, or a fact's number is too large or stands twice.
+    /// The first line, from 1, that isn't of the form.
     BadLine(usize),
 }
 
-impl From<AllocError> for EventsError {
-    ghost use Rattle.event_text.specs.declared.events.EventsError.TheVariants.{NoMemory};
+impl From<AllocError> for LinesError {
+    ghost use Rattle.event_text.specs.declared.events.LinesError.TheVariants.{NoMemory};
 
     ghost from_gives = { λ _ e. e ≡ NoMemory };
 
-    fn from(_e: AllocError) -> EventsError {
-        EventsError::NoMemory
+    fn from(_e: AllocError) -> LinesError {
+        LinesError::NoMemory
     }
 }
 
-impl<T: Drop> From<AllocFailed<T>> for EventsError {
-    ghost use Rattle.event_text.specs.declared.events.EventsError.TheVariants.{NoMemory};
+impl<T: Drop> From<AllocFailed<T>> for LinesError {
+    ghost use Rattle.event_text.specs.declared.events.LinesError.TheVariants.{NoMemory};
 
     ghost from_gives = { λ _ e. e ≡ NoMemory };
 
-    fn from(_e: AllocFailed<T>) -> EventsError {
-        EventsError::NoMemory
+    fn from(_e: AllocFailed<T>) -> LinesError {
+        LinesError::NoMemory
     }
 }
 
@@ -111,8 +111,9 @@ pub fn is_skipped(line: &[u8]) -> bool
     }
 }
 
-/// The events of a text. Empty lines, and lines that begin with a blank, are skipped.
-pub fn read_events(alloc: Global, book: &LawBook, text: &[u8]) -> Result<Vec<Event>, EventsError>
+/// The events of a text. Empty lines, and lines that begin with a blank, are skipped. A line is bad whose kind isn't in the book, or
+/// one of whose facts has a number that is too large or stands twice.
+pub fn read_events(alloc: Global, book: &LawBook, text: &[u8]) -> Result<Vec<Event>, LinesError>
     ensures events { IfOk result (λ events. events.items ≡ events_of book.now text.now) }
     ensures sound { OnOk result (first_bad book.now text.now ≡ None) }
     ensures bad { IfErr result (IsBadText (first_bad book.now text.now)) }
@@ -127,7 +128,7 @@ pub fn read_events(alloc: Global, book: &LawBook, text: &[u8]) -> Result<Vec<Eve
         }
         match event_of(book, line) {
             Some(event) => events.push(event)?,
-            None => return Err(EventsError::BadLine(place)),
+            None => return Err(LinesError::BadLine(place)),
         }
     }
     Ok(events)

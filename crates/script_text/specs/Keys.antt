@@ -1,5 +1,5 @@
 -- Which key a word is.
-use Rattle.std.specs.Prelude.{ℕ, ◌==◌, ◌+◌, ◌*◌, List, [], ◌∷◌, Option, Some, None, option_map, if◌then◌else◌}
+use Rattle.std.specs.Prelude.{ℕ, ◌==◌, ◌+◌, ◌*◌, List, [], ◌∷◌, Option, Some, None, if◌then◌else◌}
 use Rattle.hex.specs.Hex.{hex_digit_value}
 use Rattle.log_text.specs.Keys.{is_plain}
 use Rattle.bench_item.specs.declared.key.Key.{Key}

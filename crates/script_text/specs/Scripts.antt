@@ -1,5 +1,5 @@
 -- What the lines of a script ask for.
-use Rattle.std.specs.Prelude.{◌≡◌, ℕ, ◌==◌, ◌^◌, not, nat_lt, List, [], ◌∷◌, filter, Option, Some, None, Result, Ok, Err, is_none, option_map, unwrap_or, codes, if◌then◌else◌}
+use Rattle.std.specs.Prelude.{ℕ, ◌^◌, not, nat_lt, List, [], ◌∷◌, filter, Option, Some, None, Result, Ok, Err, is_none, option_map, unwrap_or, codes, if◌then◌else◌}
 use Rattle.std.specs.List.{filter_map, find}
 use Rattle.std.specs.Str.{bytes_eq}
 use Rattle.hex.specs.Hex.{decode_of}
@@ -8,7 +8,6 @@ use Rattle.base_list.specs.Named.{place_of}
 use Rattle.bench_text.specs.Numbers.{number_of}
 use Rattle.event_text.specs.Events.{facts_of, is_skipped}
 use Rattle.tab_law.specs.Books.{Laws}
-use Rattle.tab_step.specs.declared.machine.Event.{Event}
 use Rattle.text_parts.specs.Lines.{Line, lines}
 use Rattle.text_parts.specs.Words.{Word, words}
 use Rattle.bench_item.specs.declared.key.Key.{Key}
@@ -20,8 +19,6 @@ use Rattle.script_text.specs.Keys.{key_of}
 use Rattle.script_text.specs.declared.asked.Asked.{Asked}
 use Rattle.script_text.specs.declared.asked.Asked.TheVariants as asked
 use Rattle.script_text.specs.declared.asked.TheConstants.{NO_KIND}
-use Rattle.script_text.specs.declared.script.ScriptError.{ScriptError}
-use Rattle.script_text.specs.declared.script.ScriptError.TheVariants.{NoMemory, BadLine}
 
 -- a number below 2^32
 abbrev pub if_short : Option ℕ → Option ℕ
@@ -145,8 +142,3 @@ script_of laws text = asked_in laws (lines text)
 -- the first line of a script that has another form
 abbrev pub first_bad : Laws → List ℕ → Option ℕ
 first_bad laws text = bad_in laws (lines text)
-
--- the refusal names the first such line, or memory was refused
-abbrev pub IsBadScript : Option ℕ → ScriptError → Type 0
-IsBadScript first NoMemory = Unit {0}
-IsBadScript first (BadLine line) = first ≡ Some line

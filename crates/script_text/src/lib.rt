@@ -19,4 +19,4 @@ mod words;
 pub use asked::{Asked, NO_KIND};
 pub use keys::read_key;
 pub use lines::read_line;
-pub use script::{ScriptError, read_script};
+pub use script::read_script;

@@ -7,7 +7,7 @@ ghost use Rattle.tab_walk.specs.Walks.{IsImageWalked, IsReady, IsRefused, IsRunO
 
 use crate::steps::{Rules, names_of, put_step, step_by};
 use bench_device::{ByteSink, MAX_IDLE_WRITES, Status, tell};
-use event_text::{EventsError, read_events};
+use event_text::{LinesError, read_events};
 use fault_text::{bad_line, table_fault, unbound_text};
 use image_list::{read_image, refusal_text};
 use std::alloc::{AllocError, Global};
@@ -88,8 +88,8 @@ fn walk_by(
             text: run_text(alloc, rules, registry, &events)?,
             refused: false,
         }),
-        Err(EventsError::NoMemory) => Err(AllocError),
-        Err(EventsError::BadLine(line)) => Ok(refusal(bad_line(alloc, line)?)),
+        Err(LinesError::NoMemory) => Err(AllocError),
+        Err(LinesError::BadLine(line)) => Ok(refusal(bad_line(alloc, line)?)),
     }
 }
 

@@ -1,4 +1,4 @@
-use Rattle.std.proofs.Common.{◌≡◌, ◌++◌, ◌∙◌, List, ℕ, ap, sym}
+use Rattle.std.proofs.Common.{◌++◌, ◌∙◌, List, ℕ, ap, sym}
 use Rattle.std.specs.Option.{option_map}
 use Rattle.script_text.specs.Keys.{name_of}
 use Rattle.script_text.proofs.NameLemmas.{before_behind}
