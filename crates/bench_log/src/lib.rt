@@ -1,0 +1,26 @@
+//! The log of a bench: every step that was taken, with what it carried and which machine it moved.
+//!
+//! Contracts see the plain list of entries. Memory holds less: of the registers of a machine, the facts of an event and the
+//! arguments of a deed, zeros at the end take no room.
+//!
+//! | File | What it has |
+//! |---|---|
+//! | `places` | the numbers of 64 places without the zeros at the end |
+//! | `state` | where a machine stands, events, deeds and keys, kept so |
+//! | `item` | an item that is kept |
+//! | `step` | a step that is kept |
+//! | `moved` | a move of a machine that is kept |
+//! | `entry` | an entry that is kept |
+//! | `log` | the log |
+#![tactic(auto)]
+
+mod entry;
+mod item;
+mod log;
+mod moved;
+mod places;
+mod state;
+mod step;
+
+pub use entry::KeptEntry;
+pub use log::{Log, LogFault};

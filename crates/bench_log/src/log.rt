@@ -1,0 +1,189 @@
+//! The log.
+ghost use Rattle.std.specs.Prelude.{◌≡◌, ◌==◌, ◌-◌, ◌≤◌, ◌++◌, ◌∷◌, [], false, None, Ok, IfOk, OnOk, OnErr, IfErr, length, take, map};
+ghost use Rattle.std.specs.List.{slice_get};
+ghost use Rattle.std.specs.Option.{option_map, option_and_then};
+ghost use Rattle.bench_log.specs.declared.log.LogFault.TheVariants.{NoMemory};
+ghost use Rattle.bench_log.specs.Moves.{machine_in, places_of};
+ghost use Rattle.bench_log.specs.Pushes.{is_full, fault_of};
+
+use crate::entry::KeptEntry;
+use bench_item::{Entry, Item, MAX_ENTRIES, Step};
+use std::alloc::{AllocError, AllocFailed, Global};
+use std::marker::Model;
+use thiserror::Error;
+
+/// Why an entry is not added to the log. The log is then as it was.
+#[derive(Clone, Copy, Debug, PartialEq, Eq, Error)]
+pub enum LogFault {
+    /// The log has as many entries as it may.
+    #[error("the log is full")]
+    Full,
+    /// There is room in the log, and memory was refused.
+    #[error("out of memory")]
+    NoMemory,
+}
+
+impl From<AllocError> for LogFault {
+    ghost from_gives = { λ _ e. e ≡ NoMemory };
+
+    fn from(_e: AllocError) -> LogFault {
+        LogFault::NoMemory
+    }
+}
+
+impl<T: Drop> From<AllocFailed<T>> for LogFault {
+    ghost from_gives = { λ _ e. e ≡ NoMemory };
+
+    fn from(_e: AllocFailed<T>) -> LogFault {
+        LogFault::NoMemory
+    }
+}
+
+/// The steps that were taken, in order, with what each carried and which machine it moved; 1,048,576 at most.
+#[derive(Drop)]
+pub struct Log {
+    entries: Vec<KeptEntry>,
+}
+
+impl Model for Log {
+    ghost use Rattle.std.specs.Prelude.{List};
+    ghost use Rattle.bench_item.specs.declared.entry.Entry.{Entry};
+
+    ghost Value = { List Entry };
+
+    ghost view = { λ l. l.entries.items };
+}
+
+impl Log {
+    /// A log without entries. Takes no memory.
+    pub fn new(alloc: Global) -> Log
+        ensures { result ≡ [] }
+    {
+        Log {
+            entries: Vec::new(alloc),
+        }
+    }
+
+    /// How many entries there are.
+    pub fn len(&self) -> usize
+        ensures { result ≡ length self.now }
+    {
+        self.entries.len()
+    }
+
+    /// Whether there is none.
+    pub fn is_empty(&self) -> bool
+        ensures { result ≡ (length self.now == 0) }
+    {
+        self.entries.is_empty()
+    }
+
+    /// Whether the log takes no more entries.
+    pub fn is_full(&self) -> bool
+        ensures { result ≡ is_full self.now }
+    {
+        self.entries.len() >= MAX_ENTRIES
+    }
+
+    /// Adds an entry that was made ready by `KeptEntry::keep`, which is what takes most of the memory.
+    pub fn add(&mut self, entry: KeptEntry) -> Result<(), LogFault>
+        ensures ok { OnOk result (self.new ≡ self.old ++ entry ∷ []) }
+        ensures room { OnOk result (is_full self.old ≡ false) }
+        ensures fault { IfErr result (λ fault. fault ≡ fault_of self.old) }
+        ensures err { OnErr result (self.new ≡ self.old) }
+    {
+        if self.is_full() {
+            return Err(LogFault::Full);
+        }
+        self.entries.push(entry)?;
+        Ok(())
+    }
+
+    /// Adds an entry at the end.
+    pub fn push(&mut self, alloc: Global, entry: &Entry) -> Result<(), LogFault>
+        ensures ok { OnOk result (self.new ≡ self.old ++ entry.now ∷ []) }
+        ensures room { OnOk result (is_full self.old ≡ false) }
+        ensures fault { IfErr result (λ fault. fault ≡ fault_of self.old) }
+        ensures err { OnErr result (self.new ≡ self.old) }
+    {
+        if self.is_full() {
+            return Err(LogFault::Full);
+        }
+        let kept = KeptEntry::keep(alloc, entry)?;
+        self.add(kept)
+    }
+
+    /// The entry at a place, counted from 0; none past the end.
+    pub fn entry(&self, place: usize, alloc: Global) -> Result<Option<Entry>, AllocError>
+        ensures entry { IfOk result (λ entry. entry ≡ slice_get self.now place) }
+        ensures past { length self.now ≤ place → result ≡ Ok None }
+    {
+        match self.entries.get(place) {
+            None => Ok(None),
+            Some(kept) => Ok(Some(kept.show(alloc)?)),
+        }
+    }
+
+    /// The last entry; none in an empty log.
+    pub fn last(&self, alloc: Global) -> Result<Option<Entry>, AllocError>
+        ensures entry { IfOk result (λ entry. entry ≡ slice_get self.now (length self.now - 1)) }
+        ensures none { self.now ≡ [] → result ≡ Ok None }
+    {
+        match self.entries.last() {
+            None => Ok(None),
+            Some(kept) => Ok(Some(kept.show(alloc)?)),
+        }
+    }
+
+    /// The step of the entry at a place; none past the end.
+    pub fn step(&self, place: usize, alloc: Global) -> Result<Option<Step>, AllocError>
+        ensures step { IfOk result (λ step. step ≡ option_map (λ entry. entry.step) (slice_get self.now place)) }
+        ensures past { length self.now ≤ place → result ≡ Ok None }
+    {
+        match self.entries.get(place) {
+            None => Ok(None),
+            Some(kept) => Ok(Some(kept.step(alloc)?)),
+        }
+    }
+
+    /// The item of the entry at a place; none where it has none, and past the end.
+    pub fn item(&self, place: usize, alloc: Global) -> Result<Option<Item>, AllocError>
+        ensures item { IfOk result (λ item. item ≡ option_and_then (λ entry. entry.item) (slice_get self.now place)) }
+        ensures past { length self.now ≤ place → result ≡ Ok None }
+    {
+        match self.entries.get(place) {
+            None => Ok(None),
+            Some(kept) => kept.item(alloc),
+        }
+    }
+
+    /// The number of the machine that the entry at a place moved; none where it moved none, and past the end. Takes no memory.
+    pub fn machine(&self, place: usize) -> Option<u64>
+        ensures { result ≡ option_and_then machine_in (slice_get self.now place) }
+    {
+        match self.entries.get(place) {
+            None => None,
+            Some(kept) => kept.machine(),
+        }
+    }
+
+    /// The places of the entries that moved a machine, in order. Entries that were stale or too busy moved none.
+    pub fn of_machine(&self, machine: u64, alloc: Global) -> Result<Vec<usize>, AllocError>
+        ensures { IfOk result (λ places. places.items ≡ places_of machine self.now) }
+    {
+        let mut places = Vec::new(alloc);
+        for place in 0..self.len() {
+            if self.entries[place].moves(machine) {
+                places.push(place)?;
+            }
+        }
+        Ok(places)
+    }
+
+    /// Keeps the first entries, as many as `len`, and drops those behind them. Takes no memory.
+    pub fn truncate(&mut self, len: usize)
+        ensures { self.new ≡ take len self.old }
+    {
+        self.entries.truncate(len);
+    }
+}
