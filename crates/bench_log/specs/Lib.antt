@@ -1,4 +1,4 @@
 pub mod Padded
 pub mod Twins
 pub mod Moves
-pub mod Pushes
+pub mod Logged

@@ -21,11 +21,21 @@ pub(crate) enum KeptHandled {
 }
 
 /// An entry in the room that the log keeps it in. A contract sees the plain entry.
-#[derive(Drop)]
 pub struct KeptEntry {
     step: KeptStep,
     item: Option<KeptItem>,
     handled: Option<KeptHandled>,
+}
+
+// A derived `drop` is proved anew in each crate that holds entries; this one is a call.
+impl Drop for KeptEntry {
+    fn drop(self) {
+        let KeptEntry {
+            step,
+            item,
+            handled,
+        } = self;
+    }
 }
 
 impl Model for KeptEntry {
