@@ -1,2 +1,3 @@
+pub mod CodedLemmas
 pub mod PlacesLemmas
 pub mod MovesLemmas

@@ -1,6 +1,6 @@
 -- Zeros at the end of a list.
-use Rattle.std.proofs.Common.{◌≡◌, ℕ, ◌+◌, ◌-◌, ◌≤◌, ◌<◌, List, ◌∷◌, ◌++◌, length, get_or, take, drop, replicate, refl, drop-cons, add-one}
-use Rattle.std.proofs.lemmas.List.{take-append-drop, drop-replicate, length-take-le}
+use Rattle.std.proofs.Common.{◌≡◌, ℕ, ◌+◌, ◌-◌, ◌≤◌, ◌<◌, List, ◌∷◌, ◌++◌, length, get_or, take, drop, replicate, refl, drop-cons, add-one, set, sym, ◌∙◌, [], append_assoc, arith, ◌+◌, ◌<◌, ap, suc}
+use Rattle.std.proofs.lemmas.List.{take-append-drop, take_more_set, drop-set-lt, drop-drop, length-take-le}
 use Rattle.tab_law.specs.declared.limits.TheConstants.{PLACES}
 use Rattle.bench_log.specs.Padded.{padded}
 
@@ -15,9 +15,14 @@ pub padded-take : (xs : List ℕ) (n : ℕ) → n ≤ length xs → length xs �
 padded-take xs n within whole zeros =
     rw (length-take-le n xs within, ← zeros) (take-append-drop n xs)
 
--- numbers that were put in front of zeros
-pub padded-put : (now seen kept : List ℕ) → length kept ≤ PLACES → seen ≡ kept → now ≡ seen ++ drop (length seen) (replicate PLACES 0) → now ≡ padded kept
-padded-put now seen kept within same put =
-    let front : now ≡ kept ++ drop (length kept) (replicate PLACES 0) = rw same at put in
-    let zeros : drop (length kept) (replicate PLACES 0) ≡ replicate (PLACES - length kept) 0 = drop-replicate {X = ℕ} (length kept) PLACES 0 in
-    rw (← zeros) front
+-- one more number in front of zeros
+pub placed-more : (all places : List ℕ) (place n : ℕ) (rest : List ℕ) → length places ≡ PLACES → place < PLACES → all ≡ take place places ++ n ∷ rest → drop place places ≡ replicate (PLACES - place) 0
+    → (all ≡ take (place + 1) (set places place n) ++ rest) × (drop (place + 1) (set places place n) ≡ replicate (PLACES - (place + 1)) 0)
+placed-more all places place n rest whole within split zeros =
+    let inside : place < length places = omega (arith, whole, within) in
+    let front : take (place + 1) (set places place n) ≡ take place places ++ n ∷ [] = take_more_set places place n inside in
+    let more : PLACES - place ≡ suc (PLACES - (place + 1)) = omega (arith, within) in
+    let after : drop (place + 1) (set places place n) ≡ drop (place + 1) places = drop-set-lt (place + 1) places place n (omega arith) in
+    let one : drop 1 (drop place places) ≡ drop (place + 1) places = drop-drop 1 place places in
+    let tail : drop 1 (drop place places) ≡ replicate (PLACES - (place + 1)) 0 = ap (drop 1) zeros ∙ ap (λ (n : ℕ). drop 1 (replicate n 0)) more in
+    (split ∙ sym (rw (front, append_assoc) refl), after ∙ sym one ∙ tail)

@@ -1,3 +1,4 @@
+pub mod Coded
 pub mod Padded
 pub mod Twins
 pub mod Moves
