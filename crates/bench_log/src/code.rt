@@ -5,6 +5,9 @@ ghost use Rattle.bench_log.specs.Coded.{behind, code, coded, first, width};
 
 use std::alloc::{AllocError, Global};
 
+// So many octets are written before more room is asked for; most lists of numbers have fewer.
+const FIRST_ROOM: usize = 128;
+
 /// Adds an octet and those of a number.
 fn put_long(octets: &mut Vec<u8>, head: u8, number: &[u8]) -> Result<(), AllocError>
     ensures { OnOk result (octets.new.items ≡ octets.old.items ++ head ∷ number.now) }
@@ -34,7 +37,7 @@ pub(crate) fn octets_of(alloc: Global, numbers: &[u64]) -> Result<Vec<u8>, Alloc
     ensures octets { IfOk result (λ octets. octets.items ≡ coded numbers.now) }
     ensures fit { IfOk result (λ _. All (λ n. n < 2 ^ 64) numbers.now) }
 {
-    let mut octets = Vec::new(alloc);
+    let mut octets = Vec::with_capacity(alloc, FIRST_ROOM)?;
     for number in numbers {
         put_number(&mut octets, *number)?;
     }

@@ -79,7 +79,8 @@ impl Log {
 
     /// How many entries there are.
     pub fn len(&self) -> usize
-        ensures { result ≡ length self.now.entries }
+        ensures count { result ≡ length self.now.entries }
+        ensures within { result ≤ MAX_ENTRIES }
     {
         self.entries.len()
     }

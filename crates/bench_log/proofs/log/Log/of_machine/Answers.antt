@@ -6,7 +6,7 @@ use Rattle.bench_log.proofs.log.Log.of_machine.Goals.{then-moves+in_ok-push, els
 
 pub loop-place-preserved : goal.loop-place-preserved
 loop-place-preserved c =
-    let within : c.loop-place.place < length c.args.self.now.entries = omega (arith, c.loop-place-test.true, c.len-place-end.ensures) in
+    let within : c.loop-place.place < length c.args.self.now.entries = omega (arith, c.loop-place-test.true, c.len-place-end.ensures.count) in
     let here : c.index.result.now ≡ get_or c.args.self.now.entries c.loop-place.place c.index.result.now = rw (← c.self.view_is) c.index.ensures in
     elim c.if-moves.branch [
       | then-moves+in_ok-push w ↦
