@@ -176,9 +176,9 @@ impl Log {
         ensures entry { IfOk result (λ entry. entry ≡ slice_get self.now.entries (length self.now.entries - 1)) }
         ensures none { self.now.entries ≡ [] → result ≡ Ok None }
     {
-        match self.entries.last() {
-            None => Ok(None),
-            Some(kept) => Ok(Some(kept.show(alloc)?)),
+        match self.len() {
+            0 => Ok(None),
+            count => self.entry(count - 1, alloc),
         }
     }
 
