@@ -1,0 +1,5 @@
+use Rattle.std.proofs.Common.{◌≡◌, take}
+use Rattle.bench_log.proofs.moved.show_deeds.Given as goal
+
+abbrev pub invariant-loop-deed : goal.invariant-loop-deed
+invariant-loop-deed l = l.plain.items ≡ take l.deed-index l.kept

@@ -1,0 +1,21 @@
+use Rattle.std.proofs.Common.{◌≡◌, ◌++◌, ◌+◌, ◌-◌, ◌<◌, ◌∷◌, ℕ, List, take, ap, ◌∙◌, arith}
+use Rattle.std.proofs.lemmas.List.{length-set}
+use Rattle.tab_law.specs.declared.limits.TheConstants.{PLACES}
+use Rattle.bench_log.specs.Coded.{decoded}
+use Rattle.bench_log.proofs.CodedLemmas.{decoded-next}
+use Rattle.bench_log.proofs.PlacesLemmas.{placed-more}
+use Rattle.bench_log.proofs.places.decode.Goals as goal
+
+pub loop-place-preserved : goal.loop-place-preserved
+loop-place-preserved c =
+    let l = c.loop-place in
+    let within : c.loop-place.place < PLACES = omega (arith, c.loop-place-test.true, c.requires) in
+    let next : decoded (c.args.count - c.loop-place.place) c.loop-place.rest.now ≡ c.first.result ∷ decoded (c.args.count - (c.loop-place.place + 1)) c.behind-rest.result.now =
+    rw (c.first.ensures, c.behind-rest.ensures) (decoded-next c.args.count c.loop-place.place c.loop-place.rest.now c.loop-place-test.true) in
+    let split = c.loop-place.invariant.split ∙ ap (λ (xs : List ℕ). take c.loop-place.place c.loop-place.places ++ xs) next in
+    let more = placed-more (decoded c.args.count c.args.octets.now) c.loop-place.places c.loop-place.place c.first.result (decoded (c.args.count - (c.loop-place.place + 1)) c.behind-rest.result.now) c.loop-place.invariant.whole within split c.loop-place.invariant.zeros in
+    record {
+      whole = length-set c.loop-place.places c.loop-place.place c.first.result ∙ c.loop-place.invariant.whole;
+      split = more.0;
+      zeros = more.1;
+    }

@@ -1,0 +1,5 @@
+pub mod Coded
+pub mod Padded
+pub mod Twins
+pub mod Moves
+pub mod Logged

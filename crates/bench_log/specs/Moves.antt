@@ -1,0 +1,18 @@
+-- Which machine an entry moves, and the entries of a machine.
+use Rattle.std.specs.Prelude.{ℕ, ◌==◌, Bool, false, List, Option, map, filter}
+use Rattle.std.specs.List.{slice_get, enumerate_from}
+use Rattle.std.specs.Option.{option_map, option_map_or}
+use Rattle.bench_item.specs.declared.entry.Entry.{Entry}
+use Rattle.bench_item.specs.Entries.{moved_in}
+
+-- the number of the machine that an entry moves: stale and busy ones move none
+abbrev pub machine_in : Entry → Option ℕ
+machine_in e = option_map (λ moved. moved.machine) (slice_get (moved_in e) 0)
+
+-- whether an entry moves that machine
+abbrev pub moves : ℕ → Entry → Bool
+moves machine e = option_map_or (λ m. m == machine) (machine_in e) false
+
+-- the places of the entries that move a machine, in order
+abbrev pub places_of : ℕ → List Entry → List ℕ
+places_of machine log = map (λ numbered. numbered.0) (filter (λ numbered. moves machine numbered.1) (enumerate_from 0 log))

@@ -1,0 +1,174 @@
+//! Entries as the log keeps them.
+ghost use Rattle.std.specs.Prelude.{◌≡◌, IfOk, Option};
+ghost use Rattle.std.specs.Option.{option_map};
+ghost use Rattle.bench_item.specs.declared.item.Item.{Item};
+ghost use Rattle.bench_log.specs.Twins.{step_of, item_of, handled_of};
+ghost use Rattle.bench_log.specs.Moves.{machine_in, moves};
+
+use crate::item::KeptItem;
+use crate::moved::KeptMoved;
+use crate::step::KeptStep;
+use bench_item::{Entry, Handled, Item, Step};
+use std::alloc::{AllocError, Global};
+use std::marker::Model;
+
+/// What became of an item that a shard handled.
+#[derive(Drop)]
+pub(crate) enum KeptHandled {
+    TooBusy,
+    Stale(u8),
+    Move(Box<KeptMoved>),
+}
+
+/// An entry in the room that the log keeps it in. A contract sees the plain entry.
+pub struct KeptEntry {
+    step: KeptStep,
+    item: Option<KeptItem>,
+    handled: Option<KeptHandled>,
+}
+
+// A derived `drop` is proved anew in each crate that holds entries; this one is a call.
+impl Drop for KeptEntry {
+    fn drop(self) {
+        let KeptEntry {
+            step,
+            item,
+            handled,
+        } = self;
+    }
+}
+
+impl Model for KeptEntry {
+    ghost use Rattle.std.specs.Option.{option_map};
+    ghost use Rattle.bench_item.specs.declared.entry.Entry.{Entry};
+
+    ghost Value = { Entry };
+
+    ghost use Rattle.bench_log.specs.Twins.{step_of, item_of, handled_of};
+
+    ghost view = { λ k. record { step = step_of k.step; item = option_map item_of k.item; handled = option_map handled_of k.handled } };
+}
+
+impl KeptHandled {
+    fn keep(alloc: Global, plain: &Handled) -> Result<KeptHandled, AllocError>
+        ensures { IfOk result (λ kept. handled_of kept ≡ plain.now) }
+    {
+        Ok(match plain {
+            Handled::TooBusy => KeptHandled::TooBusy,
+            Handled::Stale(state) => KeptHandled::Stale(*state),
+            Handled::Move(moved) => {
+                KeptHandled::Move(Box::new(alloc, KeptMoved::keep(alloc, moved)?)?)
+            }
+        })
+    }
+
+    fn show(&self, alloc: Global) -> Result<Handled, AllocError>
+        ensures { IfOk result (λ plain. plain ≡ handled_of self.now) }
+    {
+        Ok(match self {
+            KeptHandled::TooBusy => Handled::TooBusy,
+            KeptHandled::Stale(state) => Handled::Stale(*state),
+            KeptHandled::Move(moved) => Handled::Move(moved.show(alloc)?),
+        })
+    }
+}
+
+fn keep_item(alloc: Global, plain: &Option<Item>) -> Result<Option<KeptItem>, AllocError>
+    ensures { IfOk result (λ kept. option_map item_of kept ≡ plain.now) }
+{
+    match plain {
+        None => Ok(None),
+        Some(item) => Ok(Some(KeptItem::keep(alloc, item)?)),
+    }
+}
+
+fn show_item(alloc: Global, kept: &Option<KeptItem>) -> Result<Option<Item>, AllocError>
+    ensures { IfOk result (λ plain. plain ≡ option_map item_of kept.now) }
+{
+    match kept {
+        None => Ok(None),
+        Some(item) => Ok(Some(item.show(alloc)?)),
+    }
+}
+
+fn keep_handled(alloc: Global, plain: &Option<Handled>) -> Result<Option<KeptHandled>, AllocError>
+    ensures { IfOk result (λ kept. option_map handled_of kept ≡ plain.now) }
+{
+    match plain {
+        None => Ok(None),
+        Some(handled) => Ok(Some(KeptHandled::keep(alloc, handled)?)),
+    }
+}
+
+fn show_handled(alloc: Global, kept: &Option<KeptHandled>) -> Result<Option<Handled>, AllocError>
+    ensures { IfOk result (λ plain. plain ≡ option_map handled_of kept.now) }
+{
+    match kept {
+        None => Ok(None),
+        Some(handled) => Ok(Some(handled.show(alloc)?)),
+    }
+}
+
+impl KeptEntry {
+    /// Keeps an entry, for a log to put at its end later.
+    pub fn keep(alloc: Global, plain: &Entry) -> Result<KeptEntry, AllocError>
+        ensures { IfOk result (λ kept. kept ≡ plain.now) }
+    {
+        let step = KeptStep::keep(alloc, &plain.step)?;
+        let item = keep_item(alloc, &plain.item)?;
+        let handled = keep_handled(alloc, &plain.handled)?;
+        Ok(KeptEntry {
+            step,
+            item,
+            handled,
+        })
+    }
+
+    /// The plain entry.
+    pub fn show(&self, alloc: Global) -> Result<Entry, AllocError>
+        ensures { IfOk result (λ plain. plain ≡ self.now) }
+    {
+        let step = self.step.show(alloc)?;
+        let item = show_item(alloc, &self.item)?;
+        let handled = show_handled(alloc, &self.handled)?;
+        Ok(Entry {
+            step,
+            item,
+            handled,
+        })
+    }
+
+    /// The step alone.
+    pub fn step(&self, alloc: Global) -> Result<Step, AllocError>
+        ensures { IfOk result (λ step. step ≡ self.now.step) }
+    {
+        self.step.show(alloc)
+    }
+
+    /// The item alone, if there is one.
+    pub fn item(&self, alloc: Global) -> Result<Option<Item>, AllocError>
+        ensures { IfOk result (λ item. item ≡ self.now.item) }
+    {
+        show_item(alloc, &self.item)
+    }
+
+    /// The number of the machine that moved, if one did. Takes no memory.
+    pub fn machine(&self) -> Option<u64>
+        ensures { result ≡ machine_in self.now }
+    {
+        match &self.handled {
+            Some(KeptHandled::Move(moved)) => Some(moved.machine()),
+            _ => None,
+        }
+    }
+
+    /// Whether that machine moved. Takes no memory.
+    pub fn moves(&self, machine: u64) -> bool
+        ensures { result ≡ moves machine self.now }
+    {
+        match self.machine() {
+            Some(own) => own == machine,
+            None => false,
+        }
+    }
+}
