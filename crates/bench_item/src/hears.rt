@@ -67,5 +67,5 @@ pub trait Hears: Drop {
     /// Puts the octets of the message that a deed sends. A refused call leaves the octets as they were.
     fn write(&self, alloc: Global, item: &LineItem, out: &mut Vec<u8>) -> Result<(), AllocError>
         ensures ok { OnOk result (out.new.items ≡ out.old.items ++ octets_of self.now item.now) }
-        ensures err { OnErr result (out.new ≡ out.old) };
+        ensures err { OnErr result (out.new.items ≡ out.old.items) };
 }

@@ -1,0 +1,10 @@
+use Rattle.std.proofs.Common.{sym, ◌∙◌}
+use Rattle.line_message.proofs.AnswerLemmas.{session-is, session-other}
+use Rattle.line_message.proofs.own_answer.session_of.Goals as goal
+
+pub returns-in-Ok : goal.returns-in-Ok
+returns-in-Ok c =
+    session-is c.args.octets.now c.in-Ok.session.now (sym c.is_empty.ensures ∙ c.if-is_empty.false) c.if-octets-gt-MAX_SESSION.false c.in-Ok.ensures.cases.0 c.in-Ok.ensures.cases.1
+
+pub returns-in-Err : goal.returns-in-Err
+returns-in-Err c = session-other c.args.octets.now c.in-Err.ensures.cases.0

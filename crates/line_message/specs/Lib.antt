@@ -1,0 +1,6 @@
+pub mod Answers
+pub mod Greater
+pub mod Heard
+pub mod Posts
+pub mod Sent
+pub mod Turned
