@@ -1,0 +1,4 @@
+pub mod MessageLemmas
+pub mod TurnLemmas
+pub mod FeedLemmas
+pub mod RoundLemmas

@@ -1,0 +1,6 @@
+pub mod Fault
+pub mod Messages
+pub mod Talk
+pub mod Line
+pub mod Lines
+pub mod Rounds
