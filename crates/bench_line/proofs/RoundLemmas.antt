@@ -10,6 +10,7 @@ use Rattle.bench_item.specs.declared.hears.Turn.{Turn}
 use Rattle.bench_line.specs.declared.round.Round.{Round}
 use Rattle.bench_line.specs.Rounds.{IsRound, IsTurned}
 use Rattle.bench_line.specs.Talk.{Meaning, after_turn, after_turns, turns_by, does_close, posts_in, answers_in}
+use Rattle.bench_line.proofs.PastLemmas.{or-false}
 use Rattle.bench_line.proofs.TurnLemmas.{turns_by-append, turns_by-closed, after_turns-append, posts_in-append, answers_in-append}
 
 -- no message was heard yet
@@ -23,10 +24,6 @@ none_either_way false = refl
 -- one message gives one turn
 one_turn : (heard : Heard → List ℕ → Turn) (at : Heard) (x : List ℕ) → turns_by heard at (x ∷ []) ≡ heard at x ∷ []
 one_turn heard at x = ap (λ (zs : List Turn). heard at x ∷ zs) (none_either_way (heard at x).closes)
-
-or-false : (b : Bool) → (b || false) ≡ b
-or-false true = refl
-or-false false = refl
 
 -- one more message
 pub round-push : (m : Meaning) (at : Heard) (messages : List (List ℕ)) (x : List ℕ) (old new : Round) → IsRound m at messages old → old.closed ≡ false → IsTurned (m.heard old.at x) old new

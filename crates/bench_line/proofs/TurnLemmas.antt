@@ -11,6 +11,14 @@ pub after_turns-append : (at : Heard) (xs ys : List Turn) → after_turns at (xs
 after_turns-append at [] ys = refl
 after_turns-append at (x ∷ xs) ys = after_turns-append (after_turn at x) xs ys
 
+pub after_turns-line : (at : Heard) (xs : List Turn) → (after_turns at xs).line ≡ at.line
+after_turns-line at [] = refl
+after_turns-line at (x ∷ xs) = after_turns-line (after_turn at x) xs
+
+pub after_turns-opening : (at : Heard) (xs : List Turn) → (after_turns at xs).opening ≡ at.opening
+after_turns-opening at [] = refl
+after_turns-opening at (x ∷ xs) = after_turns-opening (after_turn at x) xs
+
 pub posts_in-append : (xs ys : List Turn) → posts_in (xs ++ ys) ≡ posts_in xs ++ posts_in ys
 posts_in-append xs ys = flat_map-append (λ (turn : Turn). option_to_list turn.post) xs ys
 

@@ -4,3 +4,4 @@ pub mod Talk
 pub mod Line
 pub mod Lines
 pub mod Rounds
+pub mod Before

@@ -1,5 +1,5 @@
 -- What the messages of one piece come to, before any of it is kept.
-use Rattle.std.specs.Prelude.{◌≡◌, ℕ, Bool, false, ◌||◌, List, [], ◌++◌, Option, None, is_some, option_to_list, if◌then◌else◌}
+use Rattle.std.specs.Prelude.{◌≡◌, ℕ, Bool, false, ◌||◌, List, [], ◌∷◌, ◌++◌, Option, None, is_some, option_to_list, if◌then◌else◌}
 use Rattle.std.specs.List.{list_any}
 use Rattle.dia_frame.specs.declared.fault.FrameFault.{FrameFault}
 use Rattle.dia_frame.specs.Framer.{FramerState, Shows}
@@ -10,11 +10,12 @@ use Rattle.bench_item.specs.declared.item.Item.{Item}
 use Rattle.bench_item.specs.declared.line_state.LineState.{LineState}
 use Rattle.bench_item.specs.declared.line_state.LineState.TheVariants.{Closed}
 use Rattle.bench_item.specs.declared.opening.Opening.{Opening}
+use Rattle.bench_item.specs.Lines.{LineStep, Received}
 use Rattle.bench_line.specs.declared.limit.TheConstants.{MAX_MESSAGE}
 use Rattle.bench_line.specs.declared.round.Round.{Round}
-use Rattle.bench_line.specs.Line.{LineView, found}
+use Rattle.bench_line.specs.Line.{LineView, Stands, found}
 use Rattle.bench_line.specs.Messages.{messages, fault_in}
-use Rattle.bench_line.specs.Talk.{Meaning, after_turn, after_turns, turns, turns_by, posts_in, answers_in, does_close}
+use Rattle.bench_line.specs.Talk.{Meaning, after_turn, after_turns, turns, turns_by, posts_in, answers_in, does_close, stream_of, fault_met}
 
 -- These messages were heard, from a line as the first of them found it.
 pub record IsRound (m : Meaning) (start : Heard) (messages : List (List ℕ)) (round : Round) : Type 0 where
@@ -63,3 +64,8 @@ kept framer round l = record l {
   outbox = l.outbox ++ round.posts.items;
   sent = l.sent ++ round.answers.items
 }
+
+-- Octets came on a line that was open: it stands for one step more, and this fault ended it, if one did.
+pub record Receives (m : Meaning) (line : ℕ) (opening : Opening) (happened : List LineStep) (piece : List ℕ) (l : LineView) (ended : Option FrameFault) : Type 0 where
+  pub stands : Stands m line l opening (happened ++ Received piece ∷ [])
+  pub met : ended ≡ fault_met m line opening (stream_of happened ++ piece)

@@ -12,6 +12,7 @@
 
 mod fault;
 mod limit;
+mod line;
 mod round;
 
 pub use bench_item::{Hears, Item, LineItem, LineState, MAX_LINES, MAX_WAITING, Opening};
