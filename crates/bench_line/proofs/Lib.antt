@@ -4,3 +4,6 @@ pub mod TurnLemmas
 pub mod FeedLemmas
 pub mod RoundLemmas
 pub mod ReceiveLemmas
+pub mod AliveLemmas
+pub mod DeedLemmas
+pub mod EventLemmas

@@ -51,3 +51,7 @@ messages-of_frames stream cut rest f = one_reading stream MAX_MESSAGE (messages 
 pub messages-nil : messages [] ≡ []
 unfolding messages cut_by
 messages-nil = refl
+
+pub rest_of-nil : rest_of [] ≡ []
+unfolding rest_of messages cut_by
+rest_of-nil = refl

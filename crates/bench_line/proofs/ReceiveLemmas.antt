@@ -102,7 +102,7 @@ end_is : (m : Meaning) (line : ℕ) (opening : Opening) (acknowledged : Bool) (s
 end_is m line opening acknowledged stream b at e c a = rw (c, a, e) refl
 
 -- nothing ends a line that goes on
-end_none : (m : Meaning) (line : ℕ) (opening : Opening) (acknowledged : Bool) (stream : List ℕ) → list_any does_close (turns m line opening stream) ≡ false → fault_in stream ≡ None
+pub end_none : (m : Meaning) (line : ℕ) (opening : Opening) (acknowledged : Bool) (stream : List ℕ) → list_any does_close (turns m line opening stream) ≡ false → fault_in stream ≡ None
     → end_posts m line opening acknowledged false stream ≡ []
 end_none m line opening acknowledged stream c f = rw (c, f) refl
 

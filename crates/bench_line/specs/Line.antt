@@ -1,5 +1,5 @@
 -- One line as it is kept, and what it is by what happened to it.
-use Rattle.std.specs.Prelude.{◌≡◌, ◌≤◌, ◌==◌, ℕ, false, List, [], ◌++◌, length, take, Option, Some, None, option_to_list, if◌then◌else◌}
+use Rattle.std.specs.Prelude.{◌≡◌, ◌≤◌, ◌==◌, ℕ, Bool, true, false, List, [], ◌++◌, length, take, Option, Some, None, option_to_list, if◌then◌else◌}
 use Rattle.std.specs.List.{list_any}
 use Rattle.base_codes.specs.DeedCodes.{number_of}
 use Rattle.base_codes.specs.declared.deed_code.DeedCode.TheVariants.{Close}
@@ -66,13 +66,13 @@ lost m line l = record l { state = Closed; outbox = l.outbox ++ option_to_list (
 abbrev pub state_behind : LineItem → LineState → LineState
 state_behind item state = if item.deed.code == number_of Close then Closed else state
 
+abbrev pub is_shut : LineState → Bool
+is_shut Closed = true
+is_shut state = false
+
 -- a deed is dropped there: a closed line does nothing
 abbrev pub delivered : Meaning → LineItem → LineView → LineView
-delivered m item l = by l.state
-  where
-    by : LineState → LineView
-    by Closed = l
-    by state = record l { state = state_behind item l.state; sent = l.sent ++ m.octets_of item }
+delivered m item l = if is_shut l.state then l else record l { state = state_behind item l.state; sent = l.sent ++ m.octets_of item }
 
 -- the line of a dial is closed
 abbrev pub undialled : ℕ → ℕ → LineView → LineView
