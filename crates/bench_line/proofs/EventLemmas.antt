@@ -3,6 +3,7 @@ use Rattle.std.proofs.Common.{◌≡◌, ℕ, ◌≤◌, Bool, true, false, List
 use Rattle.std.specs.Prelude.{◌||◌, option_to_list, if◌then◌else◌}
 use Rattle.std.specs.List.{list_any}
 use Rattle.std.proofs.lemmas.List.{append-nil}
+use Rattle.dia_frame.specs.Frames.{Frames}
 use Rattle.dia_frame.specs.Framer.{FramerState, Shows}
 use Rattle.bench_item.specs.declared.hears.Heard.{Heard}
 use Rattle.bench_item.specs.declared.hears.LineEvent.{LineEvent}
@@ -20,7 +21,7 @@ use Rattle.bench_line.specs.Talk.{Meaning, after_turns, at_first, turns, does_cl
 use Rattle.bench_line.proofs.MessageLemmas.{frames_are, messages-nil, rest_of-nil}
 use Rattle.bench_line.proofs.PastLemmas as past
 use Rattle.bench_line.proofs.AliveLemmas.{alive_same, alive_of, turns-nil, fault_in-nil, posts-silent, stream_of-quiet, any-quiet}
-use Rattle.bench_line.proofs.ReceiveLemmas.{open_end, end_none}
+use Rattle.bench_line.proofs.ReceiveLemmas.{alive-fault, open_end, end_none}
 
 b_or_true : (b : Bool) → (b || true) ≡ true
 b_or_true true = refl
@@ -88,12 +89,13 @@ loss_is opening happened (state.Dialling peer) e going = dialling opening happen
 loss_is opening happened state.Closed e going = absurd (going refl)
 
 -- A line that is not closed stands for its loss.
-pub loses : (m : Meaning) (line : ℕ) (l : LineView) (opening : Opening) (happened : List LineStep) → Stands m line l opening happened → fault_in (stream_of happened) ≡ None → (l.state ≡ state.Closed → ⊥)
+pub loses : (m : Meaning) (line : ℕ) (l : LineView) (opening : Opening) (happened : List LineStep) → Stands m line l opening happened → (l.state ≡ state.Closed → ⊥)
     → Stands m line (lost m line l) opening (happened ++ Gone ∷ [])
-loses m line l opening happened s f going =
+loses m line l opening happened s going =
     let after = happened ++ Gone ∷ [] in
     let rules = rules_of m line in
     let a = alive_of m line l opening happened l.state s.keeps going in
+    let f = alive-fault m line l opening happened a in
     let now = past.standing_is rules opening happened l.state s.state going in
     let ack = list_any is_acknowledgement happened in
     let stream = stream_of happened in
@@ -112,3 +114,22 @@ loses m line l opening happened s f going =
       sent = s.sent ∙ sym (append-nil (sent_of rules m.octets_of opening happened)) ∙ sym (past.sent_open-snoc rules m.octets_of opening happened Gone now.unclosed);
       keeps = tt;
     }
+
+-- A line that was just opened stands for what did not happen yet.
+pub opens : (m : Meaning) (line : ℕ) (opening : Opening) → Stands m line (new_line opening) opening []
+opens m line opening = by opening
+  where
+    alive : (x : Opening) → IsAlive m line (new_line x) x []
+    alive x =
+        let frames : Frames [] MAX_MESSAGE (messages [] ++ []) [] = subst (λ (r : List ℕ). Frames [] MAX_MESSAGE (messages [] ++ []) r) rest_of-nil (subst (λ (ms : List (List ℕ)). Frames [] MAX_MESSAGE ms (rest_of [])) (sym (append-nil (messages []))) (frames_are [])) in
+        record {
+          shows = record { left = []; same_limit = refl; frames = frames; shown = refl; rest = refl; broken = refl };
+          heard = refl;
+          greeted = sym (ap (after_turns (at_first line x)) (turns-nil m line x));
+          unclosed = ap (list_any does_close) (turns-nil m line x);
+          there = refl;
+        }
+
+    by : (x : Opening) → Stands m line (new_line x) x []
+    by Accepted = record { opened = refl; state = refl; outbox = sym (posts-silent m line Accepted false); lifted = omega arith; sent = refl; keeps = alive Accepted }
+    by (Dialled peer generation) = record { opened = refl; state = refl; outbox = sym (posts-silent m line (Dialled peer generation) false); lifted = omega arith; sent = refl; keeps = (alive (Dialled peer generation), refl, refl) }

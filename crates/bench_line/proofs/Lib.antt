@@ -7,3 +7,4 @@ pub mod ReceiveLemmas
 pub mod AliveLemmas
 pub mod DeedLemmas
 pub mod EventLemmas
+pub mod StandLemmas

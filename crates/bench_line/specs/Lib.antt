@@ -5,3 +5,4 @@ pub mod Line
 pub mod Lines
 pub mod Rounds
 pub mod Before
+pub mod Change

@@ -1,5 +1,5 @@
 -- All lines as they are kept, what happened to each, and why a call is refused.
-use Rattle.std.specs.Prelude.{◌≡◌, ◌==◌, ◌+◌, ◌-◌, ℕ, zero, suc, Bool, nat_le, List, [], ◌∷◌, ◌++◌, length, map, Option, Some, None, slice_get, slice_set, if◌then◌else◌}
+use Rattle.std.specs.Prelude.{◌≡◌, ◌<◌, ◌==◌, false, ◌+◌, ◌-◌, ℕ, zero, suc, Bool, nat_le, nat_lt, List, [], ◌∷◌, ◌++◌, length, Option, Some, None, slice_get, option_map, if◌then◌else◌}
 use Rattle.std.specs.Option.{option_and_then, option_map_or}
 use Rattle.dia_frame.specs.declared.fault.FrameFault.{FrameFault}
 use Rattle.bench_item.specs.declared.limit.TheConstants.{MAX_LINES, MAX_WAITING}
@@ -21,6 +21,31 @@ pub record LinesView (T : Type 0) : Type 0 where
 -- the line of a number
 abbrev pub line_at : List LineView → ℕ → Option LineView
 line_at lines line = if line == 0 then None else slice_get lines (line - 1)
+
+-- the lines with another one at a place; the first is at place 0
+abbrev pub with_line_at : ℕ → (LineView → LineView) → List LineView → List LineView
+with_line_at place f [] = []
+with_line_at zero f (l ∷ lines) = f l ∷ lines
+with_line_at (suc place) f (l ∷ lines) = l ∷ with_line_at place f lines
+
+-- the lines with another one under a number
+abbrev pub with_line : ℕ → (LineView → LineView) → List LineView → List LineView
+with_line line f lines = if line == 0 then lines else with_line_at (line - 1) f lines
+
+-- the oldest item that waits on a line is lifted, if one does
+abbrev pub lifted_one : LineView → LineView
+lifted_one l = if nat_lt l.lifted (length l.outbox) then record l { lifted = l.lifted + 1 } else l
+
+-- the oldest item that waits on a line
+abbrev pub next_on : List LineView → ℕ → Option Item
+next_on lines line = option_and_then (λ l. slice_get l.outbox l.lifted) (line_at lines line)
+
+-- where a line stands, and all that it has sent
+abbrev pub state_on : List LineView → ℕ → Option LineState
+state_on lines line = option_map (λ l. l.state) (line_at lines line)
+
+abbrev pub sent_on : List LineView → ℕ → List ℕ
+sent_on lines line = option_map_or (λ l. l.sent) (line_at lines line) []
 
 -- how a line was opened, and what happened to it since
 pub record Past : Type 0 where
@@ -75,39 +100,38 @@ full_of l = if is_crowded l then Some faults.Full else None
 abbrev pub opening_refusal : List LineView → Option LineFault
 opening_refusal lines = if nat_le MAX_LINES (length lines) then Some faults.Full else None
 
--- why an acknowledgement is refused
-abbrev pub dialled_refusal : List LineView → ℕ → Option LineFault
-dialled_refusal lines line = of (line_at lines line)
-  where
-    by : LineView → LineState → Option LineFault
-    by l at.Closed = Some faults.Closed
-    by l at.Open = Some faults.Nothing
-    by l (at.Dialling peer) = full_of l
+-- why a call on a line is refused: there is none of that number, or what the line says
+abbrev pub refusal_by : (LineView → Option LineFault) → Option LineView → Option LineFault
+refusal_by refused None = Some faults.Unknown
+refusal_by refused (Some l) = refused l
 
-    of : Option LineView → Option LineFault
-    of None = Some faults.Unknown
-    of (Some l) = by l l.state
+-- why an acknowledgement is refused
+abbrev pub dialled_refused : LineView → LineState → Option LineFault
+dialled_refused l at.Closed = Some faults.Closed
+dialled_refused l at.Open = Some faults.Nothing
+dialled_refused l (at.Dialling peer) = full_of l
+
+abbrev pub dialled_refusal : List LineView → ℕ → Option LineFault
+dialled_refusal lines line = refusal_by (λ l. dialled_refused l l.state) (line_at lines line)
 
 -- why a piece is refused: the octets of a line that is being dialled are no messages yet
-abbrev pub came_refusal : List LineView → ℕ → Option LineFault
-came_refusal lines line = of (line_at lines line)
-  where
-    by : LineView → LineState → Option LineFault
-    by l at.Open = full_of l
-    by l state = Some faults.Closed
+abbrev pub came_refused : LineView → LineState → Option LineFault
+came_refused l at.Open = full_of l
+came_refused l state = Some faults.Closed
 
-    of : Option LineView → Option LineFault
-    of None = Some faults.Unknown
-    of (Some l) = by l l.state
+abbrev pub came_refusal : List LineView → ℕ → Option LineFault
+came_refusal lines line = refusal_by (λ l. came_refused l l.state) (line_at lines line)
 
 -- why a loss is refused
-abbrev pub lost_refusal : List LineView → ℕ → Option LineFault
-lost_refusal lines line = of (line_at lines line)
-  where
-    by : LineView → LineState → Option LineFault
-    by l at.Closed = Some faults.Closed
-    by l state = full_of l
+abbrev pub lost_refused : LineView → LineState → Option LineFault
+lost_refused l at.Closed = Some faults.Closed
+lost_refused l state = full_of l
 
-    of : Option LineView → Option LineFault
-    of None = Some faults.Unknown
-    of (Some l) = by l l.state
+abbrev pub lost_refusal : List LineView → ℕ → Option LineFault
+lost_refusal lines line = refusal_by (λ l. lost_refused l l.state) (line_at lines line)
+
+-- The line of that number is at that place.
+pub record IsPlace (lines : List LineView) (line place : ℕ) : Type 0 where
+  pub some : (line == 0) ≡ false
+  pub is : place ≡ line - 1
+  pub within : place < length lines

@@ -10,12 +10,17 @@
 //! | `limit` | the longest message |
 #![tactic(auto)]
 
+mod change;
 mod fault;
 mod limit;
 mod line;
+mod lines;
 mod round;
 
 pub use bench_item::{Hears, Item, LineItem, LineState, MAX_LINES, MAX_WAITING, Opening};
+pub use change::Change;
 pub use dia_frame::FrameFault;
 pub use fault::LineFault;
+pub use line::Before;
 pub use limit::MAX_MESSAGE;
+pub use lines::{Came, Lines, Posted};

@@ -1,11 +1,11 @@
 //! One connection.
-ghost use Rattle.std.specs.Prelude.{◌≡◌, ◌++◌, ◌∷◌, [], List, length, IfOk, IfErr, OnOk, OnErr, Option, option_to_list};
+ghost use Rattle.std.specs.Prelude.{◌≡◌, ◌++◌, ◌∷◌, [], List, length, IfOk, IfErr, OnOk, OnErr, Option, option_to_list, option_copied, slice_get, nat_lt, ◌-◌, ◌+◌};
 
 use crate::fault::LineFault;
 use crate::limit::MAX_MESSAGE;
 use crate::round::{Round, fed};
 use base_codes::DeedCode;
-use bench_item::{Heard, Hears, Item, LineEvent, LineItem, LineState, Opening};
+use bench_item::{Heard, Hears, Item, LineEvent, LineItem, LineState, MAX_WAITING, Opening};
 use dia_frame::{FrameFault, Framer};
 use std::alloc::Global;
 use std::marker::Model;
@@ -73,6 +73,7 @@ impl Line {
     ghost use Rattle.bench_line.specs.Talk.{meaning, stream_of};
     ghost use Rattle.bench_line.specs.Rounds.{kept, IsHeard, Receives};
     ghost use Rattle.bench_line.specs.Before.{before_of, restored};
+    ghost use Rattle.bench_line.specs.Lines.{is_crowded, lifted_one};
 
     /// A connection that was just opened. Takes no memory.
     pub(crate) fn new(alloc: Global, opening: Opening) -> Line
@@ -307,5 +308,59 @@ impl Line {
         }
         self.outbox.truncate(outbox);
         self.sent.truncate(sent);
+    }
+
+    /// Where it stands.
+    pub(crate) fn state(&self) -> LineState
+        ensures { result ≡ self.now.state }
+    {
+        self.state
+    }
+
+    /// Whether as many items wait as may.
+    pub(crate) fn is_crowded(&self) -> bool
+        ensures { result ≡ is_crowded self.now }
+    {
+        self.outbox.len().saturating_sub(self.lifted) >= MAX_WAITING
+    }
+
+    /// How many items were put out since.
+    pub(crate) fn posted_since(&self, before: &Before) -> usize
+        ensures { result ≡ length self.now.outbox - before.now.outbox }
+    {
+        self.outbox.len().saturating_sub(before.outbox)
+    }
+
+    /// All that it sent.
+    pub(crate) fn sent(&self) -> &[u8]
+        ensures { result.now ≡ self.now.sent }
+    {
+        &self.sent
+    }
+
+    /// The oldest item that waits.
+    pub(crate) fn next(&self) -> Option<&Item>
+        ensures { option_copied result ≡ slice_get self.now.outbox self.now.lifted }
+    {
+        self.outbox.get(self.lifted)
+    }
+
+    /// Lifts the oldest item that waits, if one does.
+    pub(crate) fn lift(&mut self) -> bool
+        ensures lifted { self.new ≡ lifted_one self.old }
+        ensures is { result ≡ nat_lt self.old.lifted (length self.old.outbox) }
+    {
+        if self.lifted >= self.outbox.len() {
+            return false;
+        }
+        self.lifted += 1;
+        true
+    }
+
+    /// The last item that was lifted waits again.
+    pub(crate) fn unlift(&mut self)
+        ensures { self.new ≡ record self.old { lifted = self.old.lifted - 1 } }
+    {
+        self.lifted = self.lifted.saturating_sub(1);
     }
 }

@@ -1,0 +1,194 @@
+//! All connections of a node.
+ghost use Rattle.std.specs.Prelude.{◌≡◌, ◌<◌, ◌+◌, ◌++◌, ◌∷◌, [], List, length, IfOk, IfErr, OnOk, OnErr, IfSome, Option, None, Some, option_copied, unwrap_or};
+
+use crate::change::Change;
+use crate::fault::LineFault;
+use crate::line::Line;
+use bench_item::{Hears, Item, LineItem, LineState, MAX_LINES, Opening};
+use dia_frame::FrameFault;
+use std::alloc::Global;
+use std::marker::Model;
+
+/// What octets came to.
+#[derive(Drop)]
+pub struct Came {
+    /// How many items were put out.
+    pub posted: usize,
+    /// The fault that closed the connection, none where a message closed it before.
+    pub ended: Option<FrameFault>,
+    pub change: Change,
+}
+
+/// What an acknowledgement or a loss came to.
+#[derive(Drop)]
+pub struct Posted {
+    /// How many items were put out.
+    pub posted: usize,
+    pub change: Change,
+}
+
+/// All connections of a node, numbered from 1 in order of opening; a number is never used again. A contract sees the rules and, of each
+/// connection, how it was opened, where it stands, what it put out and what it sent.
+///
+/// In: `joined`, `dial`, `dialled`, `came`, `lost`, `deliver`, `undial`. Out: `next` and `lift`. Looks: `state`, `sent`. A call that is
+/// refused leaves all as it was; one that was taken can be taken back by its `Change`.
+pub struct Lines<T> {
+    alloc: Global,
+    rules: T,
+    lines: Vec<Line>,
+}
+
+impl<T: Drop> Drop for Lines<T> {
+    fn drop(self) {
+        let Lines {
+            alloc: _,
+            rules,
+            lines,
+        } = self;
+    }
+}
+
+impl<T> Model for Lines<T> {
+    ghost use Rattle.bench_line.specs.Lines.{LinesView};
+
+    ghost Value = { LinesView T };
+
+    ghost view = { λ l. record { rules = l.rules; lines = l.lines.items } };
+}
+
+impl<T: Hears> Lines<T> {
+    ghost use Rattle.bench_item.specs.Lines.{Acknowledged, Received, Gone, Delivered, Undialled};
+    ghost use Rattle.bench_item.specs.declared.opening.Opening.TheVariants as openings;
+    ghost use Rattle.bench_line.specs.Lines.{LinesView, Past, StandFor, IsPlace, line_at, opened, with_step, fault_at, put_out, opening_refusal, dialled_refusal, came_refusal, lost_refusal};
+    ghost use Rattle.bench_line.specs.Lines.{with_line, lifted_one, next_on, state_on, sent_on};
+    ghost use Rattle.bench_line.specs.Line.{LineView, new_line};
+    ghost use Rattle.bench_line.specs.Talk.{meaning};
+    ghost use Rattle.bench_line.specs.Change.{taken_back};
+    ghost use Rattle.bench_line.specs.declared.change.Change.{Change};
+
+    /// No connections. Takes no memory.
+    pub fn new(alloc: Global, rules: T) -> Lines<T>
+        ensures value { result ≡ record { rules = rules; lines = [] } }
+        ensures stands { StandFor (meaning T.heard T.turned T.octets_of rules) result.lines [] }
+    {
+        Lines {
+            alloc,
+            rules,
+            lines: Vec::new(alloc),
+        }
+    }
+
+    // Opens a connection, and answers its number.
+    fn add(&mut self, opening: Opening) -> Result<u64, LineFault>
+        ensures free { OnOk result (opening_refusal self.old.lines ≡ None) }
+        ensures number { IfOk result (λ line. line ≡ length self.old.lines + 1) }
+        ensures ok { OnOk result (self.new ≡ record self.old { lines = self.old.lines ++ new_line opening ∷ [] }) }
+        ensures fault { IfErr result (λ f. f ≡ unwrap_or (opening_refusal self.old.lines) LineFault.NoMemory) }
+        ensures err { OnErr result (self.new ≡ self.old) }
+    {
+        if self.lines.len() >= MAX_LINES {
+            return Err(LineFault::Full);
+        }
+        let line = Line::new(self.alloc, opening);
+        self.lines.push(line)?;
+        Ok(self.lines.len() as u64)
+    }
+
+    /// The peer's side opened a connection. Answers its number. It is taken back by `Change::Opened`.
+    pub fn joined(&mut self) -> Result<u64, LineFault>
+        ensures free { OnOk result (opening_refusal self.old.lines ≡ None) }
+        ensures number { IfOk result (λ line. line ≡ length self.old.lines + 1) }
+        ensures stands { OnOk result ((pasts : List Past) → StandFor (meaning T.heard T.turned T.octets_of self.old.rules) self.old.lines pasts
+            → StandFor (meaning T.heard T.turned T.octets_of self.old.rules) self.new.lines (opened openings.Accepted pasts)) }
+        ensures undone { OnOk result (taken_back Change.Opened self.new.lines ≡ self.old.lines) }
+        ensures rules { self.new.rules ≡ self.old.rules }
+        ensures fault { IfErr result (λ f. f ≡ unwrap_or (opening_refusal self.old.lines) LineFault.NoMemory) }
+        ensures err { OnErr result (self.new ≡ self.old) }
+    {
+        self.add(Opening::Accepted)
+    }
+
+    /// A dial opens a connection to the peer whose machine has that number. Answers its number. It is taken back by `Change::Opened`.
+    pub fn dial(&mut self, peer: u64, generation: u64) -> Result<u64, LineFault>
+        ensures free { OnOk result (opening_refusal self.old.lines ≡ None) }
+        ensures number { IfOk result (λ line. line ≡ length self.old.lines + 1) }
+        ensures stands { OnOk result ((pasts : List Past) → StandFor (meaning T.heard T.turned T.octets_of self.old.rules) self.old.lines pasts
+            → StandFor (meaning T.heard T.turned T.octets_of self.old.rules) self.new.lines (opened (openings.Dialled peer generation) pasts)) }
+        ensures undone { OnOk result (taken_back Change.Opened self.new.lines ≡ self.old.lines) }
+        ensures rules { self.new.rules ≡ self.old.rules }
+        ensures fault { IfErr result (λ f. f ≡ unwrap_or (opening_refusal self.old.lines) LineFault.NoMemory) }
+        ensures err { OnErr result (self.new ≡ self.old) }
+    {
+        self.add(Opening::Dialled { peer, generation })
+    }
+
+    // The place of the connection of that number.
+    fn find(&self, line: u64) -> Result<usize, LineFault>
+        ensures ok { IfOk result (IsPlace self.now.lines line) }
+        ensures unknown { IfErr result (λ f. f ≡ LineFault.Unknown) }
+        ensures err { OnErr result (line_at self.now.lines line ≡ None) }
+    {
+        if line == 0 || (line - 1) as usize >= self.lines.len() {
+            return Err(LineFault::Unknown);
+        }
+        Ok((line - 1) as usize)
+    }
+
+    // The place of a connection whose dial may be acknowledged.
+    fn find_dialling(&self, line: u64) -> Result<usize, LineFault>
+        ensures ok { IfOk result (IsPlace self.now.lines line) }
+        ensures free { OnOk result (dialled_refusal self.now.lines line ≡ None) }
+        ensures err { IfErr result (λ f. dialled_refusal self.now.lines line ≡ Some f) }
+    {
+        let place = self.find(line)?;
+        let at = &self.lines[place];
+        match at.state() {
+            LineState::Closed => Err(LineFault::Closed),
+            LineState::Open => Err(LineFault::Nothing),
+            LineState::Dialling { .. } => {
+                if at.is_crowded() {
+                    return Err(LineFault::Full);
+                }
+                Ok(place)
+            }
+        }
+    }
+
+    // The place of a connection on which octets may come.
+    fn find_open(&self, line: u64) -> Result<usize, LineFault>
+        ensures ok { IfOk result (IsPlace self.now.lines line) }
+        ensures free { OnOk result (came_refusal self.now.lines line ≡ None) }
+        ensures err { IfErr result (λ f. came_refusal self.now.lines line ≡ Some f) }
+    {
+        let place = self.find(line)?;
+        let at = &self.lines[place];
+        match at.state() {
+            LineState::Closed | LineState::Dialling { .. } => Err(LineFault::Closed),
+            LineState::Open => {
+                if at.is_crowded() {
+                    return Err(LineFault::Full);
+                }
+                Ok(place)
+            }
+        }
+    }
+
+    // The place of a connection that may be lost.
+    fn find_going(&self, line: u64) -> Result<usize, LineFault>
+        ensures ok { IfOk result (IsPlace self.now.lines line) }
+        ensures free { OnOk result (lost_refusal self.now.lines line ≡ None) }
+        ensures err { IfErr result (λ f. lost_refusal self.now.lines line ≡ Some f) }
+    {
+        let place = self.find(line)?;
+        let at = &self.lines[place];
+        match at.state() {
+            LineState::Closed => Err(LineFault::Closed),
+            LineState::Open | LineState::Dialling { .. } => {
+                if at.is_crowded() {
+                    return Err(LineFault::Full);
+                }
+                Ok(place)
+            }
+        }
+    }
+}
