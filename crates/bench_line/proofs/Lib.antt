@@ -8,3 +8,5 @@ pub mod AliveLemmas
 pub mod DeedLemmas
 pub mod EventLemmas
 pub mod StandLemmas
+pub mod ChangeLemmas
+pub mod CallLemmas

@@ -191,4 +191,70 @@ impl<T: Hears> Lines<T> {
             }
         }
     }
+
+    /// The dial of a connection was acknowledged.
+    pub fn dialled(&mut self, line: u64) -> Result<Posted, LineFault>
+        ensures free { OnOk result (dialled_refusal self.old.lines line ≡ None) }
+        ensures stands { OnOk result ((pasts : List Past) → StandFor (meaning T.heard T.turned T.octets_of self.old.rules) self.old.lines pasts
+            → StandFor (meaning T.heard T.turned T.octets_of self.old.rules) self.new.lines (with_step line Acknowledged pasts)) }
+        ensures posted { IfOk result (λ r. put_out self.new.lines line ≡ put_out self.old.lines line + r.posted) }
+        ensures undone { IfOk result (λ r. taken_back r.change self.new.lines ≡ self.old.lines) }
+        ensures rules { self.new.rules ≡ self.old.rules }
+        ensures fault { IfErr result (λ f. f ≡ unwrap_or (dialled_refusal self.old.lines line) LineFault.NoMemory) }
+        ensures err { OnErr result (self.new ≡ self.old) }
+    {
+        let place = self.find_dialling(line)?;
+        let at = &mut self.lines[place];
+        let before = at.before();
+        at.acknowledge(self.alloc, &self.rules, line)?;
+        let posted = at.posted_since(&before);
+        let change = Change::Changed { line, before };
+        Ok(Posted { posted, change })
+    }
+
+    /// Octets came on a connection. Those that complete a message, or show a fault, are heard; the fault closes it.
+    pub fn came(&mut self, line: u64, piece: &[u8]) -> Result<Came, LineFault>
+        ensures free { OnOk result (came_refusal self.old.lines line ≡ None) }
+        ensures stands { OnOk result ((pasts : List Past) → StandFor (meaning T.heard T.turned T.octets_of self.old.rules) self.old.lines pasts
+            → StandFor (meaning T.heard T.turned T.octets_of self.old.rules) self.new.lines (with_step line (Received piece.now) pasts)) }
+        // The fault of the stream, unless a message closed the connection before it.
+        ensures ended { IfOk result (λ r. (pasts : List Past) → StandFor (meaning T.heard T.turned T.octets_of self.old.rules) self.old.lines pasts
+            → r.ended ≡ fault_at (meaning T.heard T.turned T.octets_of self.old.rules) line piece.now pasts) }
+        ensures posted { IfOk result (λ r. put_out self.new.lines line ≡ put_out self.old.lines line + r.posted) }
+        ensures undone { IfOk result (λ r. taken_back r.change self.new.lines ≡ self.old.lines) }
+        ensures rules { self.new.rules ≡ self.old.rules }
+        ensures fault { IfErr result (λ f. f ≡ unwrap_or (came_refusal self.old.lines line) LineFault.NoMemory) }
+        ensures err { OnErr result (self.new ≡ self.old) }
+    {
+        let place = self.find_open(line)?;
+        let at = &mut self.lines[place];
+        let (ended, before) = at.receive(self.alloc, &self.rules, line, piece)?;
+        let posted = at.posted_since(&before);
+        let change = Change::Changed { line, before };
+        Ok(Came {
+            posted,
+            ended,
+            change,
+        })
+    }
+
+    /// A connection was lost, or its dial refused.
+    pub fn lost(&mut self, line: u64) -> Result<Posted, LineFault>
+        ensures free { OnOk result (lost_refusal self.old.lines line ≡ None) }
+        ensures stands { OnOk result ((pasts : List Past) → StandFor (meaning T.heard T.turned T.octets_of self.old.rules) self.old.lines pasts
+            → StandFor (meaning T.heard T.turned T.octets_of self.old.rules) self.new.lines (with_step line Gone pasts)) }
+        ensures posted { IfOk result (λ r. put_out self.new.lines line ≡ put_out self.old.lines line + r.posted) }
+        ensures undone { IfOk result (λ r. taken_back r.change self.new.lines ≡ self.old.lines) }
+        ensures rules { self.new.rules ≡ self.old.rules }
+        ensures fault { IfErr result (λ f. f ≡ unwrap_or (lost_refusal self.old.lines line) LineFault.NoMemory) }
+        ensures err { OnErr result (self.new ≡ self.old) }
+    {
+        let place = self.find_going(line)?;
+        let at = &mut self.lines[place];
+        let before = at.before();
+        at.lose(self.alloc, &self.rules, line)?;
+        let posted = at.posted_since(&before);
+        let change = Change::Changed { line, before };
+        Ok(Posted { posted, change })
+    }
 }
