@@ -104,6 +104,10 @@ fault_at-place m line place piece pasts past z p e =
     let here : fault_at m line piece pasts ≡ option_and_then (λ (x : Past). fault_met m line x.opening (stream_of x.happened ++ piece)) (slice_get pasts place) = rw (z, p) refl in
     here ∙ ap (option_and_then (λ (x : Past). fault_met m line x.opening (stream_of x.happened ++ piece))) e
 
+met_at : (m : Meaning) (line place : ℕ) (piece : List ℕ) (new : LineView) (ended : Option FrameFault) (pasts : List Past) (past : Past) → (line == 0) ≡ false → place ≡ line - 1 → slice_get pasts place ≡ Some past
+    → Receives m line past.opening past.happened piece new ended → ended ≡ fault_at m line piece pasts
+met_at m line place piece new ended pasts past z p e r = r.met ∙ sym (fault_at-place m line place piece pasts past z p e)
+
 -- A line that is open stands for what comes.
 abbrev pub ReceivesOn : Meaning → ℕ → List ℕ → LineView → LineView → Option FrameFault → Type 0
 ReceivesOn m line piece l new ended = (opening : Opening) (happened : List LineStep) → Stands m line l opening happened → l.state ≡ state.Open → Receives m line opening happened piece new ended
@@ -122,4 +126,4 @@ came-ended m ls line place piece l new ended p r e h pasts s =
     let going = came_by l l.state (by_line (λ x. came_refused x x.state) ls line place l p is r) in
     let number : line ≡ 1 + place = grind (arith, nat_tests, p.some, p.is) in
     let at = past_from m 1 place line ls pasts l number s.each is in
-    (h at.past.opening at.past.happened at.stands going).met ∙ sym (fault_at-place m line place piece pasts at.past p.some p.is at.there)
+    met_at m line place piece new ended pasts at.past p.some p.is at.there (h at.past.opening at.past.happened at.stands going)

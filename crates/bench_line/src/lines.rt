@@ -257,4 +257,73 @@ impl<T: Hears> Lines<T> {
         let change = Change::Changed { line, before };
         Ok(Posted { posted, change })
     }
+
+    /// A deed is dropped to a connection: one that sends a message, or a Close. Where the connection is closed or unknown nothing is done.
+    pub fn deliver(&mut self, item: &LineItem) -> Result<Change, LineFault>
+        ensures stands { OnOk result ((pasts : List Past) → StandFor (meaning T.heard T.turned T.octets_of self.old.rules) self.old.lines pasts
+            → StandFor (meaning T.heard T.turned T.octets_of self.old.rules) self.new.lines (with_step item.now.line (Delivered item.now) pasts)) }
+        ensures undone { IfOk result (λ change. taken_back change self.new.lines ≡ self.old.lines) }
+        ensures rules { self.new.rules ≡ self.old.rules }
+        ensures fault { IfErr result (λ f. f ≡ LineFault.NoMemory) }
+        ensures err { OnErr result (self.new ≡ self.old) }
+    {
+        let Ok(place) = self.find(item.line) else {
+            return Ok(Change::Nothing);
+        };
+        let at = &mut self.lines[place];
+        let before = at.before();
+        at.deliver(self.alloc, &self.rules, item)?;
+        let line = item.line;
+        Ok(Change::Changed { line, before })
+    }
+
+    /// The oldest item that waits on a connection, if one does. Takes no memory.
+    pub fn next(&self, line: u64) -> Option<&Item>
+        ensures { option_copied result ≡ next_on self.now.lines line }
+    {
+        let Ok(place) = self.find(line) else {
+            return None;
+        };
+        let at = &self.lines[place];
+        at.next()
+    }
+
+    /// Lifts the oldest item that waits on a connection, if one does. It stays readable. Takes no memory.
+    pub fn lift(&mut self, line: u64) -> Change
+        ensures lifted { self.new ≡ record self.old { lines = with_line line lifted_one self.old.lines } }
+        ensures stands { (pasts : List Past) → StandFor (meaning T.heard T.turned T.octets_of self.old.rules) self.old.lines pasts
+            → StandFor (meaning T.heard T.turned T.octets_of self.old.rules) self.new.lines pasts }
+        ensures undone { taken_back result self.new.lines ≡ self.old.lines }
+    {
+        let Ok(place) = self.find(line) else {
+            return Change::Nothing;
+        };
+        let at = &mut self.lines[place];
+        if at.lift() {
+            return Change::Lifted { line };
+        }
+        Change::Nothing
+    }
+
+    /// Where a connection stands, if there is one of that number. Takes no memory.
+    pub fn state(&self, line: u64) -> Option<LineState>
+        ensures { result ≡ state_on self.now.lines line }
+    {
+        let Ok(place) = self.find(line) else {
+            return None;
+        };
+        let at = &self.lines[place];
+        Some(at.state())
+    }
+
+    /// All that a connection sent, nothing where there is none of that number. Takes no memory.
+    pub fn sent(&self, line: u64) -> &[u8]
+        ensures { result.now ≡ sent_on self.now.lines line }
+    {
+        let Ok(place) = self.find(line) else {
+            return &[];
+        };
+        let at = &self.lines[place];
+        at.sent()
+    }
 }
