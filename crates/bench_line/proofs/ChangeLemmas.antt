@@ -36,8 +36,8 @@ changed ls line place l new p e = record {
   was = line_at-place ls line place p.some p.is ∙ e;
   is = line_at-place (set ls place new) line place p.some p.is ∙ get-set ls place l new e;
   back = λ f r.
-    let one : with_line line f (set ls place new) ≡ with_line_at place f (set ls place new) = rw (p.some, p.is) refl in
-    one ∙ with-set ls place l new f e r;
+      let one : with_line line f (set ls place new) ≡ with_line_at place f (set ls place new) = rw (p.some, p.is) refl in
+      one ∙ with-set ls place l new f e r;
 }
 
 -- What is behind a line's first items and octets is taken back.

@@ -38,8 +38,8 @@ quiet_going m line l opening happened step s q going b e =
     record {
       opened = s.opened;
       state = ap (λ (x : LineState). if b then state.Closed else x) (sym now.stands ∙ sym (past.standing-snoc opening happened step q.no_acknowledgement))
-        ∙ ap (λ (c : Bool). if c then state.Closed else standing opening (happened ++ step ∷ [])) (sym e)
-        ∙ sym (past.state_behind rules opening happened step now.unclosed);
+          ∙ ap (λ (c : Bool). if c then state.Closed else standing opening (happened ++ step ∷ [])) (sym e)
+          ∙ sym (past.state_behind rules opening happened step now.unclosed);
       outbox = s.outbox ∙ sym (posts_of-quiet m line opening happened step q);
       lifted = s.lifted;
       sent = ap (λ (xs : List ℕ). xs ++ sent_open rules m.octets_of opening happened step) s.sent ∙ sym (past.sent_open-snoc rules m.octets_of opening happened step now.unclosed);

@@ -27,7 +27,6 @@ b_or_true : (b : Bool) → (b || true) ≡ true
 b_or_true true = refl
 b_or_true false = refl
 
-
 dialling : (opening : Opening) (happened : List LineStep) (peer : ℕ) → standing opening happened ≡ state.Dialling peer → end_event opening (list_any is_acknowledgement happened) ≡ event.Refused
 dialling Accepted happened peer e = absurd cc
 dialling (Dialled p generation) happened peer e = by (list_any is_acknowledgement happened) e
@@ -57,11 +56,11 @@ acknowledges m line l opening happened peer s d =
     let gone : list_any is_loss after ≡ list_any is_loss happened = any-quiet is_loss happened Acknowledged refl in
     let at : found line l ≡ first = a.greeted ∙ ap (λ (x : List ℕ). after_turns first (turns m line opening x)) k.1 ∙ ap (after_turns first) (turns-nil m line opening) in
     let before : posts_of m line opening happened ≡ [] =
-          ap (λ (b : Bool). posts_by m line opening b (list_any is_loss happened) (stream_of happened)) k.2
-          ∙ ap (λ (b : Bool). posts_by m line opening false b (stream_of happened)) a.there ∙ ap (posts_by m line opening false false) k.1 ∙ posts-silent m line opening false in
+    ap (λ (b : Bool). posts_by m line opening b (list_any is_loss happened) (stream_of happened)) k.2
+    ∙ ap (λ (b : Bool). posts_by m line opening false b (stream_of happened)) a.there ∙ ap (posts_by m line opening false false) k.1 ∙ posts-silent m line opening false in
     let behind : posts_of m line opening after ≡ option_to_list (m.turned first event.Acknowledged) =
-          ap (λ (b : Bool). posts_by m line opening b (list_any is_loss after) (stream_of after)) (past.list_any-snoc is_acknowledgement happened Acknowledged ∙ b_or_true (list_any is_acknowledgement happened))
-          ∙ ap (λ (b : Bool). posts_by m line opening true b (stream_of after)) (gone ∙ a.there) ∙ ap (posts_by m line opening true false) silent ∙ posts-silent m line opening true in
+    ap (λ (b : Bool). posts_by m line opening b (list_any is_loss after) (stream_of after)) (past.list_any-snoc is_acknowledgement happened Acknowledged ∙ b_or_true (list_any is_acknowledgement happened))
+    ∙ ap (λ (b : Bool). posts_by m line opening true b (stream_of after)) (gone ∙ a.there) ∙ ap (posts_by m line opening true false) silent ∙ posts-silent m line opening true in
     record {
       opened = s.opened;
       state = sym (past.state_behind rules opening happened Acknowledged now.unclosed ∙ standing-acknowledged opening happened);
@@ -101,11 +100,11 @@ loses m line l opening happened s going =
     let stream = stream_of happened in
     let new = option_to_list (m.turned (found line l) (loss_of l.state)) in
     let posts : posts_of m line opening after ≡ posts_of m line opening happened ++ new =
-          ap (λ (b : Bool). posts_by m line opening b (list_any is_loss after) (stream_of after)) (any-quiet is_acknowledgement happened Gone refl)
-          ∙ ap (λ (b : Bool). posts_by m line opening ack b (stream_of after)) (past.list_any-snoc is_loss happened Gone ∙ b_or_true (list_any is_loss happened))
-          ∙ ap (posts_by m line opening ack true) (stream_of-quiet happened Gone refl)
-          ∙ lost_posts m line opening ack stream (found line l) (loss_of l.state) a.unclosed f (sym a.greeted) (loss_is opening happened l.state now.stands going)
-          ∙ ap (λ (b : Bool). posts_by m line opening ack b stream ++ new) (sym a.there) in
+    ap (λ (b : Bool). posts_by m line opening b (list_any is_loss after) (stream_of after)) (any-quiet is_acknowledgement happened Gone refl)
+    ∙ ap (λ (b : Bool). posts_by m line opening ack b (stream_of after)) (past.list_any-snoc is_loss happened Gone ∙ b_or_true (list_any is_loss happened))
+    ∙ ap (posts_by m line opening ack true) (stream_of-quiet happened Gone refl)
+    ∙ lost_posts m line opening ack stream (found line l) (loss_of l.state) a.unclosed f (sym a.greeted) (loss_is opening happened l.state now.stands going)
+    ∙ ap (λ (b : Bool). posts_by m line opening ack b stream ++ new) (sym a.there) in
     record {
       opened = s.opened;
       state = sym (past.state_behind rules opening happened Gone now.unclosed);

@@ -10,3 +10,4 @@ pub mod EventLemmas
 pub mod StandLemmas
 pub mod ChangeLemmas
 pub mod CallLemmas
+pub mod LiftLemmas

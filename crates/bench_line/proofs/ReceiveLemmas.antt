@@ -63,27 +63,27 @@ heard m line l opening happened piece fed after fault first last ended a s r f e
     record {
       new = new;
       turned =
-        ap (turns_by m.heard (at_first line opening)) p.cut
-        ∙ turns_by-append m.heard (at_first line opening) (messages stream) fed.waiting a.unclosed
-        ∙ ap (λ (at : Heard). before ++ turns_by m.heard at fed.waiting) (sym a.greeted);
+          ap (turns_by m.heard (at_first line opening)) p.cut
+          ∙ turns_by-append m.heard (at_first line opening) (messages stream) fed.waiting a.unclosed
+          ∙ ap (λ (at : Heard). before ++ turns_by m.heard at fed.waiting) (sym a.greeted);
       at = e.at ∙ r.at;
       posts = e.posts ∙ ap (λ (xs : List Item). xs ++ fault_posts m first.closed first.at fault) r.posts
-        ∙ ap (λ (b : Bool). posts_in new ++ fault_posts m b first.at fault) r.closed
-        ∙ ap (λ (at : Heard). posts_in new ++ fault_posts m (list_any does_close new) at fault) r.at
-        ∙ ap (λ (x : Option FrameFault). posts_in new ++ fault_posts m (list_any does_close new) (after_turns (found line l) new) x) (sym p.met);
+          ∙ ap (λ (b : Bool). posts_in new ++ fault_posts m b first.at fault) r.closed
+          ∙ ap (λ (at : Heard). posts_in new ++ fault_posts m (list_any does_close new) at fault) r.at
+          ∙ ap (λ (x : Option FrameFault). posts_in new ++ fault_posts m (list_any does_close new) (after_turns (found line l) new) x) (sym p.met);
       answers = e.answers ∙ r.answers;
       closed = e.closed ∙ ap (λ (b : Bool). b || is_some fault) r.closed ∙ ap (λ (x : Option FrameFault). list_any does_close new || is_some x) (sym p.met);
       met = e.met ∙ ap (λ (b : Bool). if b then None else fault) r.closed ∙ ap (λ (x : Option FrameFault). if list_any does_close new then None else x) (sym p.met);
       shows = λ going.
-        let n = none_of first.closed fault last.closed e.closed going in
-        let k = f n.0 in
-        let z = messages (stream ++ piece) in
-        let frames : Frames (stream ++ piece) MAX_MESSAGE (z ++ []) s.left = subst (λ (ms : List (List ℕ)). Frames (stream ++ piece) MAX_MESSAGE ms s.left) (sym p.cut ∙ sym (append-nil z)) s.frames in
-        let shows : Shows (record fed { waiting = [] }) MAX_MESSAGE z (stream ++ piece) fault = record { left = s.left; same_limit = s.same_limit; frames = frames; shown = s.shown; rest = s.rest; broken = s.broken } in
-        subst (λ (x : Option FrameFault). Shows after MAX_MESSAGE z (stream ++ piece) x) n.1 (subst (λ (x : FramerState). Shows x MAX_MESSAGE z (stream ++ piece) fault) (sym k) shows);
+          let n = none_of first.closed fault last.closed e.closed going in
+          let k = f n.0 in
+          let z = messages (stream ++ piece) in
+          let frames : Frames (stream ++ piece) MAX_MESSAGE (z ++ []) s.left = subst (λ (ms : List (List ℕ)). Frames (stream ++ piece) MAX_MESSAGE ms s.left) (sym p.cut ∙ sym (append-nil z)) s.frames in
+          let shows : Shows (record fed { waiting = [] }) MAX_MESSAGE z (stream ++ piece) fault = record { left = s.left; same_limit = s.same_limit; frames = frames; shown = s.shown; rest = s.rest; broken = s.broken } in
+          subst (λ (x : Option FrameFault). Shows after MAX_MESSAGE z (stream ++ piece) x) n.1 (subst (λ (x : FramerState). Shows x MAX_MESSAGE z (stream ++ piece) fault) (sym k) shows);
       heard = λ going.
-        let n = none_of first.closed fault last.closed e.closed going in
-        ap (λ (x : FramerState). x.waiting) (f n.0);
+          let n = none_of first.closed fault last.closed e.closed going in
+          ap (λ (x : FramerState). x.waiting) (f n.0);
     }
 
 -- the end of a line that was acknowledged or accepted
@@ -112,21 +112,21 @@ more_posts : (m : Meaning) (line : ℕ) (opening : Opening) (acknowledged : Bool
     → at ≡ after_turns (at_first line opening) (turns m line opening stream)
     → turns m line opening (stream ++ piece) ≡ turns m line opening stream ++ new
     → posts_by m line opening acknowledged false (stream ++ piece)
-      ≡ posts_by m line opening acknowledged false stream ++ (posts_in new ++ fault_posts m (list_any does_close new) (after_turns at new) (fault_in (stream ++ piece)))
+    ≡ posts_by m line opening acknowledged false stream ++ (posts_in new ++ fault_posts m (list_any does_close new) (after_turns at new) (fault_in (stream ++ piece)))
 unfolding posts_by
 more_posts m line opening acknowledged stream piece new at e c f a t =
     let old = turns m line opening stream in
     let dial = dial_posts m line opening acknowledged in
     let closing : list_any does_close (turns m line opening (stream ++ piece)) ≡ list_any does_close new =
-          ap (list_any does_close) t ∙ list_any-append does_close old new ∙ ap (λ (b : Bool). b || list_any does_close new) c in
+    ap (list_any does_close) t ∙ list_any-append does_close old new ∙ ap (λ (b : Bool). b || list_any does_close new) c in
     let behind : after_turns (at_first line opening) (turns m line opening (stream ++ piece)) ≡ after_turns at new =
-          ap (after_turns (at_first line opening)) t ∙ after_turns-append (at_first line opening) old new ∙ ap (λ (h : Heard). after_turns h new) (sym a) in
+    ap (after_turns (at_first line opening)) t ∙ after_turns-append (at_first line opening) old new ∙ ap (λ (h : Heard). after_turns h new) (sym a) in
     let last = fault_posts m (list_any does_close new) (after_turns at new) (fault_in (stream ++ piece)) in
     let left : posts_by m line opening acknowledged false (stream ++ piece) ≡ dial ++ (posts_in old ++ posts_in new) ++ last =
-          ap (λ (xs : List Item). dial ++ posts_in (turns m line opening (stream ++ piece)) ++ xs) (end_is m line opening acknowledged (stream ++ piece) (list_any does_close new) (after_turns at new) e closing behind)
-          ∙ ap (λ (ts : List Turn). dial ++ posts_in ts ++ last) t ∙ ap (λ (xs : List Item). dial ++ xs ++ last) (posts_in-append old new) in
+    ap (λ (xs : List Item). dial ++ posts_in (turns m line opening (stream ++ piece)) ++ xs) (end_is m line opening acknowledged (stream ++ piece) (list_any does_close new) (after_turns at new) e closing behind)
+    ∙ ap (λ (ts : List Turn). dial ++ posts_in ts ++ last) t ∙ ap (λ (xs : List Item). dial ++ xs ++ last) (posts_in-append old new) in
     let right : posts_by m line opening acknowledged false stream ≡ dial ++ posts_in old =
-          ap (λ (xs : List Item). dial ++ posts_in old ++ xs) (end_none m line opening acknowledged stream c f) ∙ append-nil (dial ++ posts_in old) in
+    ap (λ (xs : List Item). dial ++ posts_in old ++ xs) (end_none m line opening acknowledged stream c f) ∙ append-nil (dial ++ posts_in old) in
     left
     ∙ ap (λ (xs : List Item). xs ++ last) (sym (append_assoc dial (posts_in old) (posts_in new)))
     ∙ append_assoc (dial ++ posts_in old) (posts_in new) last
@@ -170,7 +170,7 @@ alive_on m line l opening happened piece framer round ended a o h going =
     let n = none_of (list_any does_close h.new) (fault_in (stream ++ piece)) round.closed h.closed going in
     let first = at_first line opening in
     let at : round.at ≡ after_turns first (turns m line opening (stream ++ piece)) =
-          h.at ∙ ap (λ (x : Heard). after_turns x h.new) a.greeted ∙ sym (after_turns-append first (turns m line opening stream) h.new) ∙ ap (after_turns first) (sym h.turned) in
+    h.at ∙ ap (λ (x : Heard). after_turns x h.new) a.greeted ∙ sym (after_turns-append first (turns m line opening stream) h.new) ∙ ap (after_turns first) (sym h.turned) in
     record {
       shows = subst (λ (x : List ℕ). Shows framer MAX_MESSAGE (messages x) x None) (sym s) (h.shows going);
       heard = h.heard going;
@@ -195,22 +195,22 @@ received m line l opening happened piece framer round ended s going a h =
     let ack = list_any is_acknowledgement happened in
     let cut : is_cut m line opening (stream ++ piece) ≡ round.closed = cut_is m line opening stream piece h.new a.unclosed h.turned ∙ sym h.closed in
     let posts : posts_of m line opening (happened ++ step ∷ []) ≡ posts_of m line opening happened ++ round.posts.items =
-          ap (λ (b : Bool). posts_by m line opening b (list_any is_loss (happened ++ step ∷ [])) (stream_of (happened ++ step ∷ []))) acked
-          ∙ ap (λ (b : Bool). posts_by m line opening ack b (stream_of (happened ++ step ∷ []))) gone
-          ∙ ap (posts_by m line opening ack false) joined
-          ∙ more_posts m line opening ack stream piece h.new (found line l) (open_end opening happened stands) a.unclosed (alive-fault m line l opening happened a) a.greeted h.turned
-          ∙ ap (λ (xs : List Item). posts_by m line opening ack false stream ++ xs) (sym h.posts)
-          ∙ ap (λ (b : Bool). posts_by m line opening ack b stream ++ round.posts.items) (sym a.there) in
+    ap (λ (b : Bool). posts_by m line opening b (list_any is_loss (happened ++ step ∷ [])) (stream_of (happened ++ step ∷ []))) acked
+    ∙ ap (λ (b : Bool). posts_by m line opening ack b (stream_of (happened ++ step ∷ []))) gone
+    ∙ ap (posts_by m line opening ack false) joined
+    ∙ more_posts m line opening ack stream piece h.new (found line l) (open_end opening happened stands) a.unclosed (alive-fault m line l opening happened a) a.greeted h.turned
+    ∙ ap (λ (xs : List Item). posts_by m line opening ack false stream ++ xs) (sym h.posts)
+    ∙ ap (λ (b : Bool). posts_by m line opening ack b stream ++ round.posts.items) (sym a.there) in
     record {
       stands = record {
         opened = s.opened;
         state = ap (λ (x : LineState). if round.closed then state.Closed else x) (going ∙ sym stands) ∙ ap (λ (b : Bool). if b then state.Closed else standing opening happened) (sym cut)
-          ∙ ap (λ (x : LineState). if is_cut m line opening (stream ++ piece) then state.Closed else x) (sym (standing-snoc opening happened step refl))
-          ∙ sym (state_behind rules opening happened step standing_now.unclosed);
+            ∙ ap (λ (x : LineState). if is_cut m line opening (stream ++ piece) then state.Closed else x) (sym (standing-snoc opening happened step refl))
+            ∙ sym (state_behind rules opening happened step standing_now.unclosed);
         outbox = ap (λ (xs : List Item). xs ++ round.posts.items) s.outbox ∙ sym posts;
         lifted = omega (arith, s.lifted, length-append l.outbox round.posts.items);
         sent = ap (λ (xs : List ℕ). xs ++ round.answers.items) s.sent ∙ ap (λ (xs : List ℕ). sent_of rules m.octets_of opening happened ++ xs) (h.answers ∙ sym (more_answers m line opening stream piece h.new h.turned))
-          ∙ sym (sent_open-snoc rules m.octets_of opening happened step standing_now.unclosed);
+            ∙ sym (sent_open-snoc rules m.octets_of opening happened step standing_now.unclosed);
         keeps = by round.closed refl;
       };
       met = h.met ∙ sym (met_is m line opening stream piece h.new a.unclosed h.turned);

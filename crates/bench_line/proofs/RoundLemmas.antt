@@ -33,9 +33,9 @@ round-push m at messages x old new r unclosed t =
     let one = m.heard old.at x in
     let none : list_any does_close done ≡ false = sym r.closed ∙ unclosed in
     let e : turns_by m.heard at (messages ++ x ∷ []) ≡ done ++ one ∷ [] =
-          turns_by-append m.heard at messages (x ∷ []) none
-          ∙ ap (λ (a : Heard). done ++ turns_by m.heard a (x ∷ [])) (sym r.at)
-          ∙ ap (λ (zs : List Turn). done ++ zs) (one_turn m.heard old.at x) in
+    turns_by-append m.heard at messages (x ∷ []) none
+    ∙ ap (λ (a : Heard). done ++ turns_by m.heard a (x ∷ [])) (sym r.at)
+    ∙ ap (λ (zs : List Turn). done ++ zs) (one_turn m.heard old.at x) in
     record {
       at = t.at ∙ ap (λ (a : Heard). after_turn a one) r.at ∙ sym (after_turns-append at done (one ∷ [])) ∙ ap (after_turns at) (sym e);
       posts = t.posts ∙ ap (λ ys. ys ++ option_to_list one.post) r.posts ∙ ap (λ ys. posts_in done ++ ys) (sym (append-nil (option_to_list one.post))) ∙ sym (posts_in-append done (one ∷ [])) ∙ ap posts_in (sym e);

@@ -15,5 +15,5 @@ restored before l = record l {
   greeted = before.greeted;
   framer = unwrap_or before.framer l.framer;
   outbox = take before.outbox l.outbox;
-  sent = take before.sent l.sent
+  sent = take before.sent l.sent;
 }

@@ -62,7 +62,7 @@ kept framer round l = record l {
   framer = framer;
   greeted = round.at.greeted;
   outbox = l.outbox ++ round.posts.items;
-  sent = l.sent ++ round.answers.items
+  sent = l.sent ++ round.answers.items;
 }
 
 -- Octets came on a line that was open: it stands for one step more, and this fault ended it, if one did.

@@ -21,6 +21,6 @@ pub use bench_item::{Hears, Item, LineItem, LineState, MAX_LINES, MAX_WAITING, O
 pub use change::Change;
 pub use dia_frame::FrameFault;
 pub use fault::LineFault;
-pub use line::Before;
 pub use limit::MAX_MESSAGE;
+pub use line::Before;
 pub use lines::{Came, Lines, Posted};

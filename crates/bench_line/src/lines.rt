@@ -290,7 +290,8 @@ impl<T: Hears> Lines<T> {
 
     /// Lifts the oldest item that waits on a connection, if one does. It stays readable. Takes no memory.
     pub fn lift(&mut self, line: u64) -> Change
-        ensures lifted { self.new ≡ record self.old { lines = with_line line lifted_one self.old.lines } }
+        ensures lifted { self.new.lines ≡ with_line line lifted_one self.old.lines }
+        ensures rules { self.new.rules ≡ self.old.rules }
         ensures stands { (pasts : List Past) → StandFor (meaning T.heard T.turned T.octets_of self.old.rules) self.old.lines pasts
             → StandFor (meaning T.heard T.turned T.octets_of self.old.rules) self.new.lines pasts }
         ensures undone { taken_back result self.new.lines ≡ self.old.lines }
