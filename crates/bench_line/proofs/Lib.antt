@@ -11,3 +11,4 @@ pub mod StandLemmas
 pub mod ChangeLemmas
 pub mod CallLemmas
 pub mod LiftLemmas
+pub mod DialLemmas

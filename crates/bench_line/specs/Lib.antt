@@ -5,4 +5,5 @@ pub mod Line
 pub mod Lines
 pub mod Rounds
 pub mod Before
+pub mod Dials
 pub mod Change

@@ -36,6 +36,10 @@ with_line line f lines = if line == 0 then lines else with_line_at (line - 1) f 
 abbrev pub lifted_one : LineView → LineView
 lifted_one l = if nat_lt l.lifted (length l.outbox) then record l { lifted = l.lifted + 1 } else l
 
+-- the last item that was lifted waits again
+abbrev pub unlifted_one : LineView → LineView
+unlifted_one l = record l { lifted = l.lifted - 1 }
+
 -- the oldest item that waits on a line
 abbrev pub next_on : List LineView → ℕ → Option Item
 next_on lines line = option_and_then (λ l. slice_get l.outbox l.lifted) (line_at lines line)

@@ -278,7 +278,8 @@ impl Line {
         }
     }
 
-    fn is_of_dial(&self, peer: u64, generation: u64) -> bool
+    /// Whether a dial of that peer and generation opened it.
+    pub(crate) fn is_of_dial(&self, peer: u64, generation: u64) -> bool
         ensures { result ≡ is_dial peer generation self.now.opening }
     {
         match self.opening {
@@ -315,6 +316,13 @@ impl Line {
         ensures { result ≡ self.now.state }
     {
         self.state
+    }
+
+    /// From now on it stands so.
+    pub(crate) fn stand(&mut self, state: LineState)
+        ensures { self.new ≡ record self.old { state = state } }
+    {
+        self.state = state;
     }
 
     /// Whether as many items wait as may.

@@ -1,9 +1,12 @@
 //! All connections of a node.
-ghost use Rattle.std.specs.Prelude.{◌≡◌, ◌<◌, ◌+◌, ◌++◌, ◌∷◌, [], List, length, IfOk, IfErr, OnOk, OnErr, IfSome, Option, None, Some, option_copied, unwrap_or};
+ghost use Rattle.std.specs.Prelude.{◌≡◌, ◌<◌, ◌+◌, ◌++◌, ◌∷◌, [], List, length, IfOk, IfErr, OnOk, OnErr, IfSome, Option, None, Some, option_copied, unwrap_or, ◌-◌, min, take, drop, map};
+
+ghost use Rattle.bench_line.specs.Line.{undialled};
+ghost use Rattle.bench_line.specs.Dials.{states_of_dial, redialled};
 
 use crate::change::Change;
 use crate::fault::LineFault;
-use crate::line::Line;
+use crate::line::{Before, Line};
 use bench_item::{Hears, Item, LineItem, LineState, MAX_LINES, Opening};
 use dia_frame::FrameFault;
 use std::alloc::Global;
@@ -38,6 +41,63 @@ pub struct Lines<T> {
     lines: Vec<Line>,
 }
 
+// Where the connections of a dial stand, in order.
+fn states_of_dial(
+    alloc: Global,
+    lines: &[Line],
+    peer: u64,
+    generation: u64,
+) -> Result<Vec<LineState>, LineFault>
+    ensures ok { IfOk result (λ states. states.items ≡ states_of_dial peer generation lines.now) }
+    ensures fault { IfErr result (λ f. f ≡ LineFault.NoMemory) }
+{
+    let mut states = Vec::new(alloc);
+    for line in lines {
+        if line.is_of_dial(peer, generation) {
+            states.push(line.state())?;
+        }
+    }
+    Ok(states)
+}
+
+// Closes the connections of a dial.
+fn undial(lines: &mut [Line], peer: u64, generation: u64)
+    ensures { lines.new ≡ map (undialled peer generation) lines.old }
+{
+    for line in lines.iter_mut() {
+        line.undial(peer, generation);
+    }
+}
+
+// The connections of a dial stand as they did before.
+fn redial(lines: &mut [Line], peer: u64, generation: u64, states: &[LineState])
+    ensures { lines.new ≡ redialled peer generation states.now lines.old }
+{
+    let mut used = 0;
+    for line in lines.iter_mut() {
+        if line.is_of_dial(peer, generation) {
+            if let Some(state) = states.get(used) {
+                line.stand(*state);
+                used += 1;
+            }
+        }
+    }
+}
+
+// Copies octets from a place on, as many as there are and fit.
+fn copy_from(octets: &[u8], from: usize, out: &mut [u8]) -> usize
+    ensures count { result ≡ min (length (drop from octets.now)) (length out.old) }
+    ensures octets { out.new ≡ take result (drop from octets.now) ++ drop result out.old }
+{
+    if from >= octets.len() {
+        return 0;
+    }
+    let rest = &octets[from..];
+    let count = rest.len().min(out.len());
+    out[..count].copy_from_slice(&rest[..count]);
+    count
+}
+
 impl<T: Drop> Drop for Lines<T> {
     fn drop(self) {
         let Lines {
@@ -59,10 +119,11 @@ impl<T> Model for Lines<T> {
 impl<T: Hears> Lines<T> {
     ghost use Rattle.bench_item.specs.Lines.{Acknowledged, Received, Gone, Delivered, Undialled};
     ghost use Rattle.bench_item.specs.declared.opening.Opening.TheVariants as openings;
-    ghost use Rattle.bench_line.specs.Lines.{LinesView, Past, StandFor, IsPlace, line_at, opened, with_step, fault_at, put_out, opening_refusal, dialled_refusal, came_refusal, lost_refusal};
-    ghost use Rattle.bench_line.specs.Lines.{with_line, lifted_one, next_on, state_on, sent_on};
+    ghost use Rattle.bench_line.specs.Lines.{LinesView, Past, StandFor, IsPlace, line_at, opened, one_more, with_step, fault_at, put_out, opening_refusal, dialled_refusal, came_refusal, lost_refusal};
+    ghost use Rattle.bench_line.specs.Lines.{with_line, lifted_one, unlifted_one, next_on, state_on, sent_on};
     ghost use Rattle.bench_line.specs.Line.{LineView, new_line};
     ghost use Rattle.bench_line.specs.Talk.{meaning};
+    ghost use Rattle.bench_line.specs.Before.{restored};
     ghost use Rattle.bench_line.specs.Change.{taken_back};
     ghost use Rattle.bench_line.specs.declared.change.Change.{Change};
 
@@ -326,5 +387,84 @@ impl<T: Hears> Lines<T> {
         };
         let at = &self.lines[place];
         at.sent()
+    }
+
+    /// The dial of that peer and generation is given up: a connection that it opened closes.
+    pub fn undial(&mut self, peer: u64, generation: u64) -> Result<Change, LineFault>
+        ensures lines { OnOk result (self.new.lines ≡ map (undialled peer generation) self.old.lines) }
+        ensures stands { OnOk result ((pasts : List Past) → StandFor (meaning T.heard T.turned T.octets_of self.old.rules) self.old.lines pasts
+            → StandFor (meaning T.heard T.turned T.octets_of self.old.rules) self.new.lines (map (one_more (Undialled peer generation)) pasts)) }
+        ensures undone { IfOk result (λ change. taken_back change self.new.lines ≡ self.old.lines) }
+        ensures rules { self.new.rules ≡ self.old.rules }
+        ensures fault { IfErr result (λ f. f ≡ LineFault.NoMemory) }
+        ensures err { OnErr result (self.new ≡ self.old) }
+    {
+        let states = states_of_dial(self.alloc, &self.lines, peer, generation)?;
+        undial(&mut self.lines, peer, generation);
+        Ok(Change::Undialled {
+            peer,
+            generation,
+            states,
+        })
+    }
+
+    /// Copies what a connection sent from a place on, as much as there is and fits, to the front of `out`, and says how much that is. Takes
+    /// no memory.
+    pub fn unsent(&self, line: u64, from: usize, out: &mut [u8]) -> usize
+        ensures count { result ≡ min (length (drop from (sent_on self.now.lines line))) (length out.old) }
+        ensures octets { out.new ≡ take result (drop from (sent_on self.now.lines line)) ++ drop result out.old }
+    {
+        copy_from(self.sent(line), from, out)
+    }
+
+    // The connection of that number is what it was before a call.
+    fn restore(&mut self, line: u64, before: Before)
+        ensures lines { self.new.lines ≡ with_line line (restored before) self.old.lines }
+        ensures rules { self.new.rules ≡ self.old.rules }
+    {
+        let Ok(place) = self.find(line) else {
+            return;
+        };
+        let at = &mut self.lines[place];
+        at.restore(before);
+    }
+
+    // The last item that was lifted of the connection of that number waits again.
+    fn unlift(&mut self, line: u64)
+        ensures lines { self.new.lines ≡ with_line line unlifted_one self.old.lines }
+        ensures rules { self.new.rules ≡ self.old.rules }
+    {
+        let Ok(place) = self.find(line) else {
+            return;
+        };
+        let at = &mut self.lines[place];
+        at.unlift();
+    }
+
+    // The last connection was never opened.
+    fn drop_last(&mut self)
+        ensures lines { self.new.lines ≡ take (length self.old.lines - 1) self.old.lines }
+        ensures rules { self.new.rules ≡ self.old.rules }
+    {
+        let len = self.lines.len().saturating_sub(1);
+        self.lines.truncate(len);
+    }
+
+    /// Takes the last call that changed something back: all is as before it, but for the memory. Takes no memory.
+    pub fn take_back(&mut self, change: Change)
+        ensures taken_back { self.new.lines ≡ taken_back change self.old.lines }
+        ensures rules { self.new.rules ≡ self.old.rules }
+    {
+        match change {
+            Change::Nothing => {}
+            Change::Opened => self.drop_last(),
+            Change::Lifted { line } => self.unlift(line),
+            Change::Changed { line, before } => self.restore(line, before),
+            Change::Undialled {
+                peer,
+                generation,
+                states,
+            } => redial(&mut self.lines, peer, generation, &states),
+        }
     }
 }
