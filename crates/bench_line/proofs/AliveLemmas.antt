@@ -1,20 +1,18 @@
 -- A line that is not closed, behind steps that bring no octets.
-use Rattle.std.proofs.Common.{◌≡◌, ℕ, Bool, true, false, List, [], ◌∷◌, ◌++◌, Some, None, refl, sym, ap, subst, ◌∙◌}
-use Rattle.std.specs.Prelude.{◌||◌, is_some, option_to_list, if◌then◌else◌}
+use Rattle.std.proofs.Common.{◌≡◌, ℕ, Bool, true, false, List, [], ◌∷◌, ◌++◌, None, refl, sym, ap, subst, ◌∙◌}
+use Rattle.std.specs.Prelude.{◌||◌, if◌then◌else◌}
 use Rattle.std.specs.List.{list_any}
 use Rattle.std.proofs.lemmas.List.{append-nil}
 use Rattle.dia_frame.specs.Framer.{FramerState, Shows}
-use Rattle.bench_item.specs.declared.hears.Heard.{Heard}
-use Rattle.bench_item.specs.declared.item.Item.{Item}
 use Rattle.bench_item.specs.declared.line_state.LineState.{LineState}
 use Rattle.bench_item.specs.declared.line_state.LineState.TheVariants as state
 use Rattle.bench_item.specs.declared.opening.Opening.{Opening}
 use Rattle.bench_item.specs.declared.opening.Opening.TheVariants.{Accepted, Dialled}
 use Rattle.bench_item.specs.Lines.{LineStep, LineRules, is_acknowledgement, is_closed, standing, state_of}
 use Rattle.bench_line.specs.declared.limit.TheConstants.{MAX_MESSAGE}
-use Rattle.bench_line.specs.Line.{LineView, IsAlive, Keeps, Stands, found}
-use Rattle.bench_line.specs.Messages.{messages, rest_of, fault_in}
-use Rattle.bench_line.specs.Talk.{Meaning, after_turns, at_first, turns, turns_by, does_close, octets_in, dial_posts, end_posts, posts_by, posts_of, is_loss, rules_of, stream_of}
+use Rattle.bench_line.specs.Line.{LineView, IsAlive, Keeps, found}
+use Rattle.bench_line.specs.Messages.{messages, fault_in}
+use Rattle.bench_line.specs.Talk.{Meaning, after_turns, at_first, turns, turns_by, does_close, octets_in, dial_posts, posts_by, posts_of, is_loss, stream_of}
 use Rattle.bench_line.proofs.MessageLemmas.{messages-nil, rest_of-nil}
 use Rattle.bench_line.proofs.PastLemmas.{or-false, list_any-snoc, stream_of-snoc}
 

@@ -1,6 +1,6 @@
 -- A call that was not refused: the line is such that its step may come.
-use Rattle.std.proofs.Common.{◌≡◌, ℕ, zero, suc, ◌+◌, ◌-◌, ◌<◌, Bool, true, false, List, [], ◌∷◌, ◌++◌, length, get_or, set, Option, Some, None, refl, sym, ap, subst, ◌∙◌, arith}
-use Rattle.std.specs.Prelude.{slice_get, ◌==◌, if◌then◌else◌}
+use Rattle.std.proofs.Common.{◌≡◌, ℕ, zero, suc, ◌+◌, ◌-◌, false, List, [], ◌∷◌, ◌++◌, length, get_or, set, Option, Some, None, refl, sym, ap, subst, ◌∙◌, arith}
+use Rattle.std.specs.Prelude.{slice_get, ◌==◌}
 use Rattle.std.specs.Option.{option_and_then}
 use Rattle.std.proofs.lemmas.Bool.Decides.{nat_tests}
 use Rattle.std.proofs.lemmas.Option.{slice_get-get_or}
@@ -17,8 +17,8 @@ use Rattle.bench_line.specs.Line.{LineView, Stands, acknowledged, lost, delivere
 use Rattle.bench_line.specs.Lines.{IsPlace, Past, StandFor, StandFrom, fault_at, line_at, put_out, with_line, with_step, refusal_by, dialled_refused, came_refused, lost_refused, dialled_refusal, came_refusal, lost_refusal}
 use Rattle.bench_line.specs.Rounds.{Receives}
 use Rattle.bench_line.specs.Talk.{Meaning, fault_met, stream_of}
-use Rattle.bench_line.proofs.StandLemmas.{StandsOn, stands-set}
-use Rattle.bench_line.proofs.ChangeLemmas.{IsChanged, changed, line_at-place, restored-acknowledged, restored-lost, restored-delivered, put_out-posted}
+use Rattle.bench_line.proofs.StandLemmas.{stands-set}
+use Rattle.bench_line.proofs.ChangeLemmas.{changed, line_at-place, restored-acknowledged, restored-lost, restored-delivered, put_out-posted}
 use Rattle.bench_line.proofs.EventLemmas.{acknowledges, loses}
 use Rattle.bench_line.proofs.DeedLemmas.{delivers}
 

@@ -8,7 +8,7 @@ use Rattle.bench_item.specs.declared.item.LineItem.{LineItem}
 use Rattle.bench_item.specs.declared.line_state.LineState.{LineState}
 use Rattle.bench_item.specs.declared.line_state.LineState.TheVariants as state
 use Rattle.bench_item.specs.declared.opening.Opening.{Opening}
-use Rattle.bench_item.specs.Lines.{LineStep, Delivered, Undialled, closes, is_acknowledgement, is_closed, is_dial, standing, state_of, sent_open, sent_of}
+use Rattle.bench_item.specs.Lines.{LineStep, Delivered, Undialled, closes, is_acknowledgement, is_dial, standing, sent_open}
 use Rattle.bench_line.specs.Line.{LineView, Keeps, Stands, delivered, undialled, state_behind, is_shut}
 use Rattle.bench_line.specs.Talk.{Meaning, is_loss, rules_of}
 use Rattle.bench_line.proofs.AliveLemmas.{IsQuiet, keeps_same, closed_is, stream_of-quiet, any-quiet, posts_of-quiet}

@@ -1,10 +1,9 @@
 -- A line at its opening, its acknowledgement and its loss.
-use Rattle.std.proofs.Common.{◌≡◌, ℕ, ◌≤◌, Bool, true, false, List, [], ◌∷◌, ◌++◌, length, Some, None, refl, sym, ap, subst, ◌∙◌, arith, length-append}
+use Rattle.std.proofs.Common.{◌≡◌, ℕ, Bool, true, false, List, [], ◌∷◌, ◌++◌, None, refl, sym, ap, subst, ◌∙◌, arith, length-append}
 use Rattle.std.specs.Prelude.{◌||◌, option_to_list, if◌then◌else◌}
 use Rattle.std.specs.List.{list_any}
 use Rattle.std.proofs.lemmas.List.{append-nil}
 use Rattle.dia_frame.specs.Frames.{Frames}
-use Rattle.dia_frame.specs.Framer.{FramerState, Shows}
 use Rattle.bench_item.specs.declared.hears.Heard.{Heard}
 use Rattle.bench_item.specs.declared.hears.LineEvent.{LineEvent}
 use Rattle.bench_item.specs.declared.hears.LineEvent.TheVariants as event
@@ -13,14 +12,14 @@ use Rattle.bench_item.specs.declared.line_state.LineState.{LineState}
 use Rattle.bench_item.specs.declared.line_state.LineState.TheVariants as state
 use Rattle.bench_item.specs.declared.opening.Opening.{Opening}
 use Rattle.bench_item.specs.declared.opening.Opening.TheVariants.{Accepted, Dialled}
-use Rattle.bench_item.specs.Lines.{LineStep, Acknowledged, Gone, is_acknowledgement, is_closed, standing, state_of, sent_of}
+use Rattle.bench_item.specs.Lines.{LineStep, Acknowledged, Gone, is_acknowledgement, standing, sent_of}
 use Rattle.bench_line.specs.declared.limit.TheConstants.{MAX_MESSAGE}
 use Rattle.bench_line.specs.Line.{LineView, IsAlive, Keeps, Stands, found, new_line, acknowledged, lost, loss_of}
 use Rattle.bench_line.specs.Messages.{messages, rest_of, fault_in}
 use Rattle.bench_line.specs.Talk.{Meaning, after_turns, at_first, turns, does_close, dial_posts, end_posts, posts_in, posts_by, posts_of, end_event, is_loss, rules_of, stream_of}
-use Rattle.bench_line.proofs.MessageLemmas.{frames_are, messages-nil, rest_of-nil}
+use Rattle.bench_line.proofs.MessageLemmas.{frames_are, rest_of-nil}
 use Rattle.bench_line.proofs.PastLemmas as past
-use Rattle.bench_line.proofs.AliveLemmas.{alive_same, alive_of, turns-nil, fault_in-nil, posts-silent, stream_of-quiet, any-quiet}
+use Rattle.bench_line.proofs.AliveLemmas.{alive_same, alive_of, turns-nil, posts-silent, stream_of-quiet, any-quiet}
 use Rattle.bench_line.proofs.ReceiveLemmas.{alive-fault, open_end, end_none}
 
 b_or_true : (b : Bool) → (b || true) ≡ true

@@ -1,9 +1,9 @@
 -- What a feed shows, by its answer.
-use Rattle.std.proofs.Common.{◌≡◌, ℕ, true, false, List, ◌++◌, Option, Some, None, Result, Ok, Err, subst}
+use Rattle.std.proofs.Common.{◌≡◌, ℕ, List, ◌++◌, Some, None, Err, subst}
 use Rattle.dia_frame.specs.declared.fault.FrameFault.{FrameFault}
 use Rattle.dia_frame.specs.declared.fault.FrameFault.TheVariants.{Version, Length, Broken}
 use Rattle.dia_frame.specs.declared.fault.FeedError.{FeedError}
-use Rattle.dia_frame.specs.declared.fault.FeedError.TheVariants.{NoMemory, Fault}
+use Rattle.dia_frame.specs.declared.fault.FeedError.TheVariants.{Fault}
 use Rattle.dia_frame.specs.Framer.{FramerState, Feeds, Shows, Holds, HoldsNext}
 
 -- Where the stream has no fault yet, a faulty feed shows that fault.

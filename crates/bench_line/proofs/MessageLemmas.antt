@@ -1,10 +1,9 @@
 -- The messages of a stream are its frames.
-use Rattle.std.proofs.Common.{◌≡◌, ℕ, zero, suc, ◌≤◌, List, [], ◌∷◌, ◌++◌, length, take, drop, Option, Some, None, refl, sym, ap, subst, ◌∙◌, arith}
+use Rattle.std.proofs.Common.{◌≡◌, ℕ, zero, suc, ◌≤◌, List, [], ◌∷◌, length, take, drop, Option, Some, None, refl, sym, ap, subst, ◌∙◌, arith}
 use Rattle.std.specs.Option.{option_map_or}
 use Rattle.std.proofs.lemmas.List.{take-append-drop, length-drop, drop_at}
 use Rattle.std.proofs.lemmas.List.Elements.{All-nil}
 use Rattle.dia_frame.specs.Frames.{IsMessage, Frames, joined}
-use Rattle.dia_frame.specs.Laws.{SomeFrames}
 use Rattle.dia_frame.specs.Whole.{whole_len}
 use Rattle.dia_frame.proofs.LawLemmas.{one_more_frame, one_reading}
 use Rattle.dia_frame.proofs.WholeLemmas.{found, none_whole}

@@ -1,6 +1,6 @@
 -- Where a line stands and what it has sent, with one step more.
 use Rattle.std.proofs.Common.{◌≡◌, ℕ, Bool, true, false, List, [], ◌∷◌, ◌++◌, refl, sym, ap, ◌∙◌, append_assoc}
-use Rattle.std.specs.Prelude.{◌||◌, flat_map, if◌then◌else◌}
+use Rattle.std.specs.Prelude.{◌||◌, if◌then◌else◌}
 use Rattle.std.specs.List.{list_any}
 use Rattle.std.proofs.lemmas.List.{append-nil}
 use Rattle.std.proofs.lemmas.List.Concat.{flat_map-append}
@@ -12,7 +12,7 @@ use Rattle.bench_item.specs.declared.line_state.LineState.TheVariants as at
 use Rattle.bench_item.specs.declared.opening.Opening.{Opening}
 use Rattle.bench_item.specs.declared.opening.Opening.TheVariants.{Accepted, Dialled}
 use Rattle.bench_item.specs.Lines.{LineStep, LineRules, closes, is_closed, is_acknowledgement, standing, state_of, sent_open, sent_at, sent_of}
-use Rattle.bench_line.specs.Talk.{is_loss, octets_in, stream_of}
+use Rattle.bench_line.specs.Talk.{octets_in, stream_of}
 
 pub or-false : (b : Bool) → (b || false) ≡ b
 or-false true = refl

@@ -1,6 +1,6 @@
 -- Octets come on a line that is going.
-use Rattle.std.proofs.Common.{◌≡◌, ℕ, ◌≤◌, Bool, true, false, List, [], ◌∷◌, ◌++◌, length, drop, Option, Some, None, refl, sym, ap, subst, ◌∙◌, append_assoc, arith, length-append}
-use Rattle.std.specs.Prelude.{◌||◌, is_some, option_to_list, if◌then◌else◌}
+use Rattle.std.proofs.Common.{◌≡◌, ℕ, Bool, true, false, List, [], ◌∷◌, ◌++◌, length, drop, Option, Some, None, refl, sym, ap, subst, ◌∙◌, append_assoc, arith, length-append}
+use Rattle.std.specs.Prelude.{◌||◌, is_some, if◌then◌else◌}
 use Rattle.std.specs.List.{list_any}
 use Rattle.std.proofs.lemmas.List.{append-nil, drop_at}
 use Rattle.std.proofs.lemmas.List.Folds.{list_any-append}
@@ -8,7 +8,6 @@ use Rattle.dia_frame.specs.declared.fault.FrameFault.{FrameFault}
 use Rattle.dia_frame.specs.Frames.{Frames, fault_of}
 use Rattle.dia_frame.specs.Framer.{FramerState, Shows}
 use Rattle.bench_item.specs.declared.hears.Heard.{Heard}
-use Rattle.bench_item.specs.declared.hears.LineEvent.{LineEvent}
 use Rattle.bench_item.specs.declared.hears.LineEvent.TheVariants as event
 use Rattle.bench_item.specs.declared.hears.Turn.{Turn}
 use Rattle.bench_item.specs.declared.item.Item.{Item}
@@ -16,16 +15,16 @@ use Rattle.bench_item.specs.declared.line_state.LineState.{LineState}
 use Rattle.bench_item.specs.declared.line_state.LineState.TheVariants as state
 use Rattle.bench_item.specs.declared.opening.Opening.{Opening}
 use Rattle.bench_item.specs.declared.opening.Opening.TheVariants.{Accepted, Dialled}
-use Rattle.bench_item.specs.Lines.{LineStep, Received, is_acknowledgement, is_closed, standing, state_of, sent_of}
+use Rattle.bench_item.specs.Lines.{LineStep, Received, is_acknowledgement, standing, sent_of}
 use Rattle.bench_line.specs.declared.limit.TheConstants.{MAX_MESSAGE}
 use Rattle.bench_line.specs.declared.round.Round.{Round}
 use Rattle.bench_line.specs.Line.{LineView, IsAlive, Keeps, Stands, found}
-use Rattle.bench_line.specs.Messages.{messages, rest_of, fault_in}
+use Rattle.bench_line.specs.Messages.{messages, fault_in}
 use Rattle.bench_line.specs.Rounds.{IsRound, IsEnded, IsHeard, Receives, fault_posts, kept}
 use Rattle.bench_line.specs.Talk.{Meaning, after_turns, at_first, turns, turns_by, posts_in, answers_in, answers_to, does_close, dial_posts, end_posts, posts_by, posts_of, end_event, fault_met, is_cut, is_loss, rules_of, stream_of}
 use Rattle.bench_line.proofs.MessageLemmas.{messages-of_frames}
 use Rattle.bench_line.proofs.TurnLemmas.{turns_by-append, after_turns-append, after_turns-line, after_turns-opening, posts_in-append}
-use Rattle.bench_line.proofs.PastLemmas.{IsStanding, or-false, list_any-snoc, stream_of-snoc, standing_is, standing-snoc, state_behind, sent_open-snoc}
+use Rattle.bench_line.proofs.PastLemmas.{or-false, list_any-snoc, stream_of-snoc, standing_is, standing-snoc, state_behind, sent_open-snoc}
 
 -- the frames of what a framer shows are the messages of the stream
 pub record Same (state : FramerState) (handed : List (List ℕ)) (stream : List ℕ) (fault : Option FrameFault) : Type 0 where

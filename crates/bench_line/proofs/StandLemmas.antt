@@ -1,11 +1,11 @@
 -- All lines, with one of them changed or one more.
-use Rattle.std.proofs.Common.{◌≡◌, ℕ, zero, suc, ◌+◌, ◌-◌, ◌<◌, Bool, true, false, List, [], ◌∷◌, ◌++◌, length, set, Option, Some, None, Result, Ok, Err, refl, sym, ap, subst, ◌∙◌, arith}
-use Rattle.std.specs.Prelude.{slice_get, ◌==◌, OnOk, if◌then◌else◌}
+use Rattle.std.proofs.Common.{◌≡◌, ℕ, zero, suc, ◌+◌, ◌-◌, false, List, [], ◌∷◌, ◌++◌, length, set, Some, Result, Ok, Err, refl, sym, subst, arith}
+use Rattle.std.specs.Prelude.{slice_get, ◌==◌, OnOk}
 use Rattle.std.proofs.lemmas.Bool.Decides.{nat_tests}
 use Rattle.bench_item.specs.declared.opening.Opening.{Opening}
 use Rattle.bench_item.specs.Lines.{LineStep}
 use Rattle.bench_line.specs.Line.{LineView, Stands}
-use Rattle.bench_line.specs.Lines.{Past, StandFrom, StandFor, IsPlace, one_more, with_step_at, with_step, opened}
+use Rattle.bench_line.specs.Lines.{Past, StandFrom, StandFor, IsPlace, with_step_at, with_step, opened}
 use Rattle.bench_line.specs.Talk.{Meaning}
 
 -- A line that stands for one step more.

@@ -1,5 +1,5 @@
 -- What a line was before a call, and what takes the call back.
-use Rattle.std.specs.Prelude.{List, length, take, Option, unwrap_or}
+use Rattle.std.specs.Prelude.{length, take, Option, unwrap_or}
 use Rattle.dia_frame.specs.Framer.{FramerState}
 use Rattle.bench_line.specs.declared.line.Before.{Before}
 use Rattle.bench_line.specs.Line.{LineView}

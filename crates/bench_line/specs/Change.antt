@@ -1,5 +1,5 @@
 -- What takes a call back.
-use Rattle.std.specs.Prelude.{ℕ, ◌-◌, List, length, take}
+use Rattle.std.specs.Prelude.{◌-◌, List, length, take}
 use Rattle.bench_line.specs.declared.change.Change.{Change}
 use Rattle.bench_line.specs.declared.change.Change.TheVariants.{Nothing, Opened, Lifted, Changed, Undialled}
 use Rattle.bench_line.specs.Before.{restored}

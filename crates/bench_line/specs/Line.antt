@@ -1,5 +1,5 @@
 -- One line as it is kept, and what it is by what happened to it.
-use Rattle.std.specs.Prelude.{◌≡◌, ◌≤◌, ◌==◌, ℕ, Bool, true, false, List, [], ◌++◌, length, take, Option, Some, None, option_to_list, if◌then◌else◌}
+use Rattle.std.specs.Prelude.{◌≡◌, ◌≤◌, ◌==◌, ℕ, Bool, true, false, List, [], ◌++◌, length, Option, None, option_to_list, if◌then◌else◌}
 use Rattle.std.specs.List.{list_any}
 use Rattle.base_codes.specs.DeedCodes.{number_of}
 use Rattle.base_codes.specs.declared.deed_code.DeedCode.TheVariants.{Close}

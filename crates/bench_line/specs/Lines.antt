@@ -7,7 +7,7 @@ use Rattle.bench_item.specs.declared.item.Item.{Item}
 use Rattle.bench_item.specs.declared.line_state.LineState.{LineState}
 use Rattle.bench_item.specs.declared.line_state.LineState.TheVariants as at
 use Rattle.bench_item.specs.declared.opening.Opening.{Opening}
-use Rattle.bench_item.specs.Lines.{LineStep, Undialled}
+use Rattle.bench_item.specs.Lines.{LineStep}
 use Rattle.bench_line.specs.declared.fault.LineFault.{LineFault}
 use Rattle.bench_line.specs.declared.fault.LineFault.TheVariants as faults
 use Rattle.bench_line.specs.Line.{LineView, Stands}

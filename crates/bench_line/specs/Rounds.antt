@@ -7,7 +7,6 @@ use Rattle.bench_item.specs.declared.hears.Heard.{Heard}
 use Rattle.bench_item.specs.declared.hears.Turn.{Turn}
 use Rattle.bench_item.specs.declared.hears.LineEvent.TheVariants as event
 use Rattle.bench_item.specs.declared.item.Item.{Item}
-use Rattle.bench_item.specs.declared.line_state.LineState.{LineState}
 use Rattle.bench_item.specs.declared.line_state.LineState.TheVariants.{Closed}
 use Rattle.bench_item.specs.declared.opening.Opening.{Opening}
 use Rattle.bench_item.specs.Lines.{LineStep, Received}

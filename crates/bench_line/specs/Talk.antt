@@ -11,7 +11,7 @@ use Rattle.bench_item.specs.declared.item.Item.{Item}
 use Rattle.bench_item.specs.declared.item.LineItem.{LineItem}
 use Rattle.bench_item.specs.declared.opening.Opening.{Opening}
 use Rattle.bench_item.specs.declared.opening.Opening.TheVariants.{Accepted, Dialled}
-use Rattle.bench_item.specs.Lines.{LineStep, Acknowledged, Received, Gone, LineRules, is_acknowledgement}
+use Rattle.bench_item.specs.Lines.{LineStep, Received, Gone, LineRules, is_acknowledgement}
 use Rattle.bench_line.specs.Messages.{messages, fault_in}
 
 -- what a message and an event mean to a line, and which octets a deed sends

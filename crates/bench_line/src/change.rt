@@ -8,9 +8,14 @@ pub enum Change {
     /// A connection was opened, behind the others.
     Opened,
     /// An item of the connection of that number was lifted.
-    Lifted { line: u64 },
+    Lifted {
+        line: u64,
+    },
     /// The connection of that number was this before.
-    Changed { line: u64, before: Before },
+    Changed {
+        line: u64,
+        before: Before,
+    },
     /// The connections that a dial opened were closed; so they stood before, in order.
     Undialled {
         peer: u64,

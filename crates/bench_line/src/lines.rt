@@ -1,6 +1,5 @@
 //! All connections of a node.
 ghost use Rattle.std.specs.Prelude.{◌≡◌, ◌<◌, ◌+◌, ◌++◌, ◌∷◌, [], List, length, IfOk, IfErr, OnOk, OnErr, IfSome, Option, None, Some, option_copied, unwrap_or, ◌-◌, min, take, drop, map};
-
 ghost use Rattle.bench_line.specs.Line.{undialled};
 ghost use Rattle.bench_line.specs.Dials.{states_of_dial, redialled};
 

@@ -1,4 +1,3 @@
-use Rattle.std.proofs.Common.{◌≤◌, length}
 use Rattle.bench_line.proofs.DialLemmas.{IsRedialled}
 use Rattle.bench_line.proofs.lines.redial.Given as goal
 

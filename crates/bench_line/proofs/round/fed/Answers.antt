@@ -1,6 +1,3 @@
-use Rattle.std.proofs.Common.{Err, ap, subst, ◌∙◌}
-use Rattle.dia_frame.specs.Framer.{Feeds, HoldsNext}
-use Rattle.dia_frame.specs.declared.fault.FeedError.{FeedError}
 use Rattle.bench_line.proofs.FeedLemmas.{fault_shown}
 use Rattle.bench_line.proofs.round.fed.Goals as goal
 

@@ -1,6 +1,6 @@
 use Rattle.std.proofs.Common.{subst, ap, ◌∙◌}
 use Rattle.bench_item.specs.declared.hears.Heard.{Heard}
-use Rattle.bench_line.specs.Line.{LineView, found}
+use Rattle.bench_line.specs.Line.{LineView}
 use Rattle.bench_line.specs.Rounds.{IsRound}
 use Rattle.bench_line.specs.Talk.{meaning}
 use Rattle.bench_line.proofs.ReceiveLemmas.{heard_by}

@@ -1,4 +1,4 @@
-use Rattle.std.proofs.Common.{ap, ◌∙◌}
+use Rattle.std.proofs.Common.{ap}
 use Rattle.bench_line.specs.declared.line.Before.{Before}
 use Rattle.bench_line.specs.Talk.{meaning}
 use Rattle.bench_line.proofs.CallLemmas.{came-stands, came-ended, undone, posted}

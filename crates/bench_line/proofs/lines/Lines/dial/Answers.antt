@@ -1,7 +1,6 @@
-use Rattle.std.proofs.Common.{ap, subst, sym, length, ◌+◌}
+use Rattle.std.proofs.Common.{length, ◌+◌}
 use Rattle.bench_item.specs.declared.opening.Opening.TheVariants.{Dialled}
-use Rattle.bench_line.specs.Line.{LineView, new_line}
-use Rattle.bench_line.specs.Lines.{LinesView, StandFor, opened}
+use Rattle.bench_line.specs.Line.{new_line}
 use Rattle.bench_line.specs.Talk.{meaning}
 use Rattle.bench_line.proofs.StandLemmas.{on_ok, stands-push}
 use Rattle.bench_line.proofs.EventLemmas.{opens}

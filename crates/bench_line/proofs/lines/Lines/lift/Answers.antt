@@ -1,6 +1,6 @@
-use Rattle.std.proofs.Common.{sym, ap, ◌∙◌, List, set, subst}
+use Rattle.std.proofs.Common.{sym, ◌∙◌, List, subst}
 use Rattle.bench_line.specs.Line.{LineView}
-use Rattle.bench_line.specs.Lines.{StandFor, lifted_one, with_line}
+use Rattle.bench_line.specs.Lines.{StandFor, lifted_one}
 use Rattle.bench_line.specs.Talk.{meaning}
 use Rattle.bench_line.proofs.LiftLemmas.{with_line-none, set-line, stands-lift, unlifted}
 use Rattle.bench_line.proofs.lines.Lines.lift.Goals as goal

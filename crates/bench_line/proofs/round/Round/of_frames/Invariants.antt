@@ -1,5 +1,4 @@
-use Rattle.std.proofs.Common.{◌≡◌, ℕ, List, ◌++◌, length, false}
-use Rattle.bench_line.specs.Rounds.{IsRound}
+use Rattle.std.proofs.Common.{length}
 use Rattle.bench_line.specs.Talk.{meaning}
 use Rattle.bench_line.proofs.RoundLemmas.{SoFar}
 use Rattle.bench_line.proofs.round.Round.of_frames.Given as goal
