@@ -1,0 +1,14 @@
+pub mod PastLemmas
+pub mod MessageLemmas
+pub mod TurnLemmas
+pub mod FeedLemmas
+pub mod RoundLemmas
+pub mod ReceiveLemmas
+pub mod AliveLemmas
+pub mod DeedLemmas
+pub mod EventLemmas
+pub mod StandLemmas
+pub mod ChangeLemmas
+pub mod CallLemmas
+pub mod LiftLemmas
+pub mod DialLemmas

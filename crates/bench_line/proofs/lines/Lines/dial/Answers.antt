@@ -1,0 +1,13 @@
+use Rattle.std.proofs.Common.{length, ◌+◌}
+use Rattle.bench_item.specs.declared.opening.Opening.TheVariants.{Dialled}
+use Rattle.bench_line.specs.Line.{new_line}
+use Rattle.bench_line.specs.Talk.{meaning}
+use Rattle.bench_line.proofs.StandLemmas.{on_ok, stands-push}
+use Rattle.bench_line.proofs.EventLemmas.{opens}
+use Rattle.bench_line.proofs.lines.Lines.dial.Goals as goal
+
+pub returns-clause-stands : goal.returns-clause-stands
+returns-clause-stands g c =
+    let m = meaning g.T.Hears.heard g.T.Hears.turned g.T.Hears.octets_of c.args.self.now.rules in
+    let old = c.args.self.now.lines in
+    on_ok c.add.result c.add.ensures.ok (λ e pasts s. rw e (stands-push m old (new_line (Dialled c.args.peer c.args.generation)) (Dialled c.args.peer c.args.generation) (opens m (length old + 1) (Dialled c.args.peer c.args.generation)) pasts s))

@@ -1,0 +1,70 @@
+-- What the messages of one piece come to, before any of it is kept.
+use Rattle.std.specs.Prelude.{◌≡◌, ℕ, Bool, false, ◌||◌, List, [], ◌∷◌, ◌++◌, Option, None, is_some, option_to_list, if◌then◌else◌}
+use Rattle.std.specs.List.{list_any}
+use Rattle.dia_frame.specs.declared.fault.FrameFault.{FrameFault}
+use Rattle.dia_frame.specs.Framer.{FramerState, Shows}
+use Rattle.bench_item.specs.declared.hears.Heard.{Heard}
+use Rattle.bench_item.specs.declared.hears.Turn.{Turn}
+use Rattle.bench_item.specs.declared.hears.LineEvent.TheVariants as event
+use Rattle.bench_item.specs.declared.item.Item.{Item}
+use Rattle.bench_item.specs.declared.line_state.LineState.TheVariants.{Closed}
+use Rattle.bench_item.specs.declared.opening.Opening.{Opening}
+use Rattle.bench_item.specs.Lines.{LineStep, Received}
+use Rattle.bench_line.specs.declared.limit.TheConstants.{MAX_MESSAGE}
+use Rattle.bench_line.specs.declared.round.Round.{Round}
+use Rattle.bench_line.specs.Line.{LineView, Stands, found}
+use Rattle.bench_line.specs.Messages.{messages, fault_in}
+use Rattle.bench_line.specs.Talk.{Meaning, after_turn, after_turns, turns, turns_by, posts_in, answers_in, does_close, stream_of, fault_met}
+
+-- These messages were heard, from a line as the first of them found it.
+pub record IsRound (m : Meaning) (start : Heard) (messages : List (List ℕ)) (round : Round) : Type 0 where
+  pub at : round.at ≡ after_turns start (turns_by m.heard start messages)
+  pub posts : round.posts.items ≡ posts_in (turns_by m.heard start messages)
+  pub answers : round.answers.items ≡ answers_in (turns_by m.heard start messages)
+  pub closed : round.closed ≡ list_any does_close (turns_by m.heard start messages)
+
+-- One more message was heard, of which this is made.
+pub record IsTurned (turn : Turn) (old new : Round) : Type 0 where
+  pub at : new.at ≡ after_turn old.at turn
+  pub posts : new.posts.items ≡ old.posts.items ++ option_to_list turn.post
+  pub answers : new.answers.items ≡ old.answers.items ++ turn.answer
+  pub closed : new.closed ≡ turn.closes
+
+-- what a fault behind the messages puts out
+abbrev pub fault_posts : Meaning → Bool → Heard → Option FrameFault → List Item
+fault_posts m closed at fault = if closed then [] else if is_some fault then option_to_list (m.turned at event.Disconnected) else []
+
+-- The fault behind the messages ends the round, where no message closed the line.
+pub record IsEnded (m : Meaning) (fault : Option FrameFault) (old new : Round) (ended : Option FrameFault) : Type 0 where
+  pub at : new.at ≡ old.at
+  pub posts : new.posts.items ≡ old.posts.items ++ fault_posts m old.closed old.at fault
+  pub answers : new.answers.items ≡ old.answers.items
+  pub closed : new.closed ≡ (old.closed || is_some fault)
+  pub met : ended ≡ (if old.closed then None else fault)
+
+-- What a piece comes to on a line that is open, behind a stream.
+pub record IsHeard (m : Meaning) (line : ℕ) (l : LineView) (opening : Opening) (stream piece : List ℕ) (framer : FramerState) (round : Round) (ended : Option FrameFault) : Type 0 where
+  pub new : List Turn
+  pub turned : turns m line opening (stream ++ piece) ≡ turns m line opening stream ++ new
+  pub at : round.at ≡ after_turns (found line l) new
+  pub posts : round.posts.items ≡ posts_in new ++ fault_posts m (list_any does_close new) (after_turns (found line l) new) (fault_in (stream ++ piece))
+  pub answers : round.answers.items ≡ answers_in new
+  pub closed : round.closed ≡ (list_any does_close new || is_some (fault_in (stream ++ piece)))
+  pub met : ended ≡ (if list_any does_close new then None else fault_in (stream ++ piece))
+  pub shows : round.closed ≡ false → Shows framer MAX_MESSAGE (messages (stream ++ piece)) (stream ++ piece) None
+  pub heard : round.closed ≡ false → framer.waiting ≡ []
+
+-- what is kept of a round
+abbrev pub kept : FramerState → Round → LineView → LineView
+kept framer round l = record l {
+  state = if round.closed then Closed else l.state;
+  framer = framer;
+  greeted = round.at.greeted;
+  outbox = l.outbox ++ round.posts.items;
+  sent = l.sent ++ round.answers.items;
+}
+
+-- Octets came on a line that was open: it stands for one step more, and this fault ended it, if one did.
+pub record Receives (m : Meaning) (line : ℕ) (opening : Opening) (happened : List LineStep) (piece : List ℕ) (l : LineView) (ended : Option FrameFault) : Type 0 where
+  pub stands : Stands m line l opening (happened ++ Received piece ∷ [])
+  pub met : ended ≡ fault_met m line opening (stream_of happened ++ piece)

@@ -1,0 +1,131 @@
+//! What the messages of one piece come to. It stands apart from the connection, which is as it was where memory runs out.
+ghost use Rattle.std.specs.Prelude.{◌≡◌, ◌++◌, [], ℕ, List, IfOk, IfErr, OnOk, OnErr, Option, Some, None, false, option_to_list};
+ghost use Rattle.dia_frame.specs.Framer.{Shows};
+
+use crate::fault::LineFault;
+use bench_item::{Heard, Hears, Item, LineEvent, Turn};
+use dia_frame::{FeedError, FrameFault, Framer};
+use std::alloc::Global;
+
+/// The connection behind the last message that was heard, and what the messages made it put out and answer.
+#[derive(Drop)]
+pub(crate) struct Round {
+    pub(crate) at: Heard,
+    pub(crate) posts: Vec<Item>,
+    pub(crate) answers: Vec<u8>,
+    /// Whether it closes.
+    pub(crate) closed: bool,
+}
+
+impl Round {
+    ghost use Rattle.bench_line.specs.Rounds.{IsEnded, IsRound, IsTurned};
+    ghost use Rattle.bench_line.specs.Talk.{meaning};
+
+    /// No message was heard yet. Takes no memory.
+    pub(crate) fn new(alloc: Global, at: Heard) -> Round
+        ensures at { result.at ≡ at }
+        ensures posts { result.posts.items ≡ [] }
+        ensures answers { result.answers.items ≡ [] }
+        ensures closed { result.closed ≡ false }
+    {
+        Round {
+            at,
+            posts: Vec::new(alloc),
+            answers: Vec::new(alloc),
+            closed: false,
+        }
+    }
+
+    fn put_out(&mut self, post: Option<Item>) -> Result<(), LineFault>
+        ensures posts { OnOk result (self.new.posts.items ≡ self.old.posts.items ++ option_to_list post) }
+        ensures at { self.new.at ≡ self.old.at }
+        ensures answers { self.new.answers ≡ self.old.answers }
+        ensures closed { self.new.closed ≡ self.old.closed }
+        ensures fault { IfErr result (λ f. f ≡ LineFault.NoMemory) }
+    {
+        if let Some(item) = post {
+            self.posts.push(item)?;
+        }
+        Ok(())
+    }
+
+    // Takes what is made of a message.
+    fn take(&mut self, turn: Turn) -> Result<(), LineFault>
+        ensures ok { OnOk result (IsTurned turn self.old self.new) }
+        ensures fault { IfErr result (λ f. f ≡ LineFault.NoMemory) }
+    {
+        let Turn {
+            post,
+            answer,
+            greeted,
+            closes,
+        } = turn;
+        self.put_out(post)?;
+        self.answers.extend_from_slice(answer.as_slice())?;
+        self.at.greeted = self.at.greeted.or(greeted);
+        self.closed = closes;
+        Ok(())
+    }
+
+    /// Hears a message.
+    fn hear<T: Hears>(&mut self, alloc: Global, rules: &T, octets: &[u8]) -> Result<(), LineFault>
+        ensures ok { OnOk result (IsTurned (T.heard rules.now self.old.at octets.now) self.old self.new) }
+        ensures fault { IfErr result (λ f. f ≡ LineFault.NoMemory) }
+    {
+        let turn = rules.hear(alloc, self.at, octets)?;
+        self.take(turn)
+    }
+
+    /// Hears the messages that wait, up to the first that closes the connection.
+    pub(crate) fn of_frames<T: Hears>(
+        alloc: Global,
+        rules: &T,
+        at: Heard,
+        framer: &mut Framer,
+    ) -> Result<Round, LineFault>
+        ensures round { IfOk result (IsRound (meaning T.heard T.turned T.octets_of rules.now) at framer.old.waiting) }
+        ensures heard { IfOk result (λ r. r.closed ≡ false → framer.new ≡ record framer.old { waiting = [] }) }
+        ensures fault { IfErr result (λ f. f ≡ LineFault.NoMemory) }
+    {
+        let mut round = Round::new(alloc, at);
+        while let Some(frame) = framer.next_frame() {
+            round.hear(alloc, rules, frame.as_slice())?;
+            if round.closed {
+                return Ok(round);
+            }
+        }
+        Ok(round)
+    }
+
+    /// Ends the round at a fault of the stream, unless a message closed the connection before it. Answers the fault that ended it.
+    pub(crate) fn end<T: Hears>(
+        &mut self,
+        alloc: Global,
+        rules: &T,
+        fault: Option<FrameFault>,
+    ) -> Result<Option<FrameFault>, LineFault>
+        ensures ok { IfOk result (IsEnded (meaning T.heard T.turned T.octets_of rules.now) fault self.old self.new) }
+        ensures fault { IfErr result (λ f. f ≡ LineFault.NoMemory) }
+    {
+        if self.closed || fault.is_none() {
+            return Ok(None);
+        }
+        let post = rules.turn(alloc, self.at, LineEvent::Disconnected)?;
+        self.put_out(post)?;
+        self.closed = true;
+        Ok(fault)
+    }
+}
+
+/// Feeds a piece, and says which fault it shows.
+pub(crate) fn fed(framer: &mut Framer, piece: &[u8]) -> Result<Option<FrameFault>, LineFault>
+    ensures shows { IfOk result (λ fault. (limit : ℕ) (handed : List (List ℕ)) (stream : List ℕ)
+        → Shows framer.old limit handed stream None → Shows framer.new limit handed (stream ++ piece.now) fault) }
+    ensures fault { IfErr result (λ f. f ≡ LineFault.NoMemory) }
+{
+    match framer.feed(piece) {
+        Ok(_) => Ok(None),
+        Err(FeedError::Fault(fault)) => Ok(Some(fault)),
+        Err(FeedError::NoMemory) => Err(LineFault::NoMemory),
+    }
+}
