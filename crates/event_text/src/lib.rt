@@ -5,4 +5,4 @@ mod deeds;
 mod events;
 
 pub use deeds::{put_deed, put_deeds, put_name};
-pub use events::{EventsError, read_events};
+pub use events::{EventsError, fact_of, read_events};
