@@ -54,7 +54,7 @@ fn two_parts(word: &[u8]) -> Option<(&[u8], &[u8])>
 
 /// The number and the value of a fact, written `N=V` in decimal.
 #[tactic(auto, unfolding(crate::specs::Events::fact_of))]
-fn fact_of(word: &[u8]) -> Option<(usize, u64)>
+pub fn fact_of(word: &[u8]) -> Option<(usize, u64)>
     ensures fact { result ≡ fact_of word.now }
     ensures place { IfSome result (λ fact. fact.0 < PLACES) }
 {

@@ -1,5 +1,5 @@
 -- The lines of an entry of the log.
-use Rattle.std.specs.Prelude.{ℕ, ◌==◌, Bool, List, [], ◌∷◌, ◌++◌, Option, Some, None, codes, decimal, if◌then◌else◌}
+use Rattle.std.specs.Prelude.{ℕ, ◌==◌, Bool, List, [], ◌∷◌, ◌++◌, Option, Some, None, codes, decimal, slice_get, if◌then◌else◌}
 use Rattle.std.specs.List.{flat_map, list_any}
 use Rattle.acct_totals.specs.declared.op.Outcome.{Outcome}
 use Rattle.acct_totals.specs.declared.op.Outcome.TheVariants.{Done, Refused}
@@ -15,13 +15,13 @@ use Rattle.bench_item.specs.declared.item.Item.{Item}
 use Rattle.bench_item.specs.declared.item.Item.TheVariants.{ToMachine}
 use Rattle.bench_item.specs.declared.item.MachineItem.{MachineItem}
 use Rattle.bench_item.specs.declared.key.Role.{Role}
-use Rattle.log_text.specs.Keys.{key_text}
-use Rattle.log_text.specs.Names.{NamesOf}
-use Rattle.log_text.specs.StepLines.{step_line}
+use Rattle.step_text.specs.Lines.{behind, line_of}
+use Rattle.step_text.specs.Names.{key_name, kind_word, shown}
+use Rattle.log_text.specs.Books.{Named}
 
 -- a state of a machine of that role, by its name, or by its number where it has none
-abbrev pub state_text : NamesOf → Role → ℕ → List ℕ
-state_text names role state = codes " " ++ name_or (names.state role state) state
+abbrev pub state_text : Named → Role → ℕ → List ℕ
+state_text names role state = codes " " ++ name_or (slice_get (names.states role) state) state
 
 -- a row of a table; `-` where none took the event
 abbrev pub row_text : Option ℕ → List ℕ
@@ -29,8 +29,8 @@ row_text None = codes " row -"
 row_text (Some row) = codes " row " ++ decimal row
 
 -- `  KEY KIND`: which machine, and of its event the kind
-abbrev pub item_text : NamesOf → MachineItem → List ℕ
-item_text names item = codes "  " ++ key_text item.key ++ codes " " ++ name_or (names.kind item.event.kind) item.event.kind
+abbrev pub item_text : Named → MachineItem → List ℕ
+item_text names item = codes " " ++ behind (shown (key_name item.key) ∷ kind_word names.names item.event.kind ∷ [])
 
 -- a deed of the account book
 abbrev pub is_booking : ℕ → Bool
@@ -63,27 +63,27 @@ deed_lines (deed ∷ deeds) outcomes =
     else deed_text deed ++ codes "\n" ++ deed_lines deeds outcomes
 
 -- `  KEY KIND FROM TO row R`, and the deeds below it
-abbrev pub move_lines : NamesOf → MachineItem → Moved → List ℕ
+abbrev pub move_lines : Named → MachineItem → Moved → List ℕ
 move_lines names item moved =
     item_text names item ++ state_text names item.key.role moved.before.state ++ state_text names item.key.role moved.after.state
     ++ row_text moved.row ++ codes "\n" ++ deed_lines moved.deeds moved.outcomes
 
 -- what became of an item for a machine
-abbrev pub handled_lines : NamesOf → MachineItem → Handled → List ℕ
+abbrev pub handled_lines : Named → MachineItem → Handled → List ℕ
 handled_lines names item TooBusy = codes "  busy\n"
 handled_lines names item (Stale state) =
     item_text names item ++ state_text names item.key.role state ++ state_text names item.key.role state ++ codes " stale\n"
 handled_lines names item (Move moved) = move_lines names item moved
 
 -- what stands below the step's line
-abbrev pub below : NamesOf → Option Item → Option Handled → List ℕ
+abbrev pub below : Named → Option Item → Option Handled → List ℕ
 below names (Some (ToMachine item)) (Some handled) = handled_lines names item handled
 below names item handled = []
 
 -- an entry: its step, and below it what became of an item that was handled
-abbrev pub entry_lines : NamesOf → Entry → List ℕ
-entry_lines names entry = step_line names entry.step ++ below names entry.item entry.handled
+abbrev pub entry_lines : Named → Entry → List ℕ
+entry_lines names entry = line_of names.names entry.step ++ codes "\n" ++ below names entry.item entry.handled
 
 -- a log: its entries
-abbrev pub log_lines : NamesOf → List Entry → List ℕ
+abbrev pub log_lines : Named → List Entry → List ℕ
 log_lines names log = flat_map (entry_lines names) log

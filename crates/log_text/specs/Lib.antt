@@ -1,4 +1,2 @@
-pub mod Names
-pub mod Keys
-pub mod StepLines
+pub mod Books
 pub mod EntryLines

@@ -1,7 +1,7 @@
 -- Which key a word is.
 use Rattle.std.specs.Prelude.{ℕ, ◌==◌, ◌+◌, ◌*◌, List, [], ◌∷◌, Option, Some, None, if◌then◌else◌}
 use Rattle.hex.specs.Hex.{hex_digit_value}
-use Rattle.log_text.specs.Keys.{is_plain}
+use Rattle.step_text.specs.Names.{is_plain}
 use Rattle.bench_item.specs.declared.key.Key.{Key}
 use Rattle.bench_item.specs.declared.key.Role.{Role}
 use Rattle.bench_item.specs.declared.key.Role.TheVariants.{Peer, Client, Server}

@@ -7,7 +7,7 @@ ghost use Rattle.std.specs.Prelude.{Some};
 use base_list::Octets;
 use bench_item::{Key, Role};
 use bench_text::digit_value;
-use log_text::is_plain;
+use step_text::is_plain;
 use std::alloc::{AllocError, Global};
 
 /// The octet of two hexadecimal digits.

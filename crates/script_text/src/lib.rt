@@ -1,4 +1,4 @@
-//! Scripts of the bench: what each line asks for, as `log_text` prints steps. Empty lines, and lines that begin with a blank, are
+//! Scripts of the bench: what each line asks for, as `step_text` prints steps. Empty lines, and lines that begin with a blank, are
 //! skipped, so that a printed log may be pasted as a script.
 //!
 //! | File | What it has |

@@ -1,0 +1,57 @@
+//! Names as words.
+
+ghost use Rattle.std.specs.Prelude.{◌≡◌, ◌++◌, IfOk, OnOk, codes};
+ghost use Rattle.step_text.specs.Names.{is_plain, key_name, prefix_of, shown, shown_octet};
+
+use bench_item::{Key, Role};
+use bench_text::put_hex;
+use std::alloc::{AllocError, Global};
+
+/// Whether an octet stands for itself.
+pub fn is_plain(c: u8) -> bool
+    ensures { result ≡ is_plain c }
+{
+    b'!' <= c && c <= b'~' && c != b'%'
+}
+
+/// Puts an octet as it is printed.
+fn put_octet(out: &mut Vec<u8>, c: u8) -> Result<(), AllocError>
+    ensures { OnOk result (out.new.items ≡ out.old.items ++ shown_octet c) }
+{
+    if is_plain(c) {
+        return out.extend_from_slice(&[c]);
+    }
+    out.extend_from_slice(b"%")?;
+    put_hex(out, &[c])
+}
+
+/// Puts a name as it is printed.
+pub(crate) fn put_shown(out: &mut Vec<u8>, name: &[u8]) -> Result<(), AllocError>
+    ensures { OnOk result (out.new.items ≡ out.old.items ++ shown name.now) }
+{
+    for c in name {
+        put_octet(out, *c)?;
+    }
+    Ok(())
+}
+
+/// What stands before a machine's name.
+pub(crate) fn prefix_of(role: Role) -> &'static [u8]
+    ensures { result.now ≡ prefix_of role }
+{
+    match role {
+        Role::Peer => b"p:",
+        Role::Client => b"c:",
+        Role::Server => b"s:",
+    }
+}
+
+/// The name of a key.
+pub(crate) fn key_name(alloc: Global, key: &Key) -> Result<Vec<u8>, AllocError>
+    ensures { IfOk result (λ name. name.items ≡ key_name key.now) }
+{
+    let mut name = Vec::new(alloc);
+    name.extend_from_slice(prefix_of(key.role))?;
+    name.extend_from_slice(key.name.as_slice())?;
+    Ok(name)
+}

@@ -1,0 +1,138 @@
+//! Numbers and names from words.
+
+ghost use Rattle.std.specs.Prelude.{◌≡◌, ◌<◌, OnSome, OnOk, IfOk, IfErr, option_map, Some};
+ghost use Rattle.text_parts.specs.Pieces.{pieces_left};
+ghost use Rattle.step_text.specs.Guess.{facts_in, first_name, key_of, large, nibble, rest_of, role_of, small, source_of, unshown};
+
+use base_list::Octets;
+use bench_item::{Key, Role, Source};
+use bench_text::number_of;
+use event_text::fact_of;
+use std::alloc::{AllocError, Global};
+use tab_law::PLACES;
+use text_parts::Pieces;
+
+/// The number of the next word.
+pub(crate) fn large(words: &mut Pieces<'_>) -> Option<u64>
+    ensures value { result ≡ large (pieces_left words.old) }
+    ensures rest { OnSome result (pieces_left words.new ≡ rest_of (pieces_left words.old)) }
+{
+    number_of(words.next()?)
+}
+
+/// The number of the next word, where it is below 2^32.
+pub(crate) fn small(words: &mut Pieces<'_>) -> Option<u32>
+    ensures value { result ≡ small (pieces_left words.old) }
+    ensures rest { OnSome result (pieces_left words.new ≡ rest_of (pieces_left words.old)) }
+{
+    let number = large(words)?;
+    if number <= u64::from(u32::MAX) {
+        Some(number as u32)
+    } else {
+        None
+    }
+}
+
+/// The value of a hexadecimal digit, 0 for another octet.
+fn nibble(c: u8) -> u8
+    ensures value { result ≡ nibble c }
+    ensures fits { result < 16 }
+{
+    match c {
+        b'0'..=b'9' => c - b'0',
+        b'a'..=b'f' => c - b'a' + 10,
+        b'A'..=b'F' => c - b'A' + 10,
+        _ => 0,
+    }
+}
+
+/// The name that a word shows.
+fn unshown(alloc: Global, word: &[u8]) -> Result<Vec<u8>, AllocError>
+    ensures { IfOk result (λ name. name.items ≡ unshown word.now) }
+{
+    let mut name = Vec::new(alloc);
+    let mut at = 0;
+    while at < word.len() {
+        if word[at] == b'%' && word.len() - at > 2 {
+            name.push(nibble(word[at + 1]) * 16 + nibble(word[at + 2]))?;
+            at += 3;
+        } else {
+            name.push(word[at])?;
+            at += 1;
+        }
+    }
+    Ok(name)
+}
+
+/// The name that the next word shows.
+pub(crate) fn first_name(
+    alloc: Global,
+    words: &mut Pieces<'_>,
+) -> Result<Option<Octets>, AllocError>
+    ensures value { IfOk result (λ name. name ≡ first_name (pieces_left words.old)) }
+    ensures rest { IfOk result (λ name. OnSome name (pieces_left words.new ≡ rest_of (pieces_left words.old))) }
+{
+    match words.next() {
+        Some(word) => Ok(Some(Octets::new(unshown(alloc, word)?))),
+        None => Ok(None),
+    }
+}
+
+/// The role of a key's first octet.
+fn role_of(c: u8) -> Option<Role>
+    ensures { result ≡ role_of c }
+{
+    Some(match c {
+        b'p' => Role::Peer,
+        b'c' => Role::Client,
+        b's' => Role::Server,
+        _ => return None,
+    })
+}
+
+/// The key of a name with its prefix.
+pub(crate) fn key_of(alloc: Global, name: &[u8]) -> Result<Option<Key>, AllocError>
+    ensures { IfOk result (λ key. key ≡ key_of name.now) }
+{
+    if name.len() < 2 {
+        return Ok(None);
+    }
+    let Some(role) = role_of(name[0]) else {
+        return Ok(None);
+    };
+    let name = Octets::from_slice(alloc, &name[2..])?;
+    Ok(Some(Key { role, name }))
+}
+
+/// The facts of the words that are left.
+pub(crate) fn facts_in(words: &mut Pieces<'_>) -> [u64; PLACES]
+    ensures { result ≡ facts_in (pieces_left words.old) }
+{
+    let mut facts = [0; PLACES];
+    while let Some(word) = words.next() {
+        if let Some((number, value)) = fact_of(word) {
+            facts[number] = value;
+        }
+    }
+    facts
+}
+
+/// Who puts items out.
+pub(crate) fn source_of(words: &mut Pieces<'_>) -> Option<Source>
+    ensures { result ≡ source_of (pieces_left words.old) }
+{
+    let word = words.next()?;
+    if word == b"clock".as_slice() {
+        return Some(Source::Clock);
+    }
+    if word == b"line".as_slice() {
+        return Some(Source::Line(small(words)?));
+    }
+    if word == b"shard".as_slice() {
+        return Some(Source::Shard(small(words)?));
+    }
+    if word == b"desk".as_slice() {
+        return Some(Source::Desk(small(words)?));
+    }
+    None
+}
