@@ -14,8 +14,8 @@ use std::alloc::AllocError;
 use step_text::{put_key, put_kind, write_step};
 
 /// The name of a state.
-fn state_name<'a>(names: NameBook<'a>, role: Role, state: u8) -> Option<&'a [u8]>
-    ensures { option_map (λ name. name.now) result ≡ slice_get ((named names).states role) state }
+fn state_name<'a>(names: &NameBook<'a>, role: Role, state: u8) -> Option<&'a [u8]>
+    ensures { option_map (λ name. name.now) result ≡ slice_get ((named names.now).states role) state }
 {
     let states = match role {
         Role::Peer => names.peer_states,
@@ -31,11 +31,11 @@ fn state_name<'a>(names: NameBook<'a>, role: Role, state: u8) -> Option<&'a [u8]
 /// A state behind a blank, by its number where it has no name.
 fn put_state(
     out: &mut Vec<u8>,
-    names: NameBook<'_>,
+    names: &NameBook<'_>,
     role: Role,
     state: u8,
 ) -> Result<(), AllocError>
-    ensures { OnOk result (out.new.items ≡ out.old.items ++ state_text (named names) role state) }
+    ensures { OnOk result (out.new.items ≡ out.old.items ++ state_text (named names.now) role state) }
 {
     out.extend_from_slice(b" ")?;
     put_name(out, b"", state_name(names, role, state), u64::from(state))
@@ -52,8 +52,8 @@ fn put_row(out: &mut Vec<u8>, row: Option<u16>) -> Result<(), AllocError>
 }
 
 /// Which machine, and of its event the kind.
-fn put_item(out: &mut Vec<u8>, names: NameBook<'_>, item: &MachineItem) -> Result<(), AllocError>
-    ensures { OnOk result (out.new.items ≡ out.old.items ++ item_text (named names) item.now) }
+fn put_item(out: &mut Vec<u8>, names: &NameBook<'_>, item: &MachineItem) -> Result<(), AllocError>
+    ensures { OnOk result (out.new.items ≡ out.old.items ++ item_text (named names.now) item.now) }
 {
     out.extend_from_slice(b" ")?;
     put_key(out, &item.key)?;
@@ -63,11 +63,11 @@ fn put_item(out: &mut Vec<u8>, names: NameBook<'_>, item: &MachineItem) -> Resul
 /// A move, and its deeds below it.
 fn put_move(
     out: &mut Vec<u8>,
-    names: NameBook<'_>,
+    names: &NameBook<'_>,
     item: &MachineItem,
     moved: &Moved,
 ) -> Result<(), AllocError>
-    ensures { OnOk result (out.new.items ≡ out.old.items ++ move_lines (named names) item.now moved.now) }
+    ensures { OnOk result (out.new.items ≡ out.old.items ++ move_lines (named names.now) item.now moved.now) }
 {
     put_item(out, names, item)?;
     put_state(out, names, item.key.role, moved.before.state)?;
@@ -80,12 +80,12 @@ fn put_move(
 /// An item that was stale, in a machine that stands in this state.
 fn put_stale(
     out: &mut Vec<u8>,
-    names: NameBook<'_>,
+    names: &NameBook<'_>,
     item: &MachineItem,
     state: u8,
 ) -> Result<(), AllocError>
-    ensures { OnOk result (out.new.items ≡ out.old.items ++ item_text (named names) item.now
-        ++ state_text (named names) item.now.key.role state ++ state_text (named names) item.now.key.role state ++ codes " stale\n") }
+    ensures { OnOk result (out.new.items ≡ out.old.items ++ item_text (named names.now) item.now
+        ++ state_text (named names.now) item.now.key.role state ++ state_text (named names.now) item.now.key.role state ++ codes " stale\n") }
 {
     put_item(out, names, item)?;
     put_state(out, names, item.key.role, state)?;
@@ -96,11 +96,11 @@ fn put_stale(
 /// What became of an item for a machine.
 fn put_handled(
     out: &mut Vec<u8>,
-    names: NameBook<'_>,
+    names: &NameBook<'_>,
     item: &MachineItem,
     handled: &Handled,
 ) -> Result<(), AllocError>
-    ensures { OnOk result (out.new.items ≡ out.old.items ++ handled_lines (named names) item.now handled.now) }
+    ensures { OnOk result (out.new.items ≡ out.old.items ++ handled_lines (named names.now) item.now handled.now) }
 {
     match handled {
         Handled::TooBusy => out.extend_from_slice(b"  busy\n"),
@@ -112,12 +112,12 @@ fn put_handled(
 /// What stands below the step's line.
 fn put_below(
     out: &mut Vec<u8>,
-    names: NameBook<'_>,
+    names: &NameBook<'_>,
     item: Option<&Item>,
     handled: Option<&Handled>,
 ) -> Result<(), AllocError>
     ensures { OnOk result (out.new.items ≡ out.old.items
-        ++ below (named names) (option_map (λ item. item.now) item.entry) (option_map (λ handled. handled.now) handled.entry)) }
+        ++ below (named names.now) (option_map (λ item. item.now) item.entry) (option_map (λ handled. handled.now) handled.entry)) }
 {
     match (item, handled) {
         (Some(Item::ToMachine(item)), Some(handled)) => put_handled(out, names, item, handled),
@@ -126,8 +126,8 @@ fn put_below(
 }
 
 /// Puts an entry: the line of its step, and below that of a `work` what became of the item.
-pub fn put_entry(out: &mut Vec<u8>, names: NameBook<'_>, entry: &Entry) -> Result<(), AllocError>
-    ensures { OnOk result (out.new.items ≡ out.old.items ++ entry_lines (named names) entry.now) }
+pub fn put_entry(out: &mut Vec<u8>, names: &NameBook<'_>, entry: &Entry) -> Result<(), AllocError>
+    ensures { OnOk result (out.new.items ≡ out.old.items ++ entry_lines (named names.now) entry.now) }
 {
     write_step(out, names.laws, names.machines, &entry.step)?;
     out.extend_from_slice(b"\n")?;
@@ -137,10 +137,10 @@ pub fn put_entry(out: &mut Vec<u8>, names: NameBook<'_>, entry: &Entry) -> Resul
 /// Puts the entries of a log, in order.
 pub fn put_entries(
     out: &mut Vec<u8>,
-    names: NameBook<'_>,
+    names: &NameBook<'_>,
     entries: &[Entry],
 ) -> Result<(), AllocError>
-    ensures { OnOk result (out.new.items ≡ out.old.items ++ log_lines (named names) entries.now) }
+    ensures { OnOk result (out.new.items ≡ out.old.items ++ log_lines (named names.now) entries.now) }
 {
     for entry in entries {
         put_entry(out, names, entry)?;
