@@ -7,8 +7,8 @@ ghost use Rattle.std.specs.Prelude.{Some};
 use base_list::Octets;
 use bench_item::{Key, Role};
 use bench_text::digit_value;
-use step_text::is_plain;
 use std::alloc::{AllocError, Global};
+use step_text::is_plain;
 
 /// The octet of two hexadecimal digits.
 fn octet_of(high: u8, low: u8) -> Option<u8>
