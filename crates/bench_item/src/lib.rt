@@ -9,7 +9,7 @@
 //! | `line_state` | where a connection stands |
 //! | `limit` | every limit of the running bench |
 //!
-//! What a deed posts is a definition alone so far: `specs/Posts.antt`.
+//! What a deed posts is a definition alone here, `specs/Posts.antt`; `bench_post` has the code.
 #![tactic(auto)]
 
 mod entry;
