@@ -1,0 +1,109 @@
+//! Connections that are dialled, lost and taken back, and what is refused.
+
+use crate::node::{CER, connections, joined, lifted};
+use bench_item::LineState;
+use bench_line::{LineFault, Lines};
+use line_message::Listener;
+use std::alloc::Global;
+use std::test::Fail;
+
+/// Whether a connection is closed.
+fn is_closed(lines: &Lines<Listener>, line: u64) -> bool {
+    matches!(lines.state(line), Some(LineState::Closed))
+}
+
+/// The first message of an accepted connection is no CER: it closes, and is then neither lost nor heard.
+fn is_closed_for_good(alloc: Global) -> Result<bool, Fail> {
+    let mut lines = connections(alloc)?;
+    let words = "0100003880000118000000000000000100000001 peer";
+    let first = lines.joined();
+    let came = lines.came(1, joined(alloc, words)?.as_slice());
+    let is_quiet = came.is_ok_and(|came| came.posted == 0 && came.ended.is_none());
+    let lost = lines.lost(1).err();
+    let unknown = lines.lost(2).err();
+    let again = lines.came(1, b"").err();
+    Ok(
+        first == Ok(1)
+            && is_quiet
+            && is_closed(&lines, 1)
+            && lines.sent(1).is_empty()
+            && lost == Some(LineFault::Closed)
+            && unknown == Some(LineFault::Unknown)
+            && again == Some(LineFault::Closed),
+    )
+}
+
+/// A dial that is acknowledged, and lost; another that is refused.
+fn is_dialled(alloc: Global) -> Result<bool, Fail> {
+    let mut lines = connections(alloc)?;
+    let numbers = (lines.dial(7, 3), lines.dial(7, 4));
+    let early = lines.came(1, b"").err();
+    let first = lines.dialled(1).is_ok();
+    let twice = lines.dialled(1).err();
+    let gone = lines.lost(1).is_ok() && lines.lost(2).is_ok();
+    let text = lifted(alloc, &mut lines, 1)?;
+    let other = lifted(alloc, &mut lines, 2)?;
+    Ok(
+        numbers == (Ok(1), Ok(2))
+            && early == Some(LineFault::Closed)
+            && first
+            && twice == Some(LineFault::Nothing)
+            && gone
+            && text.as_slice()
+                == b"told 0 p:c.example I-Rcv-Conn-Ack 0=7 1=1 if 2=3\ntold 0 p:c.example I-Peer-Disc 0=7 1=1 if 0=1\n".as_slice()
+            && other.as_slice()
+                == b"told 0 p:c.example I-Rcv-Conn-Nack 0=7 1=2 if 2=4\n".as_slice(),
+    )
+}
+
+/// A CER that is taken back may come again, and posts the same.
+fn is_taken_back(alloc: Global) -> Result<bool, Fail> {
+    let mut lines = connections(alloc)?;
+    let first = lines.joined();
+    let octets = joined(alloc, CER)?;
+    let Ok(came) = lines.came(1, &octets[..100]) else {
+        return Ok(false);
+    };
+    let Ok(whole) = lines.came(1, &octets[100..]) else {
+        return Ok(false);
+    };
+    let posted = (came.posted, whole.posted);
+    let lift = lines.lift(1);
+    let none_waits = lines.next(1).is_none();
+    lines.take_back(lift);
+    let one_waits = lines.next(1).is_some();
+    lines.take_back(whole.change);
+    let is_empty = lines.next(1).is_none();
+    let again = lines.came(1, &octets[100..]);
+    let text = lifted(alloc, &mut lines, 1)?;
+    Ok(
+        first == Ok(1)
+            && posted == (0, 1)
+            && none_waits
+            && one_waits
+            && is_empty
+            && again.is_ok_and(|came| came.posted == 1)
+            && text.as_slice() == b"told 0 p:c.example R-Conn-CER 0=7 1=1 2=1 3=1 5=1\n".as_slice(),
+    )
+}
+
+#[test]
+fn a_first_message_that_is_no_cer_closes(rt: HostRuntime) -> Result<(), Fail> {
+    let holds = is_closed_for_good(rt.alloc())?;
+    assert!(rt; holds);
+    Ok(())
+}
+
+#[test]
+fn dials_are_acknowledged_lost_and_refused(rt: HostRuntime) -> Result<(), Fail> {
+    let holds = is_dialled(rt.alloc())?;
+    assert!(rt; holds);
+    Ok(())
+}
+
+#[test]
+fn what_came_is_taken_back(rt: HostRuntime) -> Result<(), Fail> {
+    let holds = is_taken_back(rt.alloc())?;
+    assert!(rt; holds);
+    Ok(())
+}
