@@ -1,29 +1,26 @@
 -- Which octets are a Session-Id, and which answers are sent.
-use Rattle.std.proofs.Common.{◌↔◌, Result, Ok, Err, inl, inr, []}
-use Rattle.std.specs.Prelude.{find, IsErrOf}
+use Rattle.std.proofs.Common.{◌↔◌, Result, Ok, Err, inl, inr, [], ◌≡◌, ◌==◌, ◌&&◌, ◌≤◌, Bool, true, false, ℕ, List, length, Option, Some, None, refl, ◌^◌, nat_le}
 use Rattle.std.specs.Option.{option_map, option_map_or}
-use Rattle.std.proofs.lemmas.Bool.{cases_lt}
+use Rattle.std.specs.Prelude.{find, IsErrOf, if◌then◌else◌, IsSomeAnd}
+use Rattle.std.specs.Str.{IsUtf8, is_utf8}
+use Rattle.std.proofs.lemmas.Bool.{cases_lt, le-leb, lt-leb}
+use Rattle.std.proofs.lemmas.Str.{IsUtf8-from_is_utf8, is_utf8-from_IsUtf8}
 use Rattle.base_codes.specs.declared.avp_code.TheConstants.{SESSION_ID}
+use Rattle.dia_avp.specs.Encoding.{length_of}
+use Rattle.dia_avp.specs.View.{seen}
 use Rattle.dia_avp.specs.declared.avp.Avp.{Avp}
 use Rattle.dia_avp.specs.declared.avp.AvpView.{AvpView}
 use Rattle.dia_avp.specs.declared.fault.WriteError.{WriteError}
 use Rattle.dia_avp.specs.declared.fault.WriteError.TheVariants.{LengthOver24Bits}
-use Rattle.dia_avp.specs.Encoding.{length_of}
-use Rattle.dia_avp.specs.View.{seen}
-use Rattle.dia_command.specs.declared.command.Command.{Command}
 use Rattle.dia_command.specs.Header.{header_in}
+use Rattle.dia_command.specs.declared.command.Command.{Command}
 use Rattle.dia_msg.specs.Walk.{whole_avps}
 use Rattle.dia_tree.specs.Faults.{is_coded}
 use Rattle.dia_tree.specs.declared.fault.MsgFault.{MsgFault}
 use Rattle.dia_write.specs.Answer.{answer_to}
 use Rattle.dia_write.specs.declared.answer.Identity.{Identity}
-use Rattle.line_message.specs.Sent.{octets_of}
-use Rattle.std.proofs.Common.{◌≡◌, ◌==◌, ◌&&◌, ◌≤◌, Bool, true, false, ℕ, List, length, Option, Some, None, refl, ◌^◌, nat_le}
-use Rattle.std.specs.Prelude.{if◌then◌else◌, IsSomeAnd}
-use Rattle.std.specs.Str.{IsUtf8, is_utf8}
-use Rattle.std.proofs.lemmas.Bool.{le-leb, lt-leb}
-use Rattle.std.proofs.lemmas.Str.{IsUtf8-from_is_utf8, is_utf8-from_IsUtf8}
 use Rattle.line_message.specs.Answers.{is_session_id, session_of, session_in, is_long, answer_octets}
+use Rattle.line_message.specs.Sent.{octets_of}
 
 -- UTF-8 of 1 to 255 octets
 pub session-is : (octets text : List ℕ) → (length octets == 0) ≡ false → length octets ≤ 255 → text ≡ octets → IsUtf8 octets → Some text ≡ session_of octets
