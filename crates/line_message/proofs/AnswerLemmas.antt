@@ -1,5 +1,5 @@
 -- Which octets are a Session-Id, and which answers are sent.
-use Rattle.std.proofs.Common.{◌↔◌, Result, Ok, Err, inl, inr, [], ◌≡◌, ◌==◌, ◌&&◌, ◌≤◌, Bool, true, false, ℕ, List, length, Option, Some, None, refl, ◌^◌, nat_le}
+use Rattle.std.proofs.Common.{◌↔◌, Result, Ok, Err, inl, inr, [], ◌≡◌, ◌==◌, ◌&&◌, ◌≤◌, ◌<◌, not, Bool, true, false, ℕ, List, length, Option, Some, None, refl, ◌^◌, nat_le}
 use Rattle.std.specs.Option.{option_map, option_map_or}
 use Rattle.std.specs.Prelude.{find, IsErrOf, if◌then◌else◌, IsSomeAnd}
 use Rattle.std.specs.Str.{IsUtf8, is_utf8}
@@ -35,6 +35,23 @@ unnamed_by octets false c e not_it of_it is = is
 pub session-other : (octets : List ℕ) → (IsUtf8 octets → ⊥) → None ≡ session_of octets
 unfolding is_session_id
 session-other octets not_it = unnamed_by octets (is_utf8 octets) _ refl not_it None refl
+
+-- none, and too many
+none_by : (a b c : Bool) (of_it : Option (List ℕ)) → (b && c) ≡ false → None ≡ (if a && (b && c) then of_it else None)
+none_by true b c of_it e = rw e refl
+none_by false b c of_it e = refl
+
+second_false : (b : Bool) → (b && false) ≡ false
+second_false true = refl
+second_false false = refl
+
+pub session-empty : (octets : List ℕ) → (length octets == 0) ≡ true → None ≡ session_of octets
+unfolding is_session_id
+session-empty octets none = none_by (is_utf8 octets) (not (length octets == 0)) (nat_le (length octets) 255) (Some octets) (rw none refl)
+
+pub session-long : (octets : List ℕ) → 255 < length octets → None ≡ session_of octets
+unfolding is_session_id
+session-long octets long = none_by (is_utf8 octets) (not (length octets == 0)) (nat_le (length octets) 255) (Some octets) (rw (lt-leb (length octets) 255 long) (second_false (not (length octets == 0))))
 
 -- the session of the first AVP of its code
 pub session-found : (octets : List ℕ) (first : Option AvpView) (view : AvpView) → option_map seen first ≡ find (is_coded SESSION_ID) (whole_avps octets) → first ≡ Some view → session_of view.octets.now ≡ session_in octets
