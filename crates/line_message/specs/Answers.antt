@@ -16,6 +16,7 @@ use Rattle.line_message.specs.Sent.{octets_of}
 unfoldable pub is_session_id : List ℕ → Bool
 is_session_id octets = is_utf8 octets && (not (length octets == 0) && nat_le (length octets) 255)
 
+-- the Session-Id that octets are
 abbrev pub session_of : List ℕ → Option (List ℕ)
 session_of octets = if is_session_id octets then Some octets else None
 

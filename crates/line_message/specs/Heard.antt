@@ -61,7 +61,7 @@ abbrev pub is_sharing : Avp → Bool
 is_sharing a =
     is_coded 260 a && option_map_or is_shared (first_number AUTH_APPLICATION_ID (avps_in a.octets).0) false
 
--- whether a CER names such an application, plain or inside a Vendor-Specific-Application-Id
+-- whether a CER names such an application in an AVP of its own, inside a Vendor-Specific-Application-Id, or in either
 abbrev pub shares_plain : CapabilitiesExchangeRequest → Bool
 shares_plain c = list_any (λ id. is_shared id.value) c.auth_application_id
 

@@ -20,6 +20,7 @@ use Rattle.tab_law.specs.declared.limits.TheConstants.{PLACES}
 use Rattle.line_message.specs.declared.listener.Listener.{Listener}
 use Rattle.line_message.specs.declared.listener.Peer.{Peer}
 
+-- whether a configured peer's machine has that number, and whether the peer has that host
 abbrev pub has_number : ℕ → Peer → Bool
 has_number number peer = peer.number == number
 

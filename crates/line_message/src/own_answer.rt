@@ -35,11 +35,13 @@ pub(crate) fn first_in(octets: &[u8], code: u32) -> Option<AvpView<'_>>
 }
 
 /// A Session-Id, where octets are one.
-#[tactic(auto, unfolding(crate::specs::Answers::is_session_id))]
 fn session_of(octets: &[u8]) -> Option<&str>
     ensures { option_copied result ≡ session_of octets.now }
 {
-    if octets.is_empty() || octets.len() > MAX_SESSION {
+    if octets.is_empty() {
+        return None;
+    }
+    if octets.len() > MAX_SESSION {
         return None;
     }
     match str::from_utf8(octets) {
