@@ -10,7 +10,7 @@ use Rattle.bench_item.specs.declared.opening.Opening.{Opening}
 use Rattle.bench_item.specs.declared.opening.Opening.TheVariants.{Accepted, Dialled}
 use Rattle.bench_item.specs.Lines.{LineStep, LineRules, is_acknowledgement, is_closed, standing, state_of}
 use Rattle.bench_line.specs.declared.limit.TheConstants.{MAX_MESSAGE}
-use Rattle.bench_line.specs.Line.{LineView, IsAlive, Keeps, found}
+use Rattle.bench_line.specs.Line.{CanCome, LineView, IsAlive, Keeps, found}
 use Rattle.bench_line.specs.Messages.{messages, fault_in}
 use Rattle.bench_line.specs.Talk.{Meaning, after_turns, at_first, turns, turns_by, does_close, octets_in, dial_posts, posts_by, posts_of, is_loss, stream_of}
 use Rattle.bench_line.proofs.MessageLemmas.{messages-nil, rest_of-nil}
@@ -72,11 +72,12 @@ pub posts-silent : (m : Meaning) (line : ℕ) (opening : Opening) (acknowledged 
 unfolding posts_by
 posts-silent m line opening acknowledged = rw (turns-nil m line opening, fault_in-nil) (append-nil (dial_posts m line opening acknowledged ++ []) ∙ append-nil (dial_posts m line opening acknowledged))
 
--- Of a step that is no acknowledgement, no loss and brings no octets nothing is put out.
+-- Of a step that is no acknowledgement, no loss and brings no octets nothing is put out, and it may always come.
 pub record IsQuiet (step : LineStep) : Type 0 where
   pub no_acknowledgement : is_acknowledgement step ≡ false
   pub no_loss : is_loss step ≡ false
   pub no_octets : octets_in step ≡ []
+  pub can_come : (rules : LineRules) (opening : Opening) (past : List LineStep) → CanCome rules opening past step
 
 pub stream_of-quiet : (happened : List LineStep) (step : LineStep) → octets_in step ≡ [] → stream_of (happened ++ step ∷ []) ≡ stream_of happened
 stream_of-quiet happened step q = stream_of-snoc happened step ∙ ap (λ (xs : List ℕ). stream_of happened ++ xs) q ∙ append-nil (stream_of happened)

@@ -20,6 +20,7 @@ quiet_closed : (m : Meaning) (line : ℕ) (l : LineView) (opening : Opening) (ha
 quiet_closed m line l opening happened step s q c =
     let closed = closed_is (rules_of m line) opening happened l.state s.state c in
     record {
+      can_come = past.each_can_come-snoc (rules_of m line) opening [] happened step s.can_come (q.can_come (rules_of m line) opening happened);
       opened = s.opened;
       state = c ∙ sym (past.state_stays (rules_of m line) opening happened step closed);
       outbox = s.outbox ∙ sym (posts_of-quiet m line opening happened step q);
@@ -36,6 +37,7 @@ quiet_going m line l opening happened step s q going b e =
     let rules = rules_of m line in
     let now = past.standing_is rules opening happened l.state s.state going in
     record {
+      can_come = past.each_can_come-snoc (rules_of m line) opening [] happened step s.can_come (q.can_come (rules_of m line) opening happened);
       opened = s.opened;
       state = ap (λ (x : LineState). if b then state.Closed else x) (sym now.stands ∙ sym (past.standing-snoc opening happened step q.no_acknowledgement))
           ∙ ap (λ (c : Bool). if c then state.Closed else standing opening (happened ++ step ∷ [])) (sym e)
@@ -66,7 +68,7 @@ pub delivers : (m : Meaning) (line : ℕ) (l : LineView) (opening : Opening) (ha
 delivers m line l opening happened item s = by (is_shut l.state) refl
   where
     quiet : IsQuiet (Delivered item)
-    quiet = record { no_acknowledgement = refl; no_loss = refl; no_octets = refl }
+    quiet = record { no_acknowledgement = refl; no_loss = refl; no_octets = refl; can_come = λ rules x before. tt }
 
     new : LineView
     new = record l { state = state_behind item l.state; sent = l.sent ++ m.octets_of item }
@@ -83,7 +85,7 @@ undials m line l opening happened peer generation s = by (is_shut l.state) refl 
     step = Undialled peer generation
 
     quiet : IsQuiet (Undialled peer generation)
-    quiet = record { no_acknowledgement = refl; no_loss = refl; no_octets = refl }
+    quiet = record { no_acknowledgement = refl; no_loss = refl; no_octets = refl; can_come = λ rules x before. tt }
 
     new : LineState → List ℕ → LineView
     new x sent = record l { state = x; sent = sent }

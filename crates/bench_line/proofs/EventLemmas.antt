@@ -61,6 +61,7 @@ acknowledges m line l opening happened peer s d =
     ap (λ (b : Bool). posts_by m line opening b (list_any is_loss after) (stream_of after)) (past.list_any-snoc is_acknowledgement happened Acknowledged ∙ b_or_true (list_any is_acknowledgement happened))
     ∙ ap (λ (b : Bool). posts_by m line opening true b (stream_of after)) (gone ∙ a.there) ∙ ap (posts_by m line opening true false) silent ∙ posts-silent m line opening true in
     record {
+      can_come = past.each_can_come-snoc rules opening [] happened Acknowledged s.can_come (peer, sym s.state ∙ d);
       opened = s.opened;
       state = sym (past.state_behind rules opening happened Acknowledged now.unclosed ∙ standing-acknowledged opening happened);
       outbox = ap (λ (xs : List Item). xs ++ option_to_list (m.turned (found line l) event.Acknowledged)) (s.outbox ∙ before) ∙ ap (λ (x : Heard). option_to_list (m.turned x event.Acknowledged)) at ∙ sym behind;
@@ -105,6 +106,7 @@ loses m line l opening happened s going =
     ∙ lost_posts m line opening ack stream (found line l) (loss_of l.state) a.unclosed f (sym a.greeted) (loss_is opening happened l.state now.stands going)
     ∙ ap (λ (b : Bool). posts_by m line opening ack b stream ++ new) (sym a.there) in
     record {
+      can_come = past.each_can_come-snoc rules opening [] happened Gone s.can_come (λ c. going (s.state ∙ c));
       opened = s.opened;
       state = sym (past.state_behind rules opening happened Gone now.unclosed);
       outbox = ap (λ (xs : List Item). xs ++ new) s.outbox ∙ sym posts;
@@ -129,5 +131,5 @@ opens m line opening = by opening
         }
 
     by : (x : Opening) → Stands m line (new_line x) x []
-    by Accepted = record { opened = refl; state = refl; outbox = sym (posts-silent m line Accepted false); lifted = omega arith; sent = refl; keeps = alive Accepted }
-    by (Dialled peer generation) = record { opened = refl; state = refl; outbox = sym (posts-silent m line (Dialled peer generation) false); lifted = omega arith; sent = refl; keeps = (alive (Dialled peer generation), refl, refl) }
+    by Accepted = record { can_come = tt; opened = refl; state = refl; outbox = sym (posts-silent m line Accepted false); lifted = omega arith; sent = refl; keeps = alive Accepted }
+    by (Dialled peer generation) = record { can_come = tt; opened = refl; state = refl; outbox = sym (posts-silent m line (Dialled peer generation) false); lifted = omega arith; sent = refl; keeps = (alive (Dialled peer generation), refl, refl) }

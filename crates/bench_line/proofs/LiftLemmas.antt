@@ -45,7 +45,7 @@ stands-lifted m line l opening happened s = by (nat_lt l.lifted (length l.outbox
     by : (b : Bool) → nat_lt l.lifted (length l.outbox) ≡ b → Stands m line (if b then record l { lifted = l.lifted + 1 } else l) opening happened
     by true e =
         let less : l.lifted < length l.outbox = ltb-true l.lifted (length l.outbox) e in
-        record { opened = s.opened; state = s.state; outbox = s.outbox; lifted = omega (arith, less); sent = s.sent; keeps = keeps_same m line l (record l { lifted = l.lifted + 1 }) opening happened happened l.state s.keeps refl refl refl refl refl }
+        record { can_come = s.can_come; opened = s.opened; state = s.state; outbox = s.outbox; lifted = omega (arith, less); sent = s.sent; keeps = keeps_same m line l (record l { lifted = l.lifted + 1 }) opening happened happened l.state s.keeps refl refl refl refl refl }
     by false e = s
 
 from-lifted : (m : Meaning) (first place : ℕ) (ls : List LineView) (pasts : List Past) → StandFrom m first ls pasts → StandFrom m first (with_line_at place lifted_one ls) pasts

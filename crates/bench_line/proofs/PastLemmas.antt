@@ -1,5 +1,5 @@
 -- Where a line stands and what it has sent, with one step more.
-use Rattle.std.proofs.Common.{◌≡◌, ℕ, Bool, true, false, List, [], ◌∷◌, ◌++◌, refl, sym, ap, ◌∙◌, append_assoc}
+use Rattle.std.proofs.Common.{◌≡◌, ℕ, Bool, true, false, List, [], ◌∷◌, ◌++◌, refl, sym, ap, subst, ◌∙◌, append_assoc}
 use Rattle.std.specs.Prelude.{◌||◌, if◌then◌else◌}
 use Rattle.std.specs.List.{list_any}
 use Rattle.std.proofs.lemmas.List.{append-nil}
@@ -12,6 +12,7 @@ use Rattle.bench_item.specs.declared.line_state.LineState.TheVariants as at
 use Rattle.bench_item.specs.declared.opening.Opening.{Opening}
 use Rattle.bench_item.specs.declared.opening.Opening.TheVariants.{Accepted, Dialled}
 use Rattle.bench_item.specs.Lines.{LineStep, LineRules, closes, is_closed, is_acknowledgement, standing, state_of, sent_open, sent_at, sent_of}
+use Rattle.bench_line.specs.Line.{CanCome, EachCanCome}
 use Rattle.bench_line.specs.Talk.{octets_in, stream_of}
 
 pub or-false : (b : Bool) → (b || false) ≡ b
@@ -94,3 +95,8 @@ sent_closed-snoc rules octets opening happened step closed =
     sent_of-snoc rules octets opening happened step
     ∙ ap (λ b. sent_of rules octets opening happened ++ (if b then [] else sent_open rules octets opening happened step)) closed
     ∙ append-nil (sent_of rules octets opening happened)
+
+-- one step more that may come
+pub each_can_come-snoc : (rules : LineRules) (opening : Opening) (past steps : List LineStep) (step : LineStep) → EachCanCome rules opening past steps → CanCome rules opening (past ++ steps) step → EachCanCome rules opening past (steps ++ step ∷ [])
+each_can_come-snoc rules opening past [] step h c = (subst (λ (xs : List LineStep). CanCome rules opening xs step) (append-nil past) c, tt)
+each_can_come-snoc rules opening past (x ∷ steps) step h c = (h.0, each_can_come-snoc rules opening (past ++ x ∷ []) steps step h.1 (subst (λ (xs : List LineStep). CanCome rules opening xs step) (sym (append_assoc past (x ∷ []) steps)) c))

@@ -24,7 +24,7 @@ use Rattle.bench_line.specs.Rounds.{IsRound, IsEnded, IsHeard, Receives, fault_p
 use Rattle.bench_line.specs.Talk.{Meaning, after_turns, at_first, turns, turns_by, posts_in, answers_in, answers_to, does_close, dial_posts, end_posts, posts_by, posts_of, end_event, fault_met, is_cut, is_loss, rules_of, stream_of}
 use Rattle.bench_line.proofs.MessageLemmas.{messages-of_frames}
 use Rattle.bench_line.proofs.TurnLemmas.{turns_by-append, after_turns-append, after_turns-line, after_turns-opening, posts_in-append}
-use Rattle.bench_line.proofs.PastLemmas.{or-false, list_any-snoc, stream_of-snoc, standing_is, standing-snoc, state_behind, sent_open-snoc}
+use Rattle.bench_line.proofs.PastLemmas.{or-false, list_any-snoc, stream_of-snoc, standing_is, standing-snoc, state_behind, sent_open-snoc, each_can_come-snoc}
 
 -- the frames of what a framer shows are the messages of the stream
 pub record Same (state : FramerState) (handed : List (List ℕ)) (stream : List ℕ) (fault : Option FrameFault) : Type 0 where
@@ -202,6 +202,7 @@ received m line l opening happened piece framer round ended s going a h =
     ∙ ap (λ (b : Bool). posts_by m line opening ack b stream ++ round.posts.items) (sym a.there) in
     record {
       stands = record {
+        can_come = each_can_come-snoc rules opening [] happened step s.can_come (sym s.state ∙ going);
         opened = s.opened;
         state = ap (λ (x : LineState). if round.closed then state.Closed else x) (going ∙ sym stands) ∙ ap (λ (b : Bool). if b then state.Closed else standing opening happened) (sym cut)
             ∙ ap (λ (x : LineState). if is_cut m line opening (stream ++ piece) then state.Closed else x) (sym (standing-snoc opening happened step refl))

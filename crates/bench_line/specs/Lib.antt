@@ -7,3 +7,4 @@ pub mod Rounds
 pub mod Before
 pub mod Dials
 pub mod Change
+pub mod Examples

@@ -1,5 +1,5 @@
 -- One line as it is kept, and what it is by what happened to it.
-use Rattle.std.specs.Prelude.{◌≡◌, ◌≤◌, ◌==◌, ℕ, Bool, true, false, List, [], ◌++◌, length, Option, None, option_to_list, if◌then◌else◌}
+use Rattle.std.specs.Prelude.{◌≡◌, ◌≤◌, ◌==◌, ℕ, Bool, true, false, List, [], ◌∷◌, ◌++◌, length, Option, None, option_to_list, if◌then◌else◌}
 use Rattle.std.specs.List.{list_any}
 use Rattle.base_codes.specs.DeedCodes.{number_of}
 use Rattle.base_codes.specs.declared.deed_code.DeedCode.TheVariants.{Close}
@@ -13,7 +13,7 @@ use Rattle.bench_item.specs.declared.line_state.LineState.{LineState}
 use Rattle.bench_item.specs.declared.line_state.LineState.TheVariants.{Dialling, Open, Closed}
 use Rattle.bench_item.specs.declared.opening.Opening.{Opening}
 use Rattle.bench_item.specs.declared.opening.Opening.TheVariants.{Accepted, Dialled}
-use Rattle.bench_item.specs.Lines.{LineStep, is_acknowledgement, is_dial, state_of, sent_of}
+use Rattle.bench_item.specs.Lines.{LineStep, Acknowledged, Received, Gone, LineRules, is_acknowledgement, is_dial, state_of, sent_of}
 use Rattle.bench_line.specs.declared.limit.TheConstants.{MAX_MESSAGE}
 use Rattle.bench_line.specs.Messages.{messages}
 use Rattle.bench_line.specs.Talk.{Meaning, rules_of, posts_of, stream_of, turns, does_close, is_loss, after_turns, at_first}
@@ -93,8 +93,22 @@ Keeps m line l opening happened Open = IsAlive m line l opening happened
 Keeps m line l opening happened (Dialling peer) =
     IsAlive m line l opening happened × (stream_of happened ≡ []) × (list_any is_acknowledgement happened ≡ false)
 
--- The line is what its opening and what happened to it make it.
+-- A step may come after those before it: an acknowledgement while the line is dialling, octets while it is open, a loss until it is
+-- closed, and a deed always.
+abbrev pub CanCome : LineRules → Opening → List LineStep → LineStep → Type 0
+CanCome rules opening past Acknowledged = (peer : ℕ) × (state_of rules opening past ≡ Dialling peer)
+CanCome rules opening past (Received piece) = state_of rules opening past ≡ Open
+CanCome rules opening past Gone = state_of rules opening past ≡ Closed → ⊥
+CanCome rules opening past step = Unit {0}
+
+-- each step may come after those before it
+abbrev pub EachCanCome : LineRules → Opening → List LineStep → List LineStep → Type 0
+EachCanCome rules opening past [] = Unit {0}
+EachCanCome rules opening past (step ∷ steps) = CanCome rules opening past step × EachCanCome rules opening (past ++ step ∷ []) steps
+
+-- The line is what its opening and what happened to it make it, and each step of that may come.
 pub record Stands (m : Meaning) (line : ℕ) (l : LineView) (start : Opening) (happened : List LineStep) : Type 0 where
+  pub can_come : EachCanCome (rules_of m line) start [] happened
   pub opened : l.opening ≡ start
   pub state : l.state ≡ state_of (rules_of m line) start happened
   pub outbox : l.outbox ≡ posts_of m line start happened

@@ -44,6 +44,13 @@ unlifted_one l = record l { lifted = l.lifted - 1 }
 abbrev pub next_on : List LineView → ℕ → Option Item
 next_on lines line = option_and_then (λ l. slice_get l.outbox l.lifted) (line_at lines line)
 
+-- an item that a line put out, and how many were lifted
+abbrev pub item_on : List LineView → ℕ → ℕ → Option Item
+item_on lines line place = option_and_then (λ l. slice_get l.outbox place) (line_at lines line)
+
+abbrev pub lifted_on : List LineView → ℕ → ℕ
+lifted_on lines line = option_map_or (λ l. l.lifted) (line_at lines line) 0
+
 -- where a line stands, and all that it has sent
 abbrev pub state_on : List LineView → ℕ → Option LineState
 state_on lines line = option_map (λ l. l.state) (line_at lines line)

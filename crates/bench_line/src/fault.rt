@@ -28,7 +28,7 @@ pub enum LineFault {
 impl LineFault {
     ghost use Rattle.bench_line.specs.Fault.{fault_number};
 
-    /// The number that stands for the fault where it is printed: 1 to 5 in the order of the refusals.
+    /// The number that stands for the fault where it is printed.
     pub fn number(self) -> u8
         ensures { result ≡ fault_number self }
     {

@@ -1,5 +1,5 @@
 //! What the messages of one piece come to. It stands apart from the connection, which is as it was where memory runs out.
-ghost use Rattle.std.specs.Prelude.{◌≡◌, ◌++◌, [], ℕ, List, IfOk, IfErr, OnOk, OnErr, Option, Some, None, false, option_to_list};
+ghost use Rattle.std.specs.Prelude.{◌≡◌, ◌++◌, [], ℕ, List, IfOk, IfErr, OnOk, None, false, option_to_list};
 ghost use Rattle.dia_frame.specs.Framer.{Shows};
 
 use crate::fault::LineFault;

@@ -1,7 +1,7 @@
 use Rattle.std.proofs.Common.{ap, sym, ◌∙◌}
 use Rattle.bench_line.specs.Line.{undialled}
 use Rattle.bench_line.proofs.DialLemmas.{mapped-next}
-use Rattle.bench_line.proofs.lines.undial.Goals as goal
+use Rattle.bench_line.proofs.calls.undial.Goals as goal
 
 pub loop-line-preserved : goal.loop-line-preserved
 loop-line-preserved c =
