@@ -6,7 +6,6 @@ use tab_law::{Deed, PLACES};
 use tab_step::{Event, MachineState};
 
 /// One move of a machine.
-#[derive(Drop)]
 pub struct Moved {
     /// The number of the machine.
     pub machine: u64,
@@ -23,6 +22,22 @@ pub struct Moved {
     pub outcomes: Series<Outcome>,
 }
 
+// A derived `drop` is proved anew in each crate that holds such a value; one by hand is a call.
+impl Drop for Moved {
+    fn drop(self) {
+        let Moved {
+            machine: _,
+            event: _,
+            before: _,
+            after: _,
+            row: _,
+            chain,
+            deeds,
+            outcomes,
+        } = self;
+    }
+}
+
 /// What became of an item that a shard handled.
 #[derive(Drop)]
 pub enum Handled {
@@ -35,11 +50,20 @@ pub enum Handled {
 }
 
 /// A step that was taken: an entry of the log.
-#[derive(Drop)]
 pub struct Entry {
     pub step: Step,
     /// What it put out (`Fired`), carried (`Lift`, `Drop`) or handled (`Work`).
     pub item: Option<Item>,
     /// What became of an item that was handled.
     pub handled: Option<Handled>,
+}
+
+impl Drop for Entry {
+    fn drop(self) {
+        let Entry {
+            step,
+            item,
+            handled,
+        } = self;
+    }
 }

@@ -12,7 +12,6 @@ pub struct Condition {
 }
 
 /// An event on its way to a machine. Its kind is a place in the book of laws.
-#[derive(Drop)]
 pub struct MachineItem {
     pub key: Key,
     pub event: Event,
@@ -21,14 +20,35 @@ pub struct MachineItem {
     pub session: Octets,
 }
 
+// A derived `drop` is proved anew in each crate that holds such a value; one by hand is a call.
+impl Drop for MachineItem {
+    fn drop(self) {
+        let MachineItem {
+            key,
+            event: _,
+            condition: _,
+            session,
+        } = self;
+    }
+}
+
 /// A deed on its way to a connection: Close, or one that sends a message.
-#[derive(Drop)]
 pub struct LineItem {
     /// The number of the connection, from 1; there need not be such a one.
     pub line: u64,
     pub deed: Deed,
     /// The Session-Id of the message, without octets where it has none.
     pub session: Octets,
+}
+
+impl Drop for LineItem {
+    fn drop(self) {
+        let LineItem {
+            line: _,
+            deed: _,
+            session,
+        } = self;
+    }
 }
 
 /// What is on its way from a source, and where to.
