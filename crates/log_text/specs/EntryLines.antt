@@ -14,6 +14,7 @@ use Rattle.bench_item.specs.declared.entry.Moved.{Moved}
 use Rattle.bench_item.specs.declared.item.Item.{Item}
 use Rattle.bench_item.specs.declared.item.Item.TheVariants.{ToMachine}
 use Rattle.bench_item.specs.declared.item.MachineItem.{MachineItem}
+use Rattle.bench_item.specs.declared.key.Key.{Key}
 use Rattle.bench_item.specs.declared.key.Role.{Role}
 use Rattle.step_text.specs.Lines.{behind, line_of}
 use Rattle.step_text.specs.Names.{key_name, kind_word, shown}
@@ -29,8 +30,18 @@ row_text None = codes " row -"
 row_text (Some row) = codes " row " ++ decimal row
 
 -- `  KEY KIND`: which machine, and of its event the kind
-abbrev pub item_text : Named → MachineItem → List ℕ
-item_text names item = codes " " ++ behind (shown (key_name item.key) ∷ kind_word names.names item.event.kind ∷ [])
+abbrev pub item_text : Named → Key → ℕ → List ℕ
+item_text names key kind = codes " " ++ behind (shown (key_name key) ∷ kind_word names.names kind ∷ [])
+
+-- `  KEY KIND FROM TO row R`
+abbrev pub moved_line : Named → Key → ℕ → ℕ → ℕ → Option ℕ → List ℕ
+moved_line names key kind before after row =
+    item_text names key kind ++ state_text names key.role before ++ state_text names key.role after ++ row_text row
+
+-- `  KEY KIND STATE STATE stale`
+abbrev pub stale_line : Named → Key → ℕ → ℕ → List ℕ
+stale_line names key kind state =
+    item_text names key kind ++ state_text names key.role state ++ state_text names key.role state ++ codes " stale"
 
 -- a deed of the account book
 abbrev pub is_booking : ℕ → Bool
@@ -65,14 +76,12 @@ deed_lines (deed ∷ deeds) outcomes =
 -- `  KEY KIND FROM TO row R`, and the deeds below it
 abbrev pub move_lines : Named → MachineItem → Moved → List ℕ
 move_lines names item moved =
-    item_text names item ++ state_text names item.key.role moved.before.state ++ state_text names item.key.role moved.after.state
-    ++ row_text moved.row ++ codes "\n" ++ deed_lines moved.deeds moved.outcomes
+    moved_line names item.key item.event.kind moved.before.state moved.after.state moved.row ++ codes "\n" ++ deed_lines moved.deeds moved.outcomes
 
 -- what became of an item for a machine
 abbrev pub handled_lines : Named → MachineItem → Handled → List ℕ
 handled_lines names item TooBusy = codes "  busy\n"
-handled_lines names item (Stale state) =
-    item_text names item ++ state_text names item.key.role state ++ state_text names item.key.role state ++ codes " stale\n"
+handled_lines names item (Stale state) = stale_line names item.key item.event.kind state ++ codes "\n"
 handled_lines names item (Move moved) = move_lines names item moved
 
 -- what stands below the step's line

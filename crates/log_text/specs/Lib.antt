@@ -1,2 +1,6 @@
 pub mod Books
 pub mod EntryLines
+pub mod ItemLines
+pub mod DeedLines
+pub mod Following
+pub mod Reading

@@ -11,7 +11,7 @@ use std::alloc::AllocError;
 use tab_law::Deed;
 
 /// Whether a deed is one of the account book.
-fn is_booking(code: u16) -> bool
+pub(crate) fn is_booking(code: u16) -> bool
     ensures { result ≡ is_booking code }
 {
     code == DeedCode::Reserve.number()
@@ -22,7 +22,7 @@ fn is_booking(code: u16) -> bool
 }
 
 /// What the account book made of a deed.
-fn put_outcome(out: &mut Vec<u8>, outcome: Outcome) -> Result<(), AllocError>
+pub(crate) fn put_outcome(out: &mut Vec<u8>, outcome: Outcome) -> Result<(), AllocError>
     ensures { OnOk result (out.new.items ≡ out.old.items ++ outcome_text outcome) }
 {
     match outcome {

@@ -1,13 +1,13 @@
 //! The lines of entries, and of a log.
-ghost use Rattle.std.specs.Prelude.{◌≡◌, ◌++◌, OnOk, codes, slice_get};
+ghost use Rattle.std.specs.Prelude.{◌≡◌, ◌++◌, OnOk, slice_get};
 ghost use Rattle.std.specs.List.{flat_map};
 ghost use Rattle.std.specs.Option.{option_map};
 ghost use Rattle.log_text.specs.Books.{named};
-ghost use Rattle.log_text.specs.EntryLines.{below, entry_lines, handled_lines, item_text, log_lines, move_lines, row_text, state_text};
+ghost use Rattle.log_text.specs.EntryLines.{below, entry_lines, handled_lines, item_text, log_lines, move_lines, moved_line, row_text, stale_line, state_text};
 
 use crate::book::NameBook;
 use crate::deeds::put_deed_lines;
-use bench_item::{Entry, Handled, Item, MachineItem, Moved, Role};
+use bench_item::{Entry, Handled, Item, Key, MachineItem, Moved, Role};
 use bench_text::put_number;
 use event_text::put_name;
 use std::alloc::AllocError;
@@ -17,12 +17,7 @@ use step_text::{put_key, put_kind, write_step};
 fn state_name<'a>(names: &NameBook<'a>, role: Role, state: u8) -> Option<&'a [u8]>
     ensures { option_map (λ name. name.now) result ≡ slice_get ((named names.now).states role) state }
 {
-    let states = match role {
-        Role::Peer => names.peer_states,
-        Role::Client => names.client_states,
-        Role::Server => names.server_states,
-    };
-    match states.get(usize::from(state)) {
+    match names.states(role).get(usize::from(state)) {
         Some(name) => Some(name.as_slice()),
         None => None,
     }
@@ -52,12 +47,46 @@ fn put_row(out: &mut Vec<u8>, row: Option<u16>) -> Result<(), AllocError>
 }
 
 /// Which machine, and of its event the kind.
-fn put_item(out: &mut Vec<u8>, names: &NameBook<'_>, item: &MachineItem) -> Result<(), AllocError>
-    ensures { OnOk result (out.new.items ≡ out.old.items ++ item_text (named names.now) item.now) }
+fn put_item(out: &mut Vec<u8>, names: &NameBook<'_>, key: &Key, kind: u8) -> Result<(), AllocError>
+    ensures { OnOk result (out.new.items ≡ out.old.items ++ item_text (named names.now) key.now kind) }
 {
     out.extend_from_slice(b" ")?;
-    put_key(out, &item.key)?;
-    put_kind(out, names.laws, names.machines, item.event.kind)
+    put_key(out, key)?;
+    put_kind(out, names.laws, names.machines, kind)
+}
+
+/// The line of a move, without its newline.
+pub(crate) fn put_moved(
+    out: &mut Vec<u8>,
+    names: &NameBook<'_>,
+    key: &Key,
+    kind: u8,
+    before: u8,
+    after: u8,
+    row: Option<u16>,
+) -> Result<(), AllocError>
+    ensures { OnOk result (out.new.items ≡ out.old.items ++ moved_line (named names.now) key.now kind before after row) }
+{
+    put_item(out, names, key, kind)?;
+    put_state(out, names, key.role, before)?;
+    put_state(out, names, key.role, after)?;
+    put_row(out, row)
+}
+
+/// The line of an item that was stale, in a machine that stands in this state; without its newline.
+pub(crate) fn put_stale(
+    out: &mut Vec<u8>,
+    names: &NameBook<'_>,
+    key: &Key,
+    kind: u8,
+    state: u8,
+) -> Result<(), AllocError>
+    ensures { OnOk result (out.new.items ≡ out.old.items ++ stale_line (named names.now) key.now kind state) }
+{
+    put_item(out, names, key, kind)?;
+    put_state(out, names, key.role, state)?;
+    put_state(out, names, key.role, state)?;
+    out.extend_from_slice(b" stale")
 }
 
 /// A move, and its deeds below it.
@@ -69,28 +98,18 @@ fn put_move(
 ) -> Result<(), AllocError>
     ensures { OnOk result (out.new.items ≡ out.old.items ++ move_lines (named names.now) item.now moved.now) }
 {
-    put_item(out, names, item)?;
-    put_state(out, names, item.key.role, moved.before.state)?;
-    put_state(out, names, item.key.role, moved.after.state)?;
-    put_row(out, moved.row)?;
+    let (before, after) = (moved.before.state, moved.after.state);
+    put_moved(
+        out,
+        names,
+        &item.key,
+        item.event.kind,
+        before,
+        after,
+        moved.row,
+    )?;
     out.extend_from_slice(b"\n")?;
     put_deed_lines(out, moved.deeds.as_slice(), moved.outcomes.as_slice())
-}
-
-/// An item that was stale, in a machine that stands in this state.
-fn put_stale(
-    out: &mut Vec<u8>,
-    names: &NameBook<'_>,
-    item: &MachineItem,
-    state: u8,
-) -> Result<(), AllocError>
-    ensures { OnOk result (out.new.items ≡ out.old.items ++ item_text (named names.now) item.now
-        ++ state_text (named names.now) item.now.key.role state ++ state_text (named names.now) item.now.key.role state ++ codes " stale\n") }
-{
-    put_item(out, names, item)?;
-    put_state(out, names, item.key.role, state)?;
-    put_state(out, names, item.key.role, state)?;
-    out.extend_from_slice(b" stale\n")
 }
 
 /// What became of an item for a machine.
@@ -104,7 +123,10 @@ fn put_handled(
 {
     match handled {
         Handled::TooBusy => out.extend_from_slice(b"  busy\n"),
-        Handled::Stale(state) => put_stale(out, names, item, *state),
+        Handled::Stale(state) => {
+            put_stale(out, names, &item.key, item.event.kind, *state)?;
+            out.extend_from_slice(b"\n")
+        }
         Handled::Move(moved) => put_move(out, names, item, moved),
     }
 }

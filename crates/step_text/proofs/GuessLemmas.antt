@@ -50,7 +50,7 @@ source_reads (Shard shard) fits = ap (option_map Shard) (small-decimal shard [] 
 source_reads (Desk desk) fits = ap (option_map Desk) (small-decimal desk [] fits)
 source_reads Clock fits = refl
 
-key_reads : (key : Key) (words : List (List ℕ)) → IsBytes key.name → first_key (shown (key_name key) ∷ words) ≡ Some key
+pub key_reads : (key : Key) (words : List (List ℕ)) → IsBytes key.name → first_key (shown (key_name key) ∷ words) ≡ Some key
 key_reads key words bytes = ap key_of (unshown-shown (key_name key) (key_name-bytes key bytes)) ∙ key_of-name key
 
 -- where an entry's name stands first, an entry of that name stands
@@ -122,7 +122,7 @@ machine_reads names machine words own known = by (find (λ entry. entry.value ==
         ∙ ap (option_map (λ (entry : Named ℕ). entry.value)) stands_so ∙ ap Some value
 
 -- a kind that has a place is read as one of its name
-kind_reads : (names : Names) (kind : ℕ) (words : List (List ℕ)) → IsSomeAnd (slice_get names.kinds kind) (λ entry. IsBytes entry.name)
+pub kind_reads : (names : Names) (kind : ℕ) (words : List (List ℕ)) → IsSomeAnd (slice_get names.kinds kind) (λ entry. IsBytes entry.name)
     → (place : ℕ) × (kind_of names.kinds (kind_word names kind ∷ words) ≡ Some place) × (kind_word names place ≡ kind_word names kind)
 kind_reads names kind words known = by (slice_get names.kinds kind) refl known
   where

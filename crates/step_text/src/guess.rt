@@ -8,7 +8,7 @@ ghost use Rattle.step_text.specs.Names.{names_of};
 
 use crate::command::Command;
 use crate::machines::Machines;
-use crate::words::{facts_in, first_name, key_of, large, small, source_of};
+use crate::words::{facts_in, first_name, key_of, next_number, small, source_of};
 use base_list::Octets;
 use bench_item::{Key, Step};
 use hex::FromHexError;
@@ -45,7 +45,7 @@ fn came_of(alloc: Global, words: &mut Pieces<'_>) -> Result<Option<Step>, AllocE
 }
 
 /// The place of the kind that the next word names.
-fn kind_of(alloc: Global, laws: &LawBook, words: &mut Pieces<'_>) -> Result<Option<u8>, AllocError>
+pub fn next_kind(alloc: Global, laws: &LawBook, words: &mut Pieces<'_>) -> Result<Option<u8>, AllocError>
     ensures value { IfOk result (λ kind. kind ≡ kind_of laws.now.kinds (pieces_left words.old)) }
     ensures rest { IfOk result (λ kind. OnSome kind (pieces_left words.new ≡ rest_of (pieces_left words.old))) }
 {
@@ -60,7 +60,7 @@ fn kind_of(alloc: Global, laws: &LawBook, words: &mut Pieces<'_>) -> Result<Opti
 }
 
 /// The key that the next word shows.
-fn first_key(alloc: Global, words: &mut Pieces<'_>) -> Result<Option<Key>, AllocError>
+pub fn next_key(alloc: Global, words: &mut Pieces<'_>) -> Result<Option<Key>, AllocError>
     ensures value { IfOk result (λ key. key ≡ first_key (pieces_left words.old)) }
     ensures rest { IfOk result (λ key. OnSome key (pieces_left words.new ≡ rest_of (pieces_left words.old))) }
 {
@@ -81,10 +81,10 @@ fn told_of(
     let Some(desk) = small(words) else {
         return Ok(None);
     };
-    let Some(key) = first_key(alloc, words)? else {
+    let Some(key) = next_key(alloc, words)? else {
         return Ok(None);
     };
-    let Some(kind) = kind_of(alloc, laws, words)? else {
+    let Some(kind) = next_kind(alloc, laws, words)? else {
         return Ok(None);
     };
     let facts = facts_in(words);
@@ -130,7 +130,7 @@ fn fired_of(
     let Some(machine) = machine_of(alloc, machines, words)? else {
         return Ok(None);
     };
-    match large(words) {
+    match next_number(words) {
         Some(generation) => Ok(Some(Step::Fired {
             machine,
             generation,

@@ -19,7 +19,9 @@ mod read;
 mod words;
 mod write;
 
+pub use guess::{next_key, next_kind};
 pub use machines::Machines;
 pub use name::is_plain;
 pub use read::{StepTextFault, read_step};
+pub use words::next_number;
 pub use write::{put_key, put_kind, write_step};

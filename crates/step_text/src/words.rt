@@ -13,7 +13,7 @@ use tab_law::PLACES;
 use text_parts::Pieces;
 
 /// The number of the next word.
-pub(crate) fn large(words: &mut Pieces<'_>) -> Option<u64>
+pub fn next_number(words: &mut Pieces<'_>) -> Option<u64>
     ensures value { result ≡ large (pieces_left words.old) }
     ensures rest { OnSome result (pieces_left words.new ≡ rest_of (pieces_left words.old)) }
 {
@@ -25,7 +25,7 @@ pub(crate) fn small(words: &mut Pieces<'_>) -> Option<u32>
     ensures value { result ≡ small (pieces_left words.old) }
     ensures rest { OnSome result (pieces_left words.new ≡ rest_of (pieces_left words.old)) }
 {
-    let number = large(words)?;
+    let number = next_number(words)?;
     if number <= u64::from(u32::MAX) {
         Some(number as u32)
     } else {

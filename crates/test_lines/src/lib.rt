@@ -13,3 +13,5 @@ mod logs;
 mod node;
 #[cfg(test)]
 mod posts;
+#[cfg(test)]
+mod reads;

@@ -121,7 +121,7 @@ fn entries(alloc: Global) -> Result<Vec<Entry>, Fail> {
     Ok(all)
 }
 
-const TEXT: &str = "\
+pub(crate) const TEXT: &str = "\
 join
 dialled 1
 came 1 01ab
@@ -144,6 +144,17 @@ work 0
   busy
 ";
 
+/// The text of a log.
+pub(crate) fn text_of(alloc: Global, names: &NameBook<'_>, log: &Log) -> Result<Vec<u8>, Fail> {
+    let mut text = Vec::new(alloc);
+    for place in 0..log.len() {
+        if let Some(entry) = log.entry(place, alloc)? {
+            put_entry(&mut text, names, &entry)?;
+        }
+    }
+    Ok(text)
+}
+
 /// The text of a log that keeps these entries.
 fn printed(alloc: Global, laws: &LawBook, machines: &Machines) -> Result<Vec<u8>, Fail> {
     let closed = [Octets::from_slice(alloc, b"Closed")?];
@@ -158,13 +169,7 @@ fn printed(alloc: Global, laws: &LawBook, machines: &Machines) -> Result<Vec<u8>
     for entry in &entries(alloc)? {
         log.push(alloc, entry)?;
     }
-    let mut text = Vec::new(alloc);
-    for place in 0..log.len() {
-        if let Some(entry) = log.entry(place, alloc)? {
-            put_entry(&mut text, &names, &entry)?;
-        }
-    }
-    Ok(text)
+    text_of(alloc, &names, &log)
 }
 
 /// Whether what a script asks for is the step of this line, read by itself.
@@ -226,7 +231,7 @@ fn wrong_step(
 }
 
 /// The machines of the node.
-fn machines(alloc: Global) -> Result<Machines, Fail> {
+pub(crate) fn machines(alloc: Global) -> Result<Machines, Fail> {
     let mut machines = Machines::new(alloc);
     machines.add(&key(alloc)?, 4097)?;
     Ok(machines)

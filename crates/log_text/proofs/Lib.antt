@@ -1,0 +1,4 @@
+pub mod ReaderLemmas
+pub mod ReadLemmas
+pub mod ItemLemmas
+pub mod DeedLemmas

@@ -1,0 +1,203 @@
+//! The line of a deed, read.
+ghost use Rattle.std.specs.Prelude.{◌≡◌, ◌++◌, IfOk, IfErr, OnOk, OnSome, option_map};
+ghost use Rattle.std.specs.Str.{bytes_eq};
+ghost use Rattle.text_parts.specs.Pieces.{pieces_in, pieces_left};
+ghost use Rattle.step_text.specs.declared.read.StepTextFault.TheVariants.{BadLine};
+ghost use Rattle.log_text.specs.DeedLines.{IsDeedLine, args_of, behind_stop, code_of, deed_in, deed_line, guess_deed, named_code, outcome_behind, outcome_of, stop_of};
+
+use crate::deeds::{is_booking, put_outcome};
+use acct_totals::Outcome;
+use base_codes::DeedCode;
+use bench_text::number_of;
+use event_text::put_deed_words;
+use std::alloc::{AllocError, Global};
+use step_text::{StepTextFault, next_number};
+use tab_law::{Deed, PLACES};
+use text_parts::Pieces;
+
+/// A deed as its line tells it; what the account book made of it counts where it is one of the account book.
+#[derive(Clone, Copy)]
+pub(crate) struct DeedLine {
+    pub(crate) deed: Deed,
+    pub(crate) outcome: Outcome,
+}
+
+/// The deed of that name.
+fn named_code(word: &[u8]) -> Option<DeedCode>
+    ensures { result ≡ named_code word.now }
+{
+    if word == DeedCode::Unlisted.name().as_bytes() {
+        return Some(DeedCode::Unlisted);
+    }
+    if word == DeedCode::ToPeer.name().as_bytes() {
+        return Some(DeedCode::ToPeer);
+    }
+    if word == DeedCode::ToSession.name().as_bytes() {
+        return Some(DeedCode::ToSession);
+    }
+    if word == DeedCode::Close.name().as_bytes() {
+        return Some(DeedCode::Close);
+    }
+    if word == DeedCode::Dial.name().as_bytes() {
+        return Some(DeedCode::Dial);
+    }
+    if word == DeedCode::Undial.name().as_bytes() {
+        return Some(DeedCode::Undial);
+    }
+    if word == DeedCode::Arm.name().as_bytes() {
+        return Some(DeedCode::Arm);
+    }
+    if word == DeedCode::Disarm.name().as_bytes() {
+        return Some(DeedCode::Disarm);
+    }
+    if word == DeedCode::SndCer.name().as_bytes() {
+        return Some(DeedCode::SndCer);
+    }
+    if word == DeedCode::SndCea.name().as_bytes() {
+        return Some(DeedCode::SndCea);
+    }
+    if word == DeedCode::SndDwa.name().as_bytes() {
+        return Some(DeedCode::SndDwa);
+    }
+    if word == DeedCode::SndDpr.name().as_bytes() {
+        return Some(DeedCode::SndDpr);
+    }
+    if word == DeedCode::SndDpa.name().as_bytes() {
+        return Some(DeedCode::SndDpa);
+    }
+    if word == DeedCode::SndMsg.name().as_bytes() {
+        return Some(DeedCode::SndMsg);
+    }
+    if word == DeedCode::Elect.name().as_bytes() {
+        return Some(DeedCode::Elect);
+    }
+    if word == DeedCode::Reserve.name().as_bytes() {
+        return Some(DeedCode::Reserve);
+    }
+    if word == DeedCode::Debit.name().as_bytes() {
+        return Some(DeedCode::Debit);
+    }
+    if word == DeedCode::Release.name().as_bytes() {
+        return Some(DeedCode::Release);
+    }
+    if word == DeedCode::Charge.name().as_bytes() {
+        return Some(DeedCode::Charge);
+    }
+    if word == DeedCode::Refund.name().as_bytes() {
+        return Some(DeedCode::Refund);
+    }
+    if word == DeedCode::Service.name().as_bytes() {
+        return Some(DeedCode::Service);
+    }
+    None
+}
+
+/// The code of a deed by its number or its name.
+fn code_of(word: &[u8]) -> Option<u16>
+    ensures { result ≡ code_of word.now }
+{
+    match number_of(word) {
+        Some(number) => {
+            if number < 65_536 {
+                Some(number as u16)
+            } else {
+                None
+            }
+        }
+        None => Some(named_code(word)?.number()),
+    }
+}
+
+/// The numbers of the words up to the first that is none, and that word. What isn't there is 0, and what has no place is left out.
+fn args_of<'a>(words: &mut Pieces<'a>) -> ([u64; PLACES], Option<&'a [u8]>)
+    ensures args { result.0 ≡ args_of (pieces_left words.old) }
+    ensures stop { option_map (λ word. word.now) result.1 ≡ stop_of (pieces_left words.old) }
+    ensures rest { OnSome result.1 (pieces_left words.new ≡ behind_stop (pieces_left words.old)) }
+{
+    let mut a = [0; PLACES];
+    let mut n = 0;
+    while let Some(word) = words.next() {
+        let Some(value) = number_of(word) else {
+            return (a, Some(word));
+        };
+        if n < PLACES {
+            a[n] = value;
+            n += 1;
+        }
+    }
+    (a, None)
+}
+
+/// What the account book made of a deed, by the word behind its arguments and those behind that.
+fn outcome_behind(stop: &[u8], words: &mut Pieces<'_>) -> Option<Outcome>
+    ensures { result ≡ outcome_behind stop.now (pieces_left words.old) }
+{
+    if stop != b"=".as_slice() {
+        return Some(Outcome::Refused);
+    }
+    let amount = next_number(words)?;
+    let unpaid = next_number(words)?;
+    Some(Outcome::Done { amount, unpaid })
+}
+
+/// The deed that the words behind four blanks tell.
+fn deed_in(words: &mut Pieces<'_>) -> Option<DeedLine>
+    ensures { result ≡ deed_in (pieces_left words.old) }
+{
+    let code = code_of(words.next()?)?;
+    let (a, stop) = args_of(words);
+    let deed = Deed { code, a };
+    let outcome = match stop {
+        Some(word) => outcome_behind(word, words)?,
+        None => Outcome::Refused,
+    };
+    Some(DeedLine { deed, outcome })
+}
+
+/// The deed that a line can tell.
+fn guess_deed(line: &[u8]) -> Option<DeedLine>
+    ensures { result ≡ guess_deed line.now }
+{
+    let mut words = Pieces::new(line, b' ');
+    // Before each of the four blanks stands nothing.
+    let _first = words.next()?;
+    let _second = words.next()?;
+    let _third = words.next()?;
+    let _fourth = words.next()?;
+    deed_in(&mut words)
+}
+
+/// Puts the line of a deed, without its newline.
+fn put_deed_line(out: &mut Vec<u8>, line: &DeedLine) -> Result<(), AllocError>
+    ensures { OnOk result (out.new.items ≡ out.old.items ++ deed_line line.now) }
+{
+    put_deed_words(out, b"    ", &line.deed)?;
+    if is_booking(line.deed.code) {
+        put_outcome(out, line.outcome)?;
+    }
+    Ok(())
+}
+
+/// Whether a deed has that line.
+fn has_line(alloc: Global, deed: &DeedLine, line: &[u8]) -> Result<bool, AllocError>
+    ensures { IfOk result (λ has. has ≡ bytes_eq (deed_line deed.now) line.now) }
+{
+    let mut text = Vec::new(alloc);
+    put_deed_line(&mut text, deed)?;
+    Ok(text.as_slice() == line)
+}
+
+/// The deed of a line without its newline, as it is printed.
+pub(crate) fn read_deed(alloc: Global, line: &[u8]) -> Result<DeedLine, StepTextFault>
+    ensures ok { IfOk result (λ deed. deed_line deed ≡ line.now) }
+    ensures fault { IfErr result (λ fault. fault ≡ BadLine → IsDeedLine line.now → ⊥) }
+{
+    let Some(deed) = guess_deed(line) else {
+        return Err(StepTextFault::BadLine);
+    };
+    if has_line(alloc, &deed, line)? {
+        Ok(deed)
+    } else {
+        Err(StepTextFault::BadLine)
+    }
+}
