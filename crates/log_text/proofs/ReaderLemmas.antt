@@ -13,7 +13,7 @@ use Rattle.acct_totals.specs.declared.op.Outcome.{Outcome}
 use Rattle.std.proofs.lemmas.List.{append-nil}
 use Rattle.std.proofs.lemmas.Grind.{flat_map-append}
 use Rattle.std.specs.Prelude.{Option, Some, None, Result, Ok, Err, IfErr}
-use Rattle.log_text.specs.EntryLines.{entry_lines, moved_line}
+use Rattle.log_text.specs.EntryLines.{entry_lines, is_work, moved_line}
 use Rattle.log_text.specs.ItemLines.{AreWords}
 use Rattle.log_text.specs.Following.{IsReading, entries_of, entry_of, entry_with, is_moved}
 use Rattle.log_text.specs.declared.item_line.Who.{Who}
@@ -88,25 +88,27 @@ deed_lines-more lines line =
     ∙ ap (λ t. t ++ ended (deed_line line)) (sym (deed_lines-each lines))
 
 -- an entry with one deed's line more
-pub one_deed : (names : Named) (step : Step) (who : Who) (before after : ℕ) (row : Option ℕ) (lines : List DeedLine) (line : DeedLine)
+pub one_deed : (names : Named) (step : Step) (who : Who) (before after : ℕ) (row : Option ℕ) (lines : List DeedLine) (line : DeedLine) → is_work step ≡ true
     → entry_lines names (entry_with step (Some (Moved who before after row)) (lines ++ line ∷ []))
     ≡ entry_lines names (entry_with step (Some (Moved who before after row)) lines) ++ ended (deed_line line)
-one_deed names step who before after row lines line =
+one_deed names step who before after row lines line works =
     let first = ended (line_of names.names step) in
     let second = ended (moved_line names who.key who.kind before after row) in
     let deeds = deed_lines (map (λ line. line.deed) lines) (outcomes_of lines) in
+    rw works (
     ap (λ t. first ++ (second ++ t)) (deed_lines-more lines line)
     ∙ ap (λ t. first ++ t) (sym (append_assoc second deeds (ended (deed_line line))))
     ∙ sym (append_assoc first (second ++ deeds) (ended (deed_line line)))
+    )
 
 -- the same, where the lines are those
 pub one_more : (names : Named) (step : Step) (item : Option ItemLine) (inner : ItemLine) (lines more : List DeedLine) (deed : DeedLine) (line : List ℕ)
-    → item ≡ Some inner → is_moved inner ≡ true → more ≡ lines ++ deed ∷ [] → deed_line deed ≡ line
+    → is_work step ≡ true → item ≡ Some inner → is_moved inner ≡ true → more ≡ lines ++ deed ∷ [] → deed_line deed ≡ line
     → entry_lines names (entry_with step item more) ≡ entry_lines names (entry_with step item lines) ++ ended line
-one_more names step item TooBusy lines more deed line is is_move pushed has = absurd (cc is_move)
-one_more names step item (Stale who state) lines more deed line is is_move pushed has = absurd (cc is_move)
-one_more names step item (Moved who before after row) lines more deed line is is_move pushed has =
-    rw (is, pushed, sym has) (one_deed names step who before after row lines deed)
+one_more names step item TooBusy lines more deed line works is is_move pushed has = absurd (cc is_move)
+one_more names step item (Stale who state) lines more deed line works is is_move pushed has = absurd (cc is_move)
+one_more names step item (Moved who before after row) lines more deed line works is is_move pushed has =
+    rw (is, pushed, sym has) (one_deed names step who before after row lines deed works)
 
 -- before any line nothing that begins with a blank may stand
 pub empty_none : (names : Named) (reader : Reader) (line : List ℕ) → reader.pending ≡ None → IsReading reader → begins_blank line ≡ true

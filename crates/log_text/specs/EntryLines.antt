@@ -1,5 +1,5 @@
 -- The lines of an entry of the log.
-use Rattle.std.specs.Prelude.{ℕ, ◌==◌, Bool, List, [], ◌∷◌, ◌++◌, Option, Some, None, codes, decimal, slice_get, if◌then◌else◌}
+use Rattle.std.specs.Prelude.{ℕ, ◌==◌, Bool, true, false, List, [], ◌∷◌, ◌++◌, Option, Some, None, codes, decimal, slice_get, if◌then◌else◌}
 use Rattle.std.specs.List.{flat_map, list_any}
 use Rattle.acct_totals.specs.declared.op.Outcome.{Outcome}
 use Rattle.acct_totals.specs.declared.op.Outcome.TheVariants.{Done, Refused}
@@ -16,6 +16,8 @@ use Rattle.bench_item.specs.declared.item.Item.TheVariants.{ToMachine}
 use Rattle.bench_item.specs.declared.item.MachineItem.{MachineItem}
 use Rattle.bench_item.specs.declared.key.Key.{Key}
 use Rattle.bench_item.specs.declared.key.Role.{Role}
+use Rattle.bench_item.specs.declared.step.Step.{Step}
+use Rattle.bench_item.specs.declared.step.Step.TheVariants.{Work}
 use Rattle.step_text.specs.Lines.{behind, line_of}
 use Rattle.step_text.specs.Names.{key_name, kind_word, shown}
 use Rattle.log_text.specs.Books.{Named}
@@ -84,14 +86,23 @@ handled_lines names item TooBusy = codes "  busy\n"
 handled_lines names item (Stale state) = stale_line names item.key item.event.kind state ++ codes "\n"
 handled_lines names item (Move moved) = move_lines names item moved
 
--- what stands below the step's line
-abbrev pub below : Named → Option Item → Option Handled → List ℕ
-below names (Some (ToMachine item)) (Some handled) = handled_lines names item handled
-below names item handled = []
+-- a step of a shard
+abbrev pub is_work : Step → Bool
+is_work (Work shard) = true
+is_work step = false
 
--- an entry: its step, and below it what became of an item that was handled
+-- what became of an item for a machine, where there is one
+abbrev pub became : Named → Option Item → Option Handled → List ℕ
+became names (Some (ToMachine item)) (Some handled) = handled_lines names item handled
+became names item handled = []
+
+-- what stands below a step's line
+abbrev pub below : Named → Step → Option Item → Option Handled → List ℕ
+below names step item handled = if is_work step then became names item handled else []
+
+-- an entry: its step, and below a `work` what became of the item
 abbrev pub entry_lines : Named → Entry → List ℕ
-entry_lines names entry = line_of names.names entry.step ++ codes "\n" ++ below names entry.item entry.handled
+entry_lines names entry = line_of names.names entry.step ++ codes "\n" ++ below names entry.step entry.item entry.handled
 
 -- a log: its entries
 abbrev pub log_lines : Named → List Entry → List ℕ

@@ -13,11 +13,10 @@ use Rattle.bench_item.specs.declared.item.Item.TheVariants.{ToMachine}
 use Rattle.bench_item.specs.declared.key.Role.TheVariants.{Peer}
 use Rattle.bench_item.specs.declared.limit.TheConstants.{MAX_ENTRIES}
 use Rattle.bench_item.specs.declared.step.Step.{Step}
-use Rattle.bench_item.specs.declared.step.Step.TheVariants.{Work}
 use Rattle.step_text.specs.Lines.{line_of}
 use Rattle.step_text.specs.Steps.{IsStep}
 use Rattle.log_text.specs.Books.{Named}
-use Rattle.log_text.specs.EntryLines.{is_booking}
+use Rattle.log_text.specs.EntryLines.{is_booking, is_work}
 use Rattle.log_text.specs.ItemLines.{IsItemLine}
 use Rattle.log_text.specs.DeedLines.{IsDeedLine}
 use Rattle.log_text.specs.declared.item_line.Who.{Who}
@@ -34,10 +33,6 @@ ended line = line ++ codes "\n"
 abbrev pub begins_blank : List ℕ → Bool
 begins_blank [] = false
 begins_blank (c ∷ cs) = c == 32
-
-abbrev pub is_work : Step → Bool
-is_work (Work shard) = true
-is_work step = false
 
 abbrev pub is_moved : ItemLine → Bool
 is_moved (moved who before after row) = true

@@ -3,11 +3,11 @@ ghost use Rattle.std.specs.Prelude.{◌≡◌, ◌++◌, OnOk, slice_get};
 ghost use Rattle.std.specs.List.{flat_map};
 ghost use Rattle.std.specs.Option.{option_map};
 ghost use Rattle.log_text.specs.Books.{named};
-ghost use Rattle.log_text.specs.EntryLines.{below, entry_lines, handled_lines, item_text, log_lines, move_lines, moved_line, row_text, stale_line, state_text};
+ghost use Rattle.log_text.specs.EntryLines.{below, entry_lines, handled_lines, is_work, item_text, log_lines, move_lines, moved_line, row_text, stale_line, state_text};
 
 use crate::book::NameBook;
 use crate::deeds::put_deed_lines;
-use bench_item::{Entry, Handled, Item, Key, MachineItem, Moved, Role};
+use bench_item::{Entry, Handled, Item, Key, MachineItem, Moved, Role, Step};
 use bench_text::put_number;
 use event_text::put_name;
 use std::alloc::AllocError;
@@ -131,16 +131,27 @@ fn put_handled(
     }
 }
 
+/// Whether a shard handles an item.
+pub(crate) fn is_work(step: &Step) -> bool
+    ensures { result ≡ is_work step.now }
+{
+    matches!(step, Step::Work(_))
+}
+
 /// What stands below the step's line.
 fn put_below(
     out: &mut Vec<u8>,
     names: &NameBook<'_>,
+    step: &Step,
     item: Option<&Item>,
     handled: Option<&Handled>,
 ) -> Result<(), AllocError>
     ensures { OnOk result (out.new.items ≡ out.old.items
-        ++ below (named names.now) (option_map (λ item. item.now) item.entry) (option_map (λ handled. handled.now) handled.entry)) }
+        ++ below (named names.now) step.now (option_map (λ item. item.now) item.entry) (option_map (λ handled. handled.now) handled.entry)) }
 {
+    if !is_work(step) {
+        return Ok(());
+    }
     match (item, handled) {
         (Some(Item::ToMachine(item)), Some(handled)) => put_handled(out, names, item, handled),
         _ => Ok(()),
@@ -153,7 +164,13 @@ pub fn put_entry(out: &mut Vec<u8>, names: &NameBook<'_>, entry: &Entry) -> Resu
 {
     write_step(out, names.laws, names.machines, &entry.step)?;
     out.extend_from_slice(b"\n")?;
-    put_below(out, names, entry.item.as_ref(), entry.handled.as_ref())
+    put_below(
+        out,
+        names,
+        &entry.step,
+        entry.item.as_ref(),
+        entry.handled.as_ref(),
+    )
 }
 
 /// Puts the entries of a log, in order.

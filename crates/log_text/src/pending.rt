@@ -1,5 +1,6 @@
 //! What is read so far of a log's text.
-ghost use Rattle.std.specs.Prelude.{◌≡◌, ◌≢◌, ◌<◌, [], None};
+ghost use Rattle.std.specs.Prelude.{◌≡◌, ◌≢◌, ◌<◌, [], None, true};
+ghost use Rattle.log_text.specs.EntryLines.{is_work};
 
 use crate::deed_line::DeedLine;
 use crate::item_line::ItemLine;
@@ -14,6 +15,7 @@ pub(crate) struct Pending {
     /// What the lines below that tell.
     pub(crate) deeds: Vec<DeedLine>,
     ghost waits: { item ≡ None → deeds.items ≡ [] },
+    ghost works: { item ≢ None → is_work step ≡ true },
 }
 
 impl Pending {

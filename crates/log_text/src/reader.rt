@@ -5,12 +5,13 @@ ghost use Rattle.step_text.specs.declared.read.StepTextFault.TheVariants.{BadLin
 ghost use Rattle.log_text.specs.Books.{named};
 ghost use Rattle.log_text.specs.EntryLines.{entry_lines, log_lines};
 ghost use Rattle.log_text.specs.ItemLines.{AreWords};
-ghost use Rattle.log_text.specs.Following.{IsReading, MayStandBelow, MayFollow, begins_blank, ended, MayBegin, entries_of, entry_of, is_moved, is_work, item_of, move_of, nobody, outcomes_of};
+ghost use Rattle.log_text.specs.Following.{IsReading, MayStandBelow, MayFollow, begins_blank, ended, MayBegin, entries_of, entry_of, is_moved, item_of, move_of, nobody, outcomes_of};
 ghost use Rattle.tab_law.specs.declared.limits.TheConstants.{PLACES};
 
 use crate::book::NameBook;
 use crate::deed_line::{DeedLine, read_deed};
 use crate::deeds::is_booking;
+use crate::entries::is_work;
 use crate::item_line::{ItemLine, Who, read_item};
 use crate::pending::{Pending, Reader};
 use acct_totals::Outcome;
@@ -21,13 +22,6 @@ use std::alloc::{AllocError, Global};
 use step_text::{StepTextFault, read_step};
 use tab_law::{Deed, PLACES};
 use tab_step::{Event, MachineState};
-
-/// Whether a shard handles an item.
-fn is_work(step: &Step) -> bool
-    ensures { result ≡ is_work step.now }
-{
-    matches!(step, Step::Work(_))
-}
 
 /// Whether a line tells a move.
 fn is_moved(item: &ItemLine) -> bool
