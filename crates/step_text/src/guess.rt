@@ -45,7 +45,11 @@ fn came_of(alloc: Global, words: &mut Pieces<'_>) -> Result<Option<Step>, AllocE
 }
 
 /// The place of the kind that the next word names.
-pub fn next_kind(alloc: Global, laws: &LawBook, words: &mut Pieces<'_>) -> Result<Option<u8>, AllocError>
+pub fn next_kind(
+    alloc: Global,
+    laws: &LawBook,
+    words: &mut Pieces<'_>,
+) -> Result<Option<u8>, AllocError>
     ensures value { IfOk result (λ kind. kind ≡ kind_of laws.now.kinds (pieces_left words.old)) }
     ensures rest { IfOk result (λ kind. OnSome kind (pieces_left words.new ≡ rest_of (pieces_left words.old))) }
 {
