@@ -1,6 +1,6 @@
 -- The deed that a printed line can be is one that prints so.
 use Rattle.std.proofs.Common.{◌≡◌, ◌<◌, ◌≤◌, ℕ, ◌+◌, ◌^◌, ◌==◌, Bool, true, false, cond, List, [], ◌∷◌, ◌++◌, length, replicate, length-append, append_assoc, refl, ap, ◌∙◌, sym, subst, Option, Some, None, suc, arith}
-use Rattle.std.specs.Prelude.{All, codes, decimal, find, map, nat_lt, option_map, slice_set}
+use Rattle.std.specs.Prelude.{All, codes, decimal, map, nat_lt, option_map, slice_set}
 use Rattle.std.specs.List.{flat_map, list_all}
 use Rattle.std.specs.Str.{bytes_eq}
 use Rattle.std.proofs.lemmas.Bool.{eqb-true}
@@ -20,6 +20,7 @@ use Rattle.event_text.specs.Deeds.{deed_name, name_or, without_last_zeros}
 use Rattle.tab_law.specs.declared.limits.TheConstants.{PLACES}
 use Rattle.text_parts.specs.Pieces.{pieces_in}
 use Rattle.step_text.specs.Lines.{behind}
+use Rattle.step_text.proofs.GuessLemmas.{passes}
 use Rattle.step_text.proofs.DecimalLemmas.{decimal-without, number_of-decimal}
 use Rattle.step_text.proofs.SolidLemmas.{and_both, are_solid, is_solid, split-behind}
 use Rattle.log_text.specs.DeedLines.{IsDone, IsDeedLine, IsOutcome, args_of, behind_four, behind_stop, code_of, deed_in, deed_line, guess_deed, named_code, outcome_of, put_args, put_with, stop_of}
@@ -149,17 +150,6 @@ no_number Release = refl
 no_number Charge = refl
 no_number Refund = refl
 no_number Service = refl
-
--- what a search finds passes
-passes : {T : Type 0} (p : T → Bool) (xs : List T) (x : T) → find p xs ≡ Some x → p x ≡ true
-passes p [] x found = absurd (cc)
-passes p (y ∷ xs) x found = elim (p y) as (λ b. p y ≡ b → cond b (Some y) (find p xs) ≡ Some x → p x ≡ true) [
-  | true ↦ λ e h. subst (λ z. p z ≡ true) (some-is y x h) e
-  | false ↦ λ e h. passes p xs x h
-] refl found
-  where
-    some-is : {X : Type 0} (a b : X) → Some a ≡ Some b → a ≡ b
-    some-is a b e = cc
 
 -- a code that has a name has that number
 coded-number : (code : ℕ) (named : DeedCode) → coded code ≡ Some named → number_of named ≡ code

@@ -95,7 +95,8 @@ own_entry entries k e own here =
     let same : found.place ≡ k = grind arith in
     entry_of-place e.name entries found.place found.is ∙ ap (slice_get entries) same ∙ here
 
-passes : {T : Type 0} (p : T → Bool) (xs : List T) (x : T) → find p xs ≡ Some x → p x ≡ true
+-- what a search finds passes
+pub passes : {T : Type 0} (p : T → Bool) (xs : List T) (x : T) → find p xs ≡ Some x → p x ≡ true
 passes p [] x found = absurd (cc)
 passes p (y ∷ xs) x found = elim (p y) as (λ b. p y ≡ b → cond b (Some y) (find p xs) ≡ Some x → p x ≡ true) [
   | true ↦ λ e h. subst (λ z. p z ≡ true) (some-is y x h) e
