@@ -1,5 +1,5 @@
 -- The entry whose lines are being read, and which line may stand behind it.
-use Rattle.std.specs.Prelude.{◌≡◌, ◌<◌, ◌==◌, ◌&&◌, ◌⊎◌, ℕ, Bool, true, false, List, [], ◌∷◌, ◌++◌, length, filter, map, replicate, Option, Some, None, codes, is_none}
+use Rattle.std.specs.Prelude.{◌≡◌, ◌<◌, ◌==◌, ◌&&◌, ◌⊎◌, ℕ, Bool, true, false, List, [], ◌∷◌, ◌++◌, length, filter, map, replicate, Option, Some, None, codes, not}
 use Rattle.acct_totals.specs.declared.op.Outcome.{Outcome}
 use Rattle.tab_law.specs.declared.limits.TheConstants.{PLACES}
 use Rattle.tab_step.specs.declared.machine.Event.{Event}
@@ -90,9 +90,14 @@ entries_of reader = reader.log.entries ++ last_of reader.pending
 abbrev pub IsReading : Reader → Type 0
 IsReading reader = reader.pending ≡ None → reader.log.entries ≡ []
 
+-- something stands below a `work`
+abbrev pub stands : Option Item → Option Handled → Bool
+stands (Some (ToMachine item)) (Some told) = true
+stands item told = false
+
 -- a `work` below which nothing stands
 abbrev pub is_waiting : Entry → Bool
-is_waiting entry = is_work entry.step && is_none entry.handled
+is_waiting entry = is_work entry.step && not (stands entry.item entry.handled)
 
 -- a move
 abbrev pub is_move : Entry → Bool
