@@ -4,8 +4,8 @@ ghost use Rattle.std.specs.Prelude.{IfOk};
 ghost use Rattle.tab_step.specs.Bind.{IsBoundTo};
 ghost use Rattle.tab_load.specs.Loading.{IsLoaded};
 
-use crate::tests::assembled::IMAGE;
-use crate::tests::loaded::IMAGE_1;
+use crate::assembled::IMAGE;
+use crate::loaded::IMAGE_1;
 use base_list::AddError;
 use std::alloc::{AllocError, Global};
 use std::test::Fail;

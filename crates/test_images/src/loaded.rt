@@ -1,6 +1,6 @@
 //! Images that are loaded, and those that are refused.
 
-use crate::tests::assembled::{IMAGE, book_of, deep, image_of, wide};
+use crate::assembled::{IMAGE, book_of, deep, image_of, wide};
 use base_list::AddError;
 use std::alloc::Global;
 use std::test::Fail;
