@@ -1,17 +1,19 @@
 -- What the wheel shows of its places, owner by owner.
-use Rattle.std.proofs.Common.{◌≡◌, ℕ, ◌≤◌, Bool, true, false, not, cond, ◌||◌, List, [], ◌∷◌, Option, Some, None, Result, Ok, Err, OnErr, refl, sym, ap, subst, ◌∙◌, true≢false, is_some, nat_eq, eqb-true, arith}
+use Rattle.std.proofs.Common.{◌≡◌, ◌≢◌, ℕ, ◌≤◌, min, Bool, true, false, not, cond, ◌||◌, List, [], ◌∷◌, ◌++◌, length, append_assoc, Option, Some, None, Result, Ok, Err, OnErr, refl, sym, ap, subst, ◌∙◌, true≢false, is_some, nat_eq, eqb-true, arith}
 use Rattle.std.specs.Option.{unwrap_or, option_map, IsSome, IfSome}
-use Rattle.std.specs.List.{list_any}
+use Rattle.std.specs.List.{list_any, cons_option}
 use Rattle.std.specs.Map.{lookup, set_value, keys_of}
 use Rattle.std.specs.Cmp.{unsigned_tied, nat_cmp_total, nat_eq_equiv}
 use Rattle.std.specs.Ordering.{nat_cmp}
 use Rattle.std.specs.FinMap as fin
 use Rattle.std.specs.FinSet as set
+use Rattle.std.proofs.lemmas.List.{length-append}
 use Rattle.std.proofs.lemmas.Map.Made.{is_some-lookup, lookup-map_values}
 use Rattle.std.proofs.lemmas.Map.{lookup-set_value}
 use Rattle.tick_wheel.specs.declared.timer.Armed.{Armed}
+use Rattle.tick_wheel.specs.declared.timer.Firing.{Firing}
 use Rattle.tick_wheel.specs.Timers.{ByOwner, with_timer, is_due}
-use Rattle.tick_wheel.specs.Places.{Place, armed_of, bound_with, left_at, places_at, next_due, NoneDueBefore}
+use Rattle.tick_wheel.specs.Places.{Place, armed_of, bound_with, firing_of, firings_of, later_due, left_at, places_at, next_due, NoneDueBefore}
 
 -- no place of the owner: nothing is put
 pub set_value-absent : {X : Type 0} (test : ℕ → Bool) (es : List (ℕ × X)) (w : X) → lookup test es ≡ None
@@ -209,3 +211,36 @@ bound_with-allows bound (Some timer) = (omega arith, omega arith)
 pub of_error : {T E : Type 0} (r : Result T E) (P : Type 0) → P → OnErr r P
 of_error (Ok x) P p = tt
 of_error (Err e) P p = p
+
+-- a place was looked at that has a firing: it goes behind what was found
+pub found-some : (now : ℕ) (due new all : List Firing) (left rest : List Place) (place : Place) (firing : Firing)
+    → due ++ firings_of now left ≡ all → left ≡ place ∷ rest → firing_of now place ≡ Some firing → new ≡ due ++ firing ∷ []
+    → new ++ firings_of now rest ≡ all
+found-some now due new all left rest place firing found steps some more =
+    ap (λ xs. xs ++ firings_of now rest) more
+    ∙ append_assoc due (firing ∷ []) (firings_of now rest)
+    ∙ ap (λ o. due ++ cons_option o (firings_of now rest)) (sym some)
+    ∙ ap (λ xs. due ++ firings_of now xs) (sym steps)
+    ∙ found
+
+-- one that has none
+pub found-none : (now : ℕ) (due all : List Firing) (left rest : List Place) (place : Place)
+    → due ++ firings_of now left ≡ all → left ≡ place ∷ rest → firing_of now place ≡ None → due ++ firings_of now rest ≡ all
+found-none now due all left rest place found steps none =
+    ap (λ o. due ++ cons_option o (firings_of now rest)) (sym none) ∙ ap (λ xs. due ++ firings_of now xs) (sym steps) ∙ found
+
+-- the least due moment, with one more place looked at
+pub least-step : (now least later earliest all : ℕ) (left rest : List Place) (place : Place)
+    → min earliest (next_due now left) ≡ all → left ≡ place ∷ rest → later ≡ later_due now place.1 → least ≡ min earliest later
+    → min least (next_due now rest) ≡ all
+least-step now least later earliest all left rest place found steps is with_it =
+    let e = ap (next_due now) steps in omega arith
+
+-- where a firing was left to be added, some timer is due
+pub found-not_none : (now : ℕ) (due all : List Firing) (left rest : List Place) (place : Place) (firing : Firing)
+    → due ++ firings_of now left ≡ all → left ≡ place ∷ rest → firing_of now place ≡ Some firing → all ≢ []
+found-not_none now due all left rest place firing found steps some none =
+    let e = ap length (found-some now due (due ++ firing ∷ []) all left rest place firing found steps some refl ∙ none) in
+    let a = length-append (due ++ firing ∷ []) (firings_of now rest) in
+    let b = length-append due (firing ∷ []) in
+    omega arith
