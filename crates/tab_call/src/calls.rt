@@ -1,11 +1,11 @@
 //! The callbacks of a role, added to a registry.
 
-ghost use Rattle.std.specs.Prelude.{◌≡◌, ◌++◌, ◌↔◌, IsTrue, OnOk, OnErr, map};
-ghost use Rattle.tab_role.specs.Roles.{AreCallsOf, joined, IsAnswer, IsOnto};
+ghost use Rattle.std.specs.Prelude.{◌≡◌, ◌↔◌, IsTrue, map};
+ghost use Rattle.tab_role.specs.Roles.{AreCallsOf, IsAnswer};
 
 use crate::registry::Registry;
 use crate::stored::{StoredAct, StoredGuard};
-use base_list::{AddError, NamedList};
+use base_list::NamedList;
 use tab_law::{ActLaw, GuardLaw, LawBook};
 use tab_role::{RegisterError, TakesRoles, is_full, is_taken};
 
@@ -58,61 +58,20 @@ impl Calls {
     }
 }
 
-impl Registry {
-    /// Adds the kinds of a role. Those before stay where memory runs out.
-    fn add_kinds(&mut self, role: &LawBook) -> Result<(), AddError>
-        ensures ok { OnOk result (self.new.book ≡ record self.old.book { kinds = self.old.book.kinds ++ role.now.kinds }) }
-        ensures onto { IsOnto self.old.book self.new.book }
-    {
-        for entry in role.kinds().as_slice() {
-            self.add_kind(entry.name.as_slice())?;
-        }
-        Ok(())
+/// Why a role is not added to a book with these callbacks, memory aside.
+fn check_role(role: &LawBook, there: &LawBook, calls: &Calls) -> Result<(), RegisterError>
+    ensures { IsAnswer role.now there.now (map (λ guard. guard.law) calls.now.guards.items) (map (λ act. act.law) calls.now.acts.items) result }
+{
+    if !calls.are_of(role) {
+        return Err(RegisterError::Laws);
     }
-
-    /// Adds the guards of a role, with callbacks that keep its laws. Those before stay where memory runs out.
-    fn add_guards(&mut self, role: &LawBook, guards: Vec<StoredGuard>) -> Result<(), AddError>
-        requires { map (λ guard. guard.law) guards.items ≡ map (λ entry. entry.value) role.now.guards }
-        ensures ok { OnOk result (self.new.book ≡ record self.old.book { guards = self.old.book.guards ++ role.now.guards }) }
-        ensures onto { IsOnto self.old.book self.new.book }
-    {
-        let mut guards = guards.into_iter();
-        for entry in role.guards().as_slice() {
-            let Some(guard) = guards.next() else {
-                unreachable!();
-            };
-            self.add_guard(entry.name.as_slice(), guard)?;
-        }
-        Ok(())
+    if is_taken(role, there) {
+        return Err(RegisterError::Taken);
     }
-
-    /// Adds the actions of a role, with callbacks that keep its laws. Those before stay where memory runs out.
-    fn add_acts(&mut self, role: &LawBook, acts: Vec<StoredAct>) -> Result<(), AddError>
-        requires { map (λ act. act.law) acts.items ≡ map (λ entry. entry.value) role.now.acts }
-        ensures ok { OnOk result (self.new.book ≡ record self.old.book { acts = self.old.book.acts ++ role.now.acts }) }
-        ensures onto { IsOnto self.old.book self.new.book }
-    {
-        let mut acts = acts.into_iter();
-        for entry in role.acts().as_slice() {
-            let Some(act) = acts.next() else {
-                unreachable!();
-            };
-            self.add_act(entry.name.as_slice(), act)?;
-        }
-        Ok(())
+    if is_full(role, there) {
+        return Err(RegisterError::Full);
     }
-
-    /// Adds a role. What was added stays where memory runs out.
-    fn add_role(&mut self, role: &LawBook, calls: Calls) -> Result<(), AddError>
-        requires { AreCallsOf role.now (map (λ guard. guard.law) calls.guards.items) (map (λ act. act.law) calls.acts.items) }
-        ensures ok { OnOk result (self.new.book ≡ joined role.now self.old.book) }
-        ensures onto { IsOnto self.old.book self.new.book }
-    {
-        let Calls { guards, acts } = calls;
-        self.add_kinds(role)?;
-        self.add_guards(role, guards)?;
-        self.add_acts(role, acts)
-    }
+    Ok(())
 }
 
 impl TakesRoles for Registry {
@@ -125,23 +84,12 @@ impl TakesRoles for Registry {
     ghost done = { λ calls. map (λ act. act.law) calls.acts.items };
 
     fn register(&mut self, laws: &LawBook, calls: Calls) -> Result<(), RegisterError> {
-        if !calls.are_of(laws) {
-            return Err(RegisterError::Laws);
-        }
-        if is_taken(laws, self.laws()) {
-            return Err(RegisterError::Taken);
-        }
-        if is_full(laws, self.laws()) {
-            return Err(RegisterError::Full);
-        }
-        let kinds = self.laws().kinds().len();
-        let guards = self.laws().guards().len();
-        let acts = self.laws().acts().len();
+        check_role(laws, self.laws(), &calls)?;
+        let Calls { guards, acts } = calls;
         // Every name is free and there is room, so what an addition lacks is memory.
-        if self.add_role(laws, calls).is_err() {
-            self.truncate(kinds, guards, acts);
-            return Err(RegisterError::NoMemory);
+        match self.add_role(laws, guards, acts) {
+            Ok(()) => Ok(()),
+            Err(_) => Err(RegisterError::NoMemory),
         }
-        Ok(())
     }
 }

@@ -9,6 +9,7 @@
 //! [`LawBook`]: tab_law::LawBook
 #![tactic(auto)]
 
+mod adding;
 mod calls;
 mod registry;
 mod stored;

@@ -1,12 +1,15 @@
-ghost use Rattle.std.specs.Prelude.{◌≡◌, ◌<◌, ◌++◌, ◌∷◌, [], None, length, map, take, OnOk, OnErr, IfErr};
+ghost use Rattle.std.specs.Prelude.{◌≡◌, ◌<◌, ◌≤◌, ◌+◌, ◌++◌, ◌∷◌, [], None, length, map, take, OnOk, OnErr, IfErr, vec_len, vec_capacity};
 ghost use Rattle.base_list.specs.Adding.{error_of};
 ghost use Rattle.base_list.specs.Named.{refusal};
+ghost use Rattle.base_list.specs.declared.error.AddError.TheVariants.{NoMemory};
 ghost use Rattle.tab_law.specs.Books.{guard_answer, ActPermits};
+ghost use Rattle.tab_role.specs.Roles.{AreCallsOf, joined};
 
+use crate::adding::add_laws;
 use crate::stored::{StoredAct, StoredGuard};
-use base_list::{AddError, Refused};
+use base_list::{AddError, AddFault, Refused};
 use std::alloc::Global;
-use tab_law::{Acted, LawBook, MAX_ACTIONS, MAX_GUARDS, MAX_KINDS, Scene};
+use tab_law::{ActLaw, Acted, GuardLaw, LawBook, MAX_ACTIONS, MAX_GUARDS, MAX_KINDS, Scene};
 
 /// Kinds of events, and callbacks of guards and of actions, each under its name. Only the last ones are ever
 /// taken out, so a place stays that of its name. The book has each callback's law in the callback's place.
@@ -31,6 +34,47 @@ impl Drop for Registry {
             acts,
         } = self;
     }
+}
+
+/// Makes room for one more callback, unless that is refused.
+fn make_room<T>(refusal: Option<AddFault>, stored: &mut Vec<T>) -> Result<(), AddError>
+    ensures free { OnOk result (refusal ≡ None) }
+    ensures fault { IfErr result (λ e. e ≡ error_of refusal) }
+    ensures stored { stored.new.items ≡ stored.old.items }
+    ensures room { OnOk result (vec_len stored.new < vec_capacity stored.new) }
+{
+    if let Some(fault) = refusal {
+        return Err(AddError::Fault(fault));
+    }
+    stored.try_reserve(1)?;
+    Ok(())
+}
+
+/// Adds a copy of a guard's law to a book where nothing but memory stands against it.
+fn add_guard_law(
+    alloc: Global,
+    book: &mut LawBook,
+    name: &[u8],
+    law: &GuardLaw,
+) -> Result<(), AddError>
+    requires { refusal MAX_GUARDS name.now book.old.guards ≡ None }
+    ensures ok { OnOk result (book.new ≡ record book.old { guards = book.old.guards ++ record { name = name.now; value = law.now } ∷ [] }) }
+    ensures err { IfErr result (λ e. (e ≡ NoMemory) × (book.new ≡ book.old)) }
+{
+    let law = law.copy(alloc)?;
+    book.add_guard(name, law)?;
+    Ok(())
+}
+
+/// Adds a copy of an action's law to a book where nothing but memory stands against it.
+fn add_act_law(alloc: Global, book: &mut LawBook, name: &[u8], law: &ActLaw) -> Result<(), AddError>
+    requires { refusal MAX_ACTIONS name.now book.old.acts ≡ None }
+    ensures ok { OnOk result (book.new ≡ record book.old { acts = book.old.acts ++ record { name = name.now; value = law.now } ∷ [] }) }
+    ensures err { IfErr result (λ e. (e ≡ NoMemory) × (book.new ≡ book.old)) }
+{
+    let law = law.copy(alloc)?;
+    book.add_act(name, law)?;
+    Ok(())
 }
 
 impl Registry {
@@ -88,19 +132,11 @@ impl Registry {
         ensures back { IfErr result (λ r. r.back ≡ guard) }
         ensures err { OnErr result (self.new.book ≡ self.old.book) }
     {
-        if let Some(fault) = self.book.guards().refusal(MAX_GUARDS, name) {
-            let error = AddError::Fault(fault);
+        let refusal = self.book.guards().refusal(MAX_GUARDS, name);
+        if let Err(error) = make_room(refusal, &mut self.guards) {
             return Err(Refused { error, back: guard });
         }
-        let error = AddError::NoMemory;
-        let Ok(law) = guard.law.copy(self.alloc) else {
-            return Err(Refused { error, back: guard });
-        };
-        if self.guards.try_reserve(1).is_err() {
-            return Err(Refused { error, back: guard });
-        }
-        if let Err(refused) = self.book.add_guard(name, law) {
-            let error = refused.error;
+        if let Err(error) = add_guard_law(self.alloc, &mut self.book, name, &guard.law) {
             return Err(Refused { error, back: guard });
         }
         match self.guards.push(guard) {
@@ -117,24 +153,36 @@ impl Registry {
         ensures back { IfErr result (λ r. r.back ≡ act) }
         ensures err { OnErr result (self.new.book ≡ self.old.book) }
     {
-        if let Some(fault) = self.book.acts().refusal(MAX_ACTIONS, name) {
-            let error = AddError::Fault(fault);
+        let refusal = self.book.acts().refusal(MAX_ACTIONS, name);
+        if let Err(error) = make_room(refusal, &mut self.acts) {
             return Err(Refused { error, back: act });
         }
-        let error = AddError::NoMemory;
-        let Ok(law) = act.law.copy(self.alloc) else {
-            return Err(Refused { error, back: act });
-        };
-        if self.acts.try_reserve(1).is_err() {
-            return Err(Refused { error, back: act });
-        }
-        if let Err(refused) = self.book.add_act(name, law) {
-            let error = refused.error;
+        if let Err(error) = add_act_law(self.alloc, &mut self.book, name, &act.law) {
             return Err(Refused { error, back: act });
         }
         match self.acts.push(act) {
             Ok(()) => Ok(()),
             Err(_) => unreachable!(),
+        }
+    }
+
+    /// Adds a role with its callbacks, whole or not at all.
+    pub(crate) fn add_role(
+        &mut self,
+        role: &LawBook,
+        mut guards: Vec<StoredGuard>,
+        mut acts: Vec<StoredAct>,
+    ) -> Result<(), AddError>
+        requires { AreCallsOf role.now (map (λ guard. guard.law) guards.items) (map (λ act. act.law) acts.items) }
+        ensures ok { OnOk result (self.new.book ≡ joined role.now self.old.book) }
+        ensures err { OnErr result (self.new.book ≡ self.old.book) }
+    {
+        self.guards.try_reserve(guards.len())?;
+        self.acts.try_reserve(acts.len())?;
+        add_laws(self.alloc, &mut self.book, role)?;
+        match (self.guards.append(&mut guards), self.acts.append(&mut acts)) {
+            (Ok(()), Ok(())) => Ok(()),
+            _ => unreachable!(),
         }
     }
 
