@@ -52,9 +52,15 @@ pub enum Field {
 }
 
 /// At most [`MAX_NUMBERS`] numbers.
-#[derive(Drop)]
 pub struct Numbers {
     items: Vec<u64>,
+}
+
+// A derived `drop` is proved anew in each crate that holds one; this one, like those below, is a call.
+impl Drop for Numbers {
+    fn drop(self) {
+        let Numbers { items } = self;
+    }
 }
 
 impl Model for Numbers {
@@ -139,9 +145,14 @@ impl Test {
 }
 
 /// When a guard says yes: where all its tests are met, of which it has at most [`MAX_TESTS`].
-#[derive(Drop)]
 pub struct GuardLaw {
     tests: Vec<Test>,
+}
+
+impl Drop for GuardLaw {
+    fn drop(self) {
+        let GuardLaw { tests } = self;
+    }
 }
 
 impl Model for GuardLaw {
@@ -198,9 +209,14 @@ impl GuardLaw {
 }
 
 /// The arguments of a deed, in order: at most [`PLACES`] terms. Arguments behind them are 0.
-#[derive(Drop)]
 pub struct Terms {
     items: Vec<Term>,
+}
+
+impl Drop for Terms {
+    fn drop(self) {
+        let Terms { items } = self;
+    }
 }
 
 impl Model for Terms {
@@ -307,9 +323,14 @@ impl Change {
 
 /// What an action may answer: of a register the last Set or Pick counts, of Emits and EmitIfs the
 /// first four, and registers without a change stay.
-#[derive(Drop)]
 pub struct ActLaw {
     changes: Vec<Change>,
+}
+
+impl Drop for ActLaw {
+    fn drop(self) {
+        let ActLaw { changes } = self;
+    }
 }
 
 impl Model for ActLaw {
