@@ -198,8 +198,7 @@ fn has_vendor_7_and_none(list: &AvpList) -> bool {
 }
 
 /// Whether the first of a list, and an AVP of vendor 0 behind it, are written as `VENDORS_WRITTEN`.
-fn writes_vendors(list: &AvpList, out: &mut Vec<u8>) -> Result<bool, Fail> {
-    let seven = list.get(0).ok_or("no first AVP")?;
+fn writes_vendors(list: &AvpList, out: &mut Vec<u8>) -> bool {
     let zero = AvpView {
         code: 2,
         vendor: Some(0),
@@ -207,17 +206,28 @@ fn writes_vendors(list: &AvpList, out: &mut Vec<u8>) -> Result<bool, Fail> {
         protected: false,
         octets: &[],
     };
-    write_avp(&seven.view(), out)?;
-    write_avp(&zero, out)?;
-    Ok(out.as_slice() == VENDORS_WRITTEN.as_slice())
+    match list.get(0) {
+        None => false,
+        Some(seven) => {
+            write_avp(&seven.view(), out).is_ok()
+                && write_avp(&zero, out).is_ok()
+                && out.as_slice() == VENDORS_WRITTEN.as_slice()
+        }
+    }
+}
+
+/// Whether `VENDORS` are read so, and written so.
+fn are_vendors(alloc: Global) -> bool {
+    let mut out = Vec::new(alloc);
+    match read_avps(alloc, &VENDORS, 0) {
+        Err(_) => false,
+        Ok(list) => has_vendor_7_and_none(&list) && writes_vendors(&list, &mut out),
+    }
 }
 
 #[test]
-fn vendor_0_is_none(rt: HostRuntime) -> Result<(), Fail> {
-    let list = read_avps(rt.alloc(), &VENDORS, 0)?;
-    let mut out = Vec::new(rt.alloc());
-    assert!(rt; has_vendor_7_and_none(&list) && writes_vendors(&list, &mut out)?);
-    Ok(())
+fn vendor_0_is_none(rt: HostRuntime) {
+    assert!(rt; are_vendors(rt.alloc()));
 }
 
 /// Data, and the Unsigned32 that they are.
@@ -541,29 +551,32 @@ fn a_group_is_avps_at_most_128_within_at_most_4_levels(rt: HostRuntime) {
 }
 
 /// Whether data are too long for the AVP of a list.
-fn is_refused_in_list(alloc: Global, data: &[u8], out: &mut Vec<u8>) -> Result<bool, AllocError> {
+fn is_refused_in_list(alloc: Global, data: &[u8], out: &mut Vec<u8>) -> bool {
     let mut list = AvpList::new(alloc);
-    list.push(avp_of(alloc, data)?)?;
-    Ok(write_avps(&list, out) == Err(WriteError::LengthOver24Bits))
+    match avp_of(alloc, data) {
+        Err(_) => false,
+        Ok(avp) => {
+            list.push(avp).is_ok() && write_avps(&list, out) == Err(WriteError::LengthOver24Bits)
+        }
+    }
 }
 
 /// Whether the longest data are written, and with an octet more nothing is.
-fn is_longest(alloc: Global, data: &mut Vec<u8>, out: &mut Vec<u8>) -> Result<bool, Fail> {
-    data.resize(0xff_fff7, 1)?;
-    write_avp(&view_of(data), out)?;
-    let is_written = out.len() == 0x100_0000;
-    data.push(1)?;
-    let is_refused = write_avp(&view_of(data), out) == Err(WriteError::LengthOver24Bits);
-    let is_refused_in_list = is_refused_in_list(alloc, data, out)?;
-    Ok(is_written && is_refused && is_refused_in_list && out.len() == 0x100_0000)
+fn is_longest(alloc: Global, data: &mut Vec<u8>, out: &mut Vec<u8>) -> bool {
+    data.resize(0xff_fff7, 1).is_ok()
+        && write_avp(&view_of(data), out).is_ok()
+        && out.len() == 0x100_0000
+        && data.push(1).is_ok()
+        && write_avp(&view_of(data), out) == Err(WriteError::LengthOver24Bits)
+        && is_refused_in_list(alloc, data, out)
+        && out.len() == 0x100_0000
 }
 
 #[test]
-fn the_longest_avp_has_24_bits_of_length(rt: HostRuntime) -> Result<(), Fail> {
+fn the_longest_avp_has_24_bits_of_length(rt: HostRuntime) {
     let mut data = Vec::new(rt.alloc());
     let mut out = Vec::new(rt.alloc());
-    assert!(rt; is_longest(rt.alloc(), &mut data, &mut out)?);
-    Ok(())
+    assert!(rt; is_longest(rt.alloc(), &mut data, &mut out));
 }
 
 /// Whether a copy of octets is the same.
@@ -595,24 +608,39 @@ fn has_second_behind() -> bool {
     }
 }
 
-/// A list of the first AVP of `TWO`.
-fn first_of_two(alloc: Global) -> Result<AvpList, Fail> {
-    let (first, _) = first_avp(&TWO).map_err(|_| "no AVP")?;
-    let first = first.to_avp(alloc)?;
-    let mut list = AvpList::with_capacity(alloc, 1)?;
-    list.push(first)?;
-    Ok(AvpList::from_vec(list.into_vec()))
+/// A list of the first AVP of `TWO`, where it has one and there is memory.
+fn first_of_two(alloc: Global) -> Option<AvpList> {
+    let Ok((first, _)) = first_avp(&TWO) else {
+        return None;
+    };
+    let Ok(avp) = first.to_avp(alloc) else {
+        return None;
+    };
+    match AvpList::with_capacity(alloc, 1) {
+        Err(_) => None,
+        Ok(mut list) => {
+            if list.push(avp).is_ok() {
+                Some(AvpList::from_vec(list.into_vec()))
+            } else {
+                None
+            }
+        }
+    }
+}
+
+/// Whether a list of the first AVP of `TWO` has one, and is written as it.
+fn has_first_of_two(alloc: Global) -> bool {
+    match first_of_two(alloc) {
+        None => false,
+        Some(list) => list.as_slice().len() == 1 && is_written(alloc, &list, &TWO[..20]),
+    }
 }
 
 #[test]
-fn what_takes_memory_answers_where_there_is_memory(rt: HostRuntime) -> Result<(), Fail> {
+fn what_takes_memory_answers_where_there_is_memory(rt: HostRuntime) {
     let alloc = rt.alloc();
     assert!(rt; are_kept(alloc, b"abc", 3) && are_kept(alloc, &[7; 33], 33));
-    let list = first_of_two(alloc)?;
-    assert!(rt;
-        has_second_behind() && list.as_slice().len() == 1 && is_written(alloc, &list, &TWO[..20])
-    );
-    Ok(())
+    assert!(rt; has_second_behind() && has_first_of_two(alloc));
 }
 
 /// An octet, then `TWO`, a Subscription-Id with `TWO` in it, and the first of `TWO`.
@@ -626,21 +654,57 @@ const PUT: [u8; 101] = [
     0, 0, 1, 8, 0x40, 0, 0, 0x11, 0x61, 0x2e, 0x65, 0x78, 0x61, 0x6d, 0x70, 0x6c, 0x65, 0, 0, 0,
 ];
 
+/// Puts a list of 36 octets behind others, where there is memory.
+#[tactic(auto, using(dia_avp::proofs::Encoded::short_inner))]
+fn puts_list(list: &AvpList, out: &mut Vec<u8>) -> bool {
+    let Some(36) = list.encoded_len() else {
+        return false;
+    };
+    let Ok(()) = out.reserve(36) else {
+        return false;
+    };
+    put_avps(list.as_slice(), out);
+    true
+}
+
+/// Puts a list of 36 octets as a group, which has 8 more.
+#[tactic(auto, using(dia_avp::proofs::Encoded::length_of_group, dia_avp::proofs::Encoded::length_encoded_group))]
+fn puts_group(list: &AvpList, out: &mut Vec<u8>) -> bool {
+    let Some(36) = list.encoded_len() else {
+        return false;
+    };
+    let Ok(()) = out.reserve(44) else {
+        return false;
+    };
+    put_group(443, true, false, list, out);
+    true
+}
+
+/// Puts an AVP of 20 octets.
+#[tactic(auto, using(dia_avp::proofs::Encoded::length_encoded))]
+fn puts_one(view: &AvpView<'_>, out: &mut Vec<u8>) -> bool {
+    if view.encoded_len() != 20 {
+        return false;
+    }
+    let Ok(()) = out.reserve(20) else {
+        return false;
+    };
+    put_avp(view, out);
+    true
+}
+
+/// Whether `TWO` as a list and as a group, and its first AVP, are put behind an octet as `PUT`.
+fn are_put(alloc: Global, list: &AvpList) -> bool {
+    let mut out = Vec::new(alloc);
+    out.push(9).is_ok()
+        && puts_list(list, &mut out)
+        && puts_group(list, &mut out)
+        && puts_one(&view_of(b"a.example"), &mut out)
+        && out.as_slice() == PUT.as_slice()
+}
+
 #[test]
-#[tactic(auto, using(dia_avp::proofs::Encoded::length_encoded, dia_avp::proofs::Encoded::length_of_group, dia_avp::proofs::Encoded::length_encoded_group, dia_avp::proofs::Encoded::short_inner))]
-fn avps_and_groups_are_put_where_there_is_room(rt: HostRuntime) -> Result<(), Fail> {
-    let list = read_avps(rt.alloc(), &TWO, 1)?;
-    let len = list.encoded_len().ok_or("too long")?;
-    assert!(rt; len == 36);
-    let view = view_of(b"a.example");
-    let one = view.encoded_len();
-    assert!(rt; one == 20);
-    let mut out = Vec::new(rt.alloc());
-    out.push(9)?;
-    out.reserve(len + len + 8 + one)?;
-    put_avps(list.as_slice(), &mut out);
-    put_group(443, true, false, &list, &mut out);
-    put_avp(&view, &mut out);
-    assert!(rt; out.as_slice() == PUT.as_slice());
-    Ok(())
+fn avps_and_groups_are_put_where_there_is_room(rt: HostRuntime) {
+    let list = read_avps(rt.alloc(), &TWO, 1);
+    assert!(rt; matches!(&list, Ok(list) if are_put(rt.alloc(), list)));
 }
