@@ -39,7 +39,7 @@ fn front(octets: &[u8], len: usize) -> &[u8] {
 }
 
 /// The octets of so many AVPs without data, and of so many zeros behind them.
-fn empty_avps(alloc: Global, count: usize, zeros: usize) -> Result<Vec<u8>, AllocError> {
+pub(crate) fn empty_avps(alloc: Global, count: usize, zeros: usize) -> Result<Vec<u8>, AllocError> {
     let mut octets = Vec::new(alloc);
     for _ in 0..count {
         octets.extend_from_slice(&[0, 0, 0, 1, 0, 0, 0, 8])?;
