@@ -384,19 +384,30 @@ fn comes_back(
     law: &GuardLaw,
     name: &[u8],
     fault: AddFault,
-) -> Result<bool, AllocError> {
-    match book.add_guard(name, law.copy(alloc)?) {
-        Ok(()) => Ok(false),
-        Err(refused) => { Ok(refused.error == AddError::Fault(fault) && refused.back.is_same(law)) }
+) -> bool {
+    let Ok(copy) = law.copy(alloc) else {
+        return false;
+    };
+    match &book.add_guard(name, copy) {
+        Ok(()) => false,
+        Err(refused) => refused.error == AddError::Fault(fault) && refused.back.is_same(law),
+    }
+}
+
+fn adds_guard(alloc: Global, book: &mut LawBook, law: &GuardLaw, name: &[u8]) -> bool {
+    match law.copy(alloc) {
+        Ok(copy) => book.add_guard(name, copy).is_ok(),
+        Err(_) => false,
     }
 }
 
 /// Adds a law as many times as a book may have guards.
-fn fill_guards(alloc: Global, book: &mut LawBook, law: &GuardLaw) -> Result<(), AddError> {
+fn adds_guards(alloc: Global, book: &mut LawBook, law: &GuardLaw) -> bool {
+    let mut all = true;
     for number in 0..MAX_GUARDS as u8 {
-        book.add_guard(&numbered(number), law.copy(alloc)?)?;
+        all = all && adds_guard(alloc, book, law, &numbered(number));
     }
-    Ok(())
+    all
 }
 
 /// Whether a full book has that law under its last name.
@@ -406,26 +417,34 @@ fn ends_with(book: &LawBook, law: &GuardLaw) -> bool {
         && book.guards().at(63).value.is_same(law)
 }
 
-fn guards_come_back(alloc: Global, law: &GuardLaw) -> Result<bool, AddError> {
+fn guards_come_back(alloc: Global, law: &GuardLaw) -> bool {
     let mut book = LawBook::new(alloc);
-    fill_guards(alloc, &mut book, law)?;
-    let taken = comes_back(alloc, &mut book, law, &numbered(63), AddFault::Taken)?;
-    let full = comes_back(alloc, &mut book, law, &numbered(64), AddFault::Full)?;
-    Ok(taken & full & ends_with(&book, law))
+    adds_guards(alloc, &mut book, law)
+        && comes_back(alloc, &mut book, law, &numbered(63), AddFault::Taken)
+        && comes_back(alloc, &mut book, law, &numbered(64), AddFault::Full)
+        && ends_with(&book, law)
 }
 
 #[test]
 fn a_guard_that_is_refused_comes_back(rt: HostRuntime) {
     let law = guard(rt.alloc(), Test::Below(Field::Register(2), Atom::Fact(3)));
-    assert!(rt; matches!(&law, Ok(law) if guards_come_back(rt.alloc(), law) == Ok(true)));
+    assert!(rt; matches!(&law, Ok(law) if guards_come_back(rt.alloc(), law)));
+}
+
+fn adds_act(alloc: Global, book: &mut LawBook, name: &[u8]) -> bool {
+    match reserve(alloc) {
+        Ok(law) => book.add_act(name, law).is_ok(),
+        Err(_) => false,
+    }
 }
 
 /// Adds an action as many times as a book may have actions.
-fn fill_acts(alloc: Global, book: &mut LawBook) -> Result<(), AddError> {
+fn adds_acts(alloc: Global, book: &mut LawBook) -> bool {
+    let mut all = true;
     for number in 0..MAX_ACTIONS as u8 {
-        book.add_act(&numbered(number), reserve(alloc)?)?;
+        all = all && adds_act(alloc, book, &numbered(number));
     }
-    Ok(())
+    all
 }
 
 /// Whether a full book has that law at a place.
@@ -435,18 +454,26 @@ fn has_at(book: &LawBook, place: usize, law: &ActLaw) -> bool {
         && book.acts().at(place).value.is_same(law)
 }
 
-fn acts_are_refused(alloc: Global) -> Result<bool, AddError> {
+/// Whether a full book has that law, and refuses it under a new name.
+fn refuses_act(book: &mut LawBook, law: ActLaw) -> bool {
+    let was_kept = has_at(book, 5, &law);
+    match &book.add_act(b"Charge", law) {
+        Ok(()) => false,
+        Err(refused) => was_kept && refused.error == AddError::Fault(AddFault::Full),
+    }
+}
+
+fn acts_are_refused(alloc: Global) -> bool {
     let mut book = LawBook::new(alloc);
-    fill_acts(alloc, &mut book)?;
-    let law = reserve(alloc)?;
-    let was_kept = has_at(&book, 5, &law);
-    let added = book.add_act(b"Charge", law).map_err(AddError::from);
-    Ok(was_kept & (added == Err(AddError::Fault(AddFault::Full))))
+    match reserve(alloc) {
+        Ok(law) => adds_acts(alloc, &mut book) && refuses_act(&mut book, law),
+        Err(_) => false,
+    }
 }
 
 #[test]
 fn an_action_is_refused_where_the_book_is_full(rt: HostRuntime) {
-    assert!(rt; acts_are_refused(rt.alloc()) == Ok(true));
+    assert!(rt; acts_are_refused(rt.alloc()));
 }
 
 /// Whether a copy of a name is the same.

@@ -3,7 +3,7 @@
 ghost use Rattle.std.specs.Prelude.{◌<◌};
 
 use base_list::{AddError, AddFault};
-use std::alloc::Global;
+use std::alloc::{AllocError, Global};
 use tab_call::{Ask, Do, Registry, StoredAct, StoredGuard};
 use tab_law::{
     ActLaw, Acted, GuardLaw, MAX_ACTIONS, MAX_GUARDS, MAX_KINDS, Scene, high_into, holds,
@@ -35,17 +35,49 @@ fn refuses_kinds(registry: &mut Registry) -> bool {
 /// The numbers of the guards, or of the actions, that are refused: the last whose name is taken, and the last without room.
 type Refusals = (u8, u8);
 
-/// The refusals with one more. The first name comes again as number 64, where there is no room either.
-fn noted(refusals: Refusals, number: u8, added: Result<(), AddError>) -> Refusals {
-    match added {
-        Err(AddError::Fault(AddFault::Taken)) => (number, refusals.1),
-        Err(AddError::Fault(AddFault::Full)) => (refusals.0, number),
-        _ => refusals,
+/// The refusals with one more.
+fn noted(refusals: Refusals, number: u8, error: AddError) -> Refusals {
+    match error {
+        AddError::Fault(AddFault::Taken) => (number, refusals.1),
+        AddError::Fault(AddFault::Full) => (refusals.0, number),
+        AddError::NoMemory => refusals,
+    }
+}
+
+/// The first name comes again as number 64, where there is no room either.
+fn name_of(number: u8) -> [u8; 2]
+    requires { number < 130 }
+{
+    numbered(if number == 64 { 0 } else { number })
+}
+
+/// Adds a guard of that number. The refusals, with its own if it is refused.
+fn add_guard(
+    registry: &mut Registry,
+    stored: StoredGuard,
+    number: u8,
+    refusals: Refusals,
+) -> Refusals
+    requires { number < 130 }
+{
+    match registry.add_guard(&name_of(number), stored) {
+        Ok(()) => refusals,
+        Err(refused) => noted(refusals, number, refused.error),
+    }
+}
+
+/// The same of an action.
+fn add_act(registry: &mut Registry, stored: StoredAct, number: u8, refusals: Refusals) -> Refusals
+    requires { number < 130 }
+{
+    match registry.add_act(&name_of(number), stored) {
+        Ok(()) => refusals,
+        Err(refused) => noted(refusals, number, refused.error),
     }
 }
 
 /// The refusals of guards, and how many there are in the end.
-fn guard_refusals(alloc: Global) -> Result<(Refusals, usize), AddError> {
+fn guard_refusals(alloc: Global) -> Result<(Refusals, usize), AllocError> {
     let law = GuardLaw::new(Vec::new(alloc));
     let mut registry = Registry::new(alloc);
     let mut refusals = (0, 0);
@@ -53,15 +85,13 @@ fn guard_refusals(alloc: Global) -> Result<(Refusals, usize), AddError> {
         let own = law.copy(alloc)?;
         let ask: Ask = Box::new(alloc, move |scene: &Scene| holds(&own, scene))?;
         let stored = StoredGuard::new(law.copy(alloc)?, ask);
-        let name = numbered(if number == 64 { 0 } else { number });
-        let added = registry.add_guard(&name, stored).map_err(AddError::from);
-        refusals = noted(refusals, number, added);
+        refusals = add_guard(&mut registry, stored, number, refusals);
     }
     Ok((refusals, registry.laws().guards().len()))
 }
 
 /// The same of actions.
-fn act_refusals(alloc: Global) -> Result<(Refusals, usize), AddError> {
+fn act_refusals(alloc: Global) -> Result<(Refusals, usize), AllocError> {
     let law = ActLaw::new(Vec::new(alloc));
     let mut registry = Registry::new(alloc);
     let mut refusals = (0, 0);
@@ -71,9 +101,7 @@ fn act_refusals(alloc: Global) -> Result<(Refusals, usize), AddError> {
             high_into(&own, scene, room);
         })?;
         let stored = StoredAct::new(law.copy(alloc)?, act);
-        let name = numbered(if number == 64 { 0 } else { number });
-        let added = registry.add_act(&name, stored).map_err(AddError::from);
-        refusals = noted(refusals, number, added);
+        refusals = add_act(&mut registry, stored, number, refusals);
     }
     Ok((refusals, registry.laws().acts().len()))
 }

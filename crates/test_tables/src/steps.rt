@@ -66,34 +66,48 @@ fn four(alloc: Global) -> Result<ActLaw, AllocError> {
     Ok(ActLaw::new(changes))
 }
 
+/// Adds a guard that says yes where that fact is the atom.
+fn adds_equal(alloc: Global, book: &mut LawBook, name: &[u8], fact: u8, atom: Atom) -> bool {
+    match equal(alloc, fact, atom) {
+        Ok(law) => book.add_guard(name, law).is_ok(),
+        Err(_) => false,
+    }
+}
+
+/// Adds an action that tells the service.
+fn adds_service(alloc: Global, book: &mut LawBook, name: &[u8], value: u64) -> bool {
+    match service(alloc, value) {
+        Ok(law) => book.add_act(name, law).is_ok(),
+        Err(_) => false,
+    }
+}
+
 /// Adds the laws of the client's names, and the kind Tx beside its own.
-fn add_client(alloc: Global, book: &mut LawBook) -> Result<(), AddError> {
+fn adds_client(alloc: Global, book: &mut LawBook) -> bool {
     let own = Atom::Register(session_register::REQUEST_NUMBER as u8);
     let success = Atom::Constant(2001);
-    book.add_kind(b"CCA-I")?;
-    book.add_kind(b"Tx")?;
-    book.add_guard(b"success", equal(alloc, RESULT, success)?)?;
-    book.add_guard(b"mine", equal(alloc, NUMBER, own)?)?;
-    book.add_act(b"End-Service", service(alloc, 2)?)?;
-    book.add_act(b"Grant-Service", service(alloc, 1)?)?;
-    Ok(())
+    book.add_kind(b"CCA-I").is_ok()
+        && book.add_kind(b"Tx").is_ok()
+        && adds_equal(alloc, book, b"success", RESULT, success)
+        && adds_equal(alloc, book, b"mine", NUMBER, own)
+        && adds_service(alloc, book, b"End-Service", 2)
+        && adds_service(alloc, book, b"Grant-Service", 1)
 }
 
 /// Adds the kind Go, guards that say yes where register 0 is 0, and an action of four deeds.
-fn add_busy(alloc: Global, book: &mut LawBook) -> Result<(), AddError> {
-    book.add_kind(b"Go")?;
+fn adds_busy(alloc: Global, book: &mut LawBook) -> bool {
+    let mut all = book.add_kind(b"Go").is_ok();
     for name in [b"a", b"b", b"c", b"d"] {
-        book.add_guard(name, equal(alloc, 0, Atom::Register(0))?)?;
+        all = all && adds_equal(alloc, book, name, 0, Atom::Register(0));
     }
-    book.add_act(b"Four", four(alloc)?)?;
-    Ok(())
+    match four(alloc) {
+        Ok(law) => all && book.add_act(b"Four", law).is_ok(),
+        Err(_) => false,
+    }
 }
 
-fn full_book(alloc: Global) -> Result<LawBook, AddError> {
-    let mut book = LawBook::new(alloc);
-    add_client(alloc, &mut book)?;
-    add_busy(alloc, &mut book)?;
-    Ok(book)
+fn fills_book(alloc: Global, book: &mut LawBook) -> bool {
+    adds_client(alloc, book) && adds_busy(alloc, book)
 }
 
 fn start() -> MachineState {
@@ -276,25 +290,22 @@ fn is_missing(alloc: Global, book: &LawBook, name: &str) -> bool {
     let Ok(table) = parse(alloc, CLIENT.as_bytes()) else {
         return false;
     };
-    match bind(alloc, table, book) {
+    match &bind(alloc, table, book) {
         Err(Unbound::Missing(missing)) => missing.as_slice() == name.as_bytes(),
         _ => false,
     }
 }
 
 /// Adds a kind, a guard and an action of that name.
-fn add_all(alloc: Global, book: &mut LawBook, name: &[u8]) -> Result<(), AddError> {
-    book.add_kind(name)?;
-    book.add_guard(name, equal(alloc, 0, Atom::Fact(0))?)?;
-    book.add_act(name, service(alloc, 1)?)?;
-    Ok(())
+fn adds_all(alloc: Global, book: &mut LawBook, name: &[u8]) -> bool {
+    book.add_kind(name).is_ok()
+        && adds_equal(alloc, book, name, 0, Atom::Fact(0))
+        && adds_service(alloc, book, name, 1)
 }
 
 /// Whether that name is missing until it is added.
-fn is_missing_until_added(alloc: Global, book: &mut LawBook, name: &str) -> Result<bool, AddError> {
-    let was_missing = is_missing(alloc, book, name);
-    add_all(alloc, book, name.as_bytes())?;
-    Ok(was_missing)
+fn is_missing_until_added(alloc: Global, book: &mut LawBook, name: &str) -> bool {
+    is_missing(alloc, book, name) && adds_all(alloc, book, name.as_bytes())
 }
 
 /// Whether the client's table is bound to a book.
@@ -310,7 +321,7 @@ fn the_first_name_in_text_order_is_missing(rt: HostRuntime) {
     let mut book = LawBook::new(rt.alloc());
     for name in ["CCA-I", "mine", "success", "Grant-Service", "End-Service"] {
         let missing = is_missing_until_added(rt.alloc(), &mut book, name);
-        assert!(rt; missing == Ok(true), "{name}");
+        assert!(rt; missing, "{name}");
     }
     assert!(rt; is_bound(rt.alloc(), &book));
 }
@@ -384,7 +395,8 @@ fn wrong_over(alloc: Global, book: &LawBook) -> Result<Option<&'static str>, Add
 
 #[test]
 fn steps_over_callbacks_that_answer_by_their_laws(rt: HostRuntime) -> Result<(), Fail> {
-    let book = full_book(rt.alloc())?;
+    let mut book = LawBook::new(rt.alloc());
+    assert!(rt; fills_book(rt.alloc(), &mut book));
     let wrong = wrong_over(rt.alloc(), &book)?;
     assert!(rt; wrong.is_none(), "{wrong:?}");
     Ok(())
@@ -431,38 +443,42 @@ fn picked_by(stored: &StoredAct) -> u64 {
     room.regs[3]
 }
 
-/// What two callbacks of one name, of which the first picks 2 and the second 1, leave in register 3: after a step behind each.
-type Picked = [Option<u64>; 2];
+/// Adds an action. Of one that comes back its error, and what it picks.
+fn refusal_of(registry: &mut Registry, stored: StoredAct) -> Option<(AddError, u64)> {
+    match registry.add_act(b"Pick", stored) {
+        Ok(()) => None,
+        Err(refused) => Some((refused.error, picked_by(&refused.back))),
+    }
+}
 
-/// What they leave; of the one that comes back its error, and what it picks; and how many actions there are then.
-fn picks(
+/// Whether an action is refused so, or added, and register 3 is 2 after a step behind it.
+fn is_added(
     alloc: Global,
-    law: &ActLaw,
-) -> Result<(Picked, Option<(AddError, u64)>, usize), AddError> {
+    registry: &mut Registry,
+    stored: StoredAct,
+    refusal: Option<(AddError, u64)>,
+) -> bool {
+    refusal_of(registry, stored) == refusal && picked(alloc, registry) == Some(2)
+}
+
+/// Whether of two callbacks of one name the first, which picks 2, is kept, and the second, which picks 1, comes back.
+fn keeps_the_first(alloc: Global, law: &ActLaw) -> Result<bool, AddError> {
     let mut registry = Registry::new(alloc);
     registry.add_kind(b"Go")?;
-    let mut after = [None, None];
-    let mut back = None;
-    for place in 0..2u8 {
+    let mut all = true;
+    for (value, refusal) in [(2, None), (1, Some((AddError::Fault(AddFault::Taken), 1)))] {
         let own = law.copy(alloc)?;
-        let value = u64::from(2 - place);
         let act: Do = Box::new(alloc, move |scene: &Scene, room: &mut Acted| {
             choose(&own, scene, value, room);
         })?;
         let stored = StoredAct::new(law.copy(alloc)?, act);
-        if let Err(refused) = registry.add_act(b"Pick", stored) {
-            back = Some((refused.error, picked_by(&refused.back)));
-        }
-        after[place as usize] = picked(alloc, &registry);
+        all = all & is_added(alloc, &mut registry, stored, refusal);
     }
-    Ok((after, back, registry.laws().acts().len()))
+    Ok(all && registry.laws().acts().len() == 1)
 }
 
 #[test]
-fn a_closure_picks_and_one_of_the_same_name_comes_back(rt: HostRuntime) -> Result<(), Fail> {
-    let law = pick(rt.alloc())?;
-    let (after, back, count) = picks(rt.alloc(), &law)?;
-    assert!(rt; after == [Some(2), Some(2)] && count == 1);
-    assert!(rt; back == Some((AddError::Fault(AddFault::Taken), 1)));
-    Ok(())
+fn a_closure_picks_and_one_of_the_same_name_comes_back(rt: HostRuntime) {
+    let law = pick(rt.alloc());
+    assert!(rt; matches!(&law, Ok(law) if keeps_the_first(rt.alloc(), law) == Ok(true)));
 }
