@@ -6,7 +6,9 @@ use Rattle.dia_tree.specs.declared.fault.MsgFault.{MsgFault}
 use Rattle.base_codes.specs.declared.result_code.ResultCode.{ResultCode}
 use Rattle.base_codes.specs.declared.result_code.ResultCode.TheVariants.{InvalidMessageLength, UnsupportedVersion, CommandUnsupported, ApplicationUnsupported}
 use Rattle.dia_command.specs.declared.kind.CommandKind.{CommandKind}
+use Rattle.dia_command.specs.declared.header.Header.{Header}
 use Rattle.dia_command.specs.Header.{header_in}
+use Rattle.dia_command.specs.Format.{kind_coded, application_of}
 use Rattle.dia_msg.specs.Faults.{fault_if, is_bad_length, is_bad_application, kind_in, header_faults}
 
 pub none_both : (xs ys : List MsgFault) → xs ++ ys ≡ [] → (xs ≡ []) × (ys ≡ [])
@@ -58,3 +60,9 @@ length-good octets le own fours = rw (le-ltb (length octets) 20 le, eq-eqb (head
 
 pub header-faultless : (octets : List ℕ) (kind : CommandKind) → is_bad_length octets ≡ false → slice_index octets 0 ≡ 1 → kind_in octets ≡ Some kind → is_bad_application octets ≡ false → header_faults octets ≡ []
 header-faultless octets kind good version known application = rw (good, version, known, application) refl
+
+-- a header in which nothing wrong was found
+pub header-good : (octets : List ℕ) (header : Header) (kind : CommandKind) → header ≡ header_in octets → 20 ≤ length octets → header.length ≡ length octets → length octets % 4 ≡ 0 → slice_index octets 0 ≡ 1
+    → kind_coded header.command header.flags.request ≡ Some kind → header.application ≡ application_of header.command → header_faults octets ≡ []
+header-good octets header kind is le own fours version known application =
+    header-faultless octets kind (length-good octets le (rw is at own) fours) version (rw is at known) (rw (eq-eqb (header_in octets).application (application_of (header_in octets).command) (rw is at application)) refl)

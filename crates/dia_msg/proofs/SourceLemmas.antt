@@ -8,7 +8,7 @@ use Rattle.std.specs.Option.{option_map, option_to_list}
 use Rattle.std.specs.Result.{OnOk, is_err}
 use Rattle.std.specs.Str.{is_utf8, IsUtf8}
 use Rattle.std.proofs.lemmas.Bool.{eqb-true, eqb-false, ltb-false}
-use Rattle.std.proofs.lemmas.Option.{slice_get-get_or, get_or_from_slice_get, slice_get_within}
+use Rattle.std.proofs.lemmas.Option.{slice_get-get_or, get_or_from_slice_get, slice_get_within, slice_get_past}
 use Rattle.std.proofs.lemmas.List.Elements.{All-head, All-filter, filter_passes, filter-append}
 use Rattle.byteorder.specs.Endian.{big_number}
 use Rattle.dia_avp.specs.declared.avp.Avp.{Avp}
@@ -283,12 +283,31 @@ flat_more : {X : Type 0} (g : ℕ → List X) (xs ys : List ℕ) → flat_map g 
 flat_more g [] ys = refl
 flat_more g (x ∷ xs) ys = rw (flat_more g xs ys) (sym (append_assoc (g x) (flat_map g xs) (flat_map g ys)))
 
-pub placed_next : (f : Avp → Avp) (list : List Avp) (places : List ℕ) (i : ℕ) (d : ℕ) → i < length places
+placed_next : (f : Avp → Avp) (list : List Avp) (places : List ℕ) (i : ℕ) (d : ℕ) → i < length places
     → map f (all_placed list (take i places)) ++ map f (option_to_list (slice_get list (get_or places i d))) ≡ map f (all_placed list (take (i + 1) places))
 placed_next f list places i d lt =
     let e : i + 1 ≡ suc i = omega arith in
     let o = option_to_list (slice_get list (get_or places i d)) in
     rw (e, take-suc places i d lt, flat_more (λ p. option_to_list (slice_get list p)) (take i places) (get_or places i d ∷ []), append-nil o) (sym (map-append f (all_placed list (take i places)) o))
+
+abbrev some_avp : Avp → Option Avp
+some_avp a = Some a
+
+-- the AVP at a place, and where there is none
+pub seen_at : (avps : List AvpView) (i : ℕ) (v : AvpView) → i < length avps → v ≡ get_or avps i v → slice_get (seen_all avps) i ≡ Some (seen v)
+seen_at avps i v lt e = slice_get-get_or (seen_all avps) i (seen v) (omega (arith, lt, length-map avps seen)) ∙ ap some_avp (get-seen avps i v (seen v) lt ∙ ap seen (sym e))
+
+pub seen_past : (avps : List AvpView) (i : ℕ) → length avps ≤ i → slice_get (seen_all avps) i ≡ None
+seen_past avps i le = slice_get_past (seen_all avps) i (omega (arith, le, length-map avps seen))
+
+abbrev listed : (Avp → Avp) → List Avp → List ℕ → ℕ → List Avp
+listed f list places i = map f (all_placed list (take i places))
+
+pub placed_there : (f : Avp → Avp) (list : List Avp) (places : List ℕ) (i d : ℕ) (a : Avp) (rest : List Avp) → i < length places → slice_get list (get_or places i d) ≡ Some a → rest ≡ listed f list places i → rest ++ f a ∷ [] ≡ listed f list places (i + 1)
+placed_there f list places i d a rest lt at e = ap (λ (l : List Avp). l ++ f a ∷ []) e ∙ rw at at (placed_next f list places i d lt)
+
+pub placed_past : (f : Avp → Avp) (list : List Avp) (places : List ℕ) (i d : ℕ) (rest : List Avp) → i < length places → slice_get list (get_or places i d) ≡ None → rest ≡ listed f list places i → rest ≡ listed f list places (i + 1)
+placed_past f list places i d rest lt at e = e ∙ sym (append-nil (listed f list places i)) ∙ rw at at (placed_next f list places i d lt)
 
 -- what holds at `Ok` holds where there is no error
 pub where_ok : {T E P : Type 0} (r : Result T E) → is_err r ≡ false → OnOk r P → P

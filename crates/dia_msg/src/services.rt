@@ -78,7 +78,13 @@ fn is_same(a: Option<u32>, b: Option<u32>) -> bool
 fn has(groups: &[Option<u32>], group: Option<u32>) -> bool
     ensures { result ≡ list_any (λ g. is_same g group) groups.now }
 {
-    groups.iter().any(|g| is_same(*g, group))
+    // A loop is proved sooner than `any` with its closure.
+    for other in groups {
+        if is_same(*other, group) {
+            return true;
+        }
+    }
+    false
 }
 
 /// Whether a kind of command may have several services.

@@ -2,10 +2,9 @@
 //! field in the format. Where memory is wanting a call sets `wanting`, and what it gives then is empty: the command is
 //! thrown away as a whole.
 
-ghost use Rattle.std.specs.Prelude.{◌≡◌, ◌<◌, ◌^◌, [], ◌∷◌, ◌++◌, ℕ, List, All, IfOk, OnOk, false, map, slice_get};
-ghost use Rattle.std.specs.Option.{option_map, option_to_list};
+ghost use Rattle.std.specs.Prelude.{◌≡◌, [], ◌∷◌, ℕ, List, IfOk, false, map};
+ghost use Rattle.std.specs.Option.{option_to_list};
 ghost use Rattle.dia_avp.specs.View.{seen};
-ghost use Rattle.dia_avp.specs.Encoding.{length_of};
 ghost use Rattle.dia_dict.specs.declared.definition.Definition.{Definition};
 ghost use Rattle.dia_dict.specs.Dictionary.{known};
 ghost use Rattle.dia_tree.specs.Canonical.{canonical};
@@ -30,13 +29,6 @@ pub(crate) struct Source<'a> {
     pub format: &'a [AvpFormat],
     pub avps: &'a [AvpView<'a>],
     pub sorted: &'a Sorted,
-}
-
-// The AVP at a place.
-fn avp_at<'a>(avps: &[AvpView<'a>], place: usize) -> Option<AvpView<'a>>
-    ensures { option_map seen result ≡ slice_get (seen_all avps.now) place }
-{
-    avps.get(place).copied()
 }
 
 /// How the value of a field is made of an AVP's data.
@@ -259,17 +251,6 @@ impl Source<'_> {
         values
     }
 
-    // The AVP at a place, in its canonical encoding, at the end of a list.
-    fn push_left(&self, place: u8, rest: &mut AvpList) -> Result<(), AllocError>
-        requires { All (λ a. length_of a < 2 ^ 24) (seen_all self.now.avps.now) }
-        ensures { OnOk result (rest.new ≡ rest.old ++ map (canonical (known self.now.dictionary.now) 4) (option_to_list (slice_get (seen_all self.now.avps.now) place))) }
-    {
-        match avp_at(self.avps, usize::from(place)) {
-            Some(avp) => rest.push(canonical_avp(self.alloc, self.dictionary, &avp)?),
-            None => Ok(()),
-        }
-    }
-
     // The AVPs that no entry takes, each in its canonical encoding.
     fn left(&self) -> Result<AvpList, AllocError>
         requires ready { IsReady self.now.dictionary.now self.now.format.now (seen_all self.now.avps.now) self.now.sorted.now }
@@ -277,7 +258,10 @@ impl Source<'_> {
     {
         let mut rest = AvpList::with_capacity(self.alloc, self.sorted.rest.len())?;
         for place in self.sorted.rest.as_slice() {
-            self.push_left(*place, &mut rest)?;
+            if let Some(avp) = self.avps.get(usize::from(*place)) {
+                let avp = canonical_avp(self.alloc, self.dictionary, avp)?;
+                rest.push(avp)?;
+            }
         }
         Ok(rest)
     }

@@ -14,3 +14,6 @@ returns-in-Err-clause-reading c =
 pub concluded-requires-clause-first : goal.concluded-requires-clause-first
 concluded-requires-clause-first c =
     let h = c.in-Ok-survey.ensures.fault in (h.0, rw (c.is_credit.ensures, c.in-Ok.ensures.header, take_rest) at h.1, h.2)
+
+pub concluded-requires-clause-avps : goal.concluded-requires-clause-avps
+concluded-requires-clause-avps c = λ none. rw c.as_slice.ensures.value (rw take_rest at (c.in-Ok-survey.ensures.avps none))
