@@ -1,20 +1,23 @@
 //! From a deed to the answer of credit control that it sends (RFC 8506 section 3.2, RFC 6733 section 7.2).
 
 ghost use Rattle.std.specs.Prelude.{◌≡◌, IfOk, OnErr, is_some, true, slice_index};
-ghost use Rattle.base_codes.specs.declared.session_fact.TheConstants.{HOP_BY_HOP, END_TO_END, UNIT, RESULT_CODE, GRANTED};
+ghost use Rattle.base_codes.specs.declared.session_fact.TheConstants.{HOP_BY_HOP, END_TO_END, UNIT, RESULT_CODE, GRANTED, FINAL};
 ghost use Rattle.base_codes.specs.declared.command_code.CommandCode.TheVariants.{CreditControl};
 ghost use Rattle.deed_message.specs.Headers.{answer_header};
 ghost use Rattle.charge_message.specs.Avps.{units_field};
+ghost use Rattle.charge_message.specs.Services.{answered, services};
 ghost use Rattle.charge_message.specs.Messages.{if_any, is_protocol_error, final_field, answer_of, fault_of, answer_by};
 
 use crate::avp::{termination, units_field};
 use crate::reading::{class_of, is_protocol_error, one_less, session_of, type_of};
+use crate::sender::sender_of;
 use crate::service::services;
 use base_codes::{CommandCode, session_fact};
-use deed_message::{Names, answer_header, lowest, made, made_copy};
+use deed_message::{Names, answer_header, lowest, made};
 use dia_avp::AvpList;
 use dia_command::{
-    Command, CreditControlAnswer, ErrorAnswer, Header, RequestType, Text, TypedAvp, application_of,
+    Command, CreditControlAnswer, ErrorAnswer, Header, RequestType, TypedAvp, TypedAvps,
+    application_of,
 };
 use dia_write::Identity;
 use std::alloc::{AllocError, Global};
@@ -49,15 +52,26 @@ fn final_field(
     Ok(Some(made(termination(alloc)?)))
 }
 
-fn granted_by(alloc: Global, deed: &Deed) -> Result<Option<TypedAvp<AvpList>>, AllocError>
-    ensures { IfOk result (λ field. field ≡ units_field (slice_index deed.now.a UNIT) (slice_index deed.now.a GRANTED)) }
+/// What an answer tells of units.
+#[derive(Drop)]
+struct Units {
+    granted: Option<TypedAvp<AvpList>>,
+    last: Option<TypedAvp<AvpList>>,
+    services: TypedAvps<AvpList>,
+}
+
+fn units_by(alloc: Global, deed: &Deed) -> Result<Units, AllocError>
+    ensures granted { IfOk result (λ u. u.granted ≡ units_field (slice_index deed.now.a UNIT) (slice_index deed.now.a GRANTED)) }
+    ensures last { IfOk result (λ u. u.last ≡ final_field (slice_index deed.now.a FINAL) (slice_index deed.now.a GRANTED)) }
+    ensures services { IfOk result (λ u. u.services ≡ services answered deed.now.a) }
 {
     deed.known();
-    units_field(
-        alloc,
-        deed.a[session_fact::UNIT],
-        deed.a[session_fact::GRANTED],
-    )
+    let granted = deed.a[session_fact::GRANTED];
+    Ok(Units {
+        granted: units_field(alloc, deed.a[session_fact::UNIT], granted)?,
+        last: final_field(alloc, deed.a[session_fact::FINAL], granted)?,
+        services: services(alloc, deed, false)?,
+    })
 }
 
 fn header_by(deed: &Deed) -> Header
@@ -83,23 +97,21 @@ fn answer_of(
     ensures { IfOk result (λ c. c ≡ answer_of identity.now session.now deed.now.a request_type) }
 {
     deed.known();
+    let sender = sender_of(alloc, identity, session)?;
+    let units = units_by(alloc, deed)?;
     Ok(Command::Cca(CreditControlAnswer {
         header: header_by(deed),
-        session_id: made(Text::from_str(alloc, session)?),
+        session_id: sender.session_id,
         result_code: made(lowest(deed.a[session_fact::RESULT_CODE])),
-        origin_host: made_copy(alloc, &identity.host)?,
-        origin_realm: made_copy(alloc, &identity.realm)?,
+        origin_host: sender.origin_host,
+        origin_realm: sender.origin_realm,
         auth_application_id: made(application_of(CommandCode::CreditControl.number())),
         cc_request_type: made(request_type),
         cc_request_number: made(one_less(deed.a[session_fact::REQUEST_NUMBER])),
-        granted_service_unit: granted_by(alloc, deed)?,
-        final_unit_indication: final_field(
-            alloc,
-            deed.a[session_fact::FINAL],
-            deed.a[session_fact::GRANTED],
-        )?,
+        granted_service_unit: units.granted,
+        final_unit_indication: units.last,
         check_balance_result: if_any(deed.a[session_fact::ACTION_OR_CHECK]),
-        multiple_services_credit_control: services(alloc, deed, false)?,
+        multiple_services_credit_control: units.services,
         rest: AvpList::new(alloc),
     }))
 }
@@ -114,11 +126,12 @@ fn fault_of(
     ensures { IfOk result (λ c. c ≡ fault_of identity.now session.now deed.now.a) }
 {
     deed.known();
+    let sender = sender_of(alloc, identity, session)?;
     Ok(Command::ErrorAnswer(ErrorAnswer {
         header: header_by(deed),
-        session_id: Some(made(Text::from_str(alloc, session)?)),
-        origin_host: made_copy(alloc, &identity.host)?,
-        origin_realm: made_copy(alloc, &identity.realm)?,
+        session_id: Some(sender.session_id),
+        origin_host: sender.origin_host,
+        origin_realm: sender.origin_realm,
         result_code: made(lowest(deed.a[session_fact::RESULT_CODE])),
         failed_avp: None,
         rest: AvpList::new(alloc),

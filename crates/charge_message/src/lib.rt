@@ -5,6 +5,7 @@
 //! | `avp` | AVPs with flag M: numbers, amounts, groups |
 //! | `service` | instances of Multiple-Services-Credit-Control |
 //! | `reading` | what a deed's arguments say: session, type, numbers |
+//! | `sender` | the AVPs of a message's session and sender |
 //! | `request`, `answer` | the two calls |
 #![tactic(auto)]
 
@@ -12,6 +13,7 @@ mod answer;
 mod avp;
 mod reading;
 mod request;
+mod sender;
 mod service;
 
 pub use answer::answer_message;

@@ -1,20 +1,22 @@
 //! From a deed to the Credit-Control-Request that it sends (RFC 8506 section 3.1).
 
-ghost use Rattle.std.specs.Prelude.{◌≡◌, ◌-◌, ◌∷◌, [], None, IfOk, OnErr, is_some, true, slice_index};
+ghost use Rattle.std.specs.Prelude.{◌≡◌, ◌-◌, ◌∷◌, [], None, IfOk, OnErr, is_some, true, codes, slice_index};
 ghost use Rattle.std.specs.Option.{option_to_list};
 ghost use Rattle.base_codes.specs.declared.session_fact.TheConstants.{HOP_BY_HOP, REQUEST_NUMBER, ACCOUNT, USED, WANT, UNIT};
 ghost use Rattle.base_codes.specs.declared.command_code.CommandCode.TheVariants.{CreditControl};
 ghost use Rattle.deed_message.specs.Headers.{request_header};
 ghost use Rattle.dia_write.specs.Answer.{made};
 ghost use Rattle.charge_message.specs.Avps.{units_field, subscription};
+ghost use Rattle.charge_message.specs.Services.{asked, services};
 ghost use Rattle.charge_message.specs.Messages.{action_by, indicator_by, request_of, request_by};
 
 use crate::avp::{subscription, units_field};
 use crate::reading::{class_of, one_less, session_of, type_of};
+use crate::sender::sender_of;
 use crate::service::services;
 use base_codes::{CommandCode, session_fact};
 use deed_message::{Names, made, made_copy, request_header};
-use dia_avp::AvpList;
+use dia_avp::{AvpList, Octets};
 use dia_command::{
     Command, CreditControlRequest, Header, RequestType, RequestedAction, Text, TypedAvp, TypedAvps,
     application_of,
@@ -73,15 +75,49 @@ fn used_by(alloc: Global, deed: &Deed) -> Result<TypedAvps<AvpList>, AllocError>
     Ok(list)
 }
 
-fn wanted_by(alloc: Global, deed: &Deed) -> Result<Option<TypedAvp<AvpList>>, AllocError>
-    ensures { IfOk result (λ field. field ≡ units_field (slice_index deed.now.a UNIT) (slice_index deed.now.a WANT)) }
+/// What a request tells of units.
+#[derive(Drop)]
+struct Units {
+    wanted: Option<TypedAvp<AvpList>>,
+    used: TypedAvps<AvpList>,
+    services: TypedAvps<AvpList>,
+}
+
+fn units_by(alloc: Global, deed: &Deed) -> Result<Units, AllocError>
+    ensures wanted { IfOk result (λ u. u.wanted ≡ units_field (slice_index deed.now.a UNIT) (slice_index deed.now.a WANT)) }
+    ensures used { IfOk result (λ u. u.used ≡ option_to_list (units_field (slice_index deed.now.a UNIT) (slice_index deed.now.a USED))) }
+    ensures services { IfOk result (λ u. u.services ≡ services asked deed.now.a) }
 {
     deed.known();
-    units_field(
-        alloc,
-        deed.a[session_fact::UNIT],
-        deed.a[session_fact::WANT],
-    )
+    Ok(Units {
+        wanted: units_field(
+            alloc,
+            deed.a[session_fact::UNIT],
+            deed.a[session_fact::WANT],
+        )?,
+        used: used_by(alloc, deed)?,
+        services: services(alloc, deed, true)?,
+    })
+}
+
+/// What a request tells of its purpose: where it goes, what for, and on whose account.
+#[derive(Drop)]
+struct Purpose {
+    destination_realm: TypedAvp<Octets>,
+    service_context_id: TypedAvp<Text>,
+    subscription_id: TypedAvps<AvpList>,
+}
+
+fn purpose_of(alloc: Global, deed: &Deed, identity: &Identity) -> Result<Purpose, AllocError>
+    ensures destination { IfOk result (λ p. p.destination_realm ≡ made identity.now.realm) }
+    ensures context { IfOk result (λ p. p.service_context_id ≡ made (codes "dbench@example")) }
+    ensures subscription { IfOk result (λ p. p.subscription_id ≡ made (subscription (slice_index deed.now.a ACCOUNT)) ∷ []) }
+{
+    Ok(Purpose {
+        destination_realm: made_copy(alloc, &identity.realm)?,
+        service_context_id: made(Text::from_str(alloc, SERVICE_CONTEXT)?),
+        subscription_id: subscriptions(alloc, deed)?,
+    })
 }
 
 fn header_by(deed: &Deed) -> Header
@@ -107,22 +143,25 @@ fn request_of(
     ensures { IfOk result (λ c. c ≡ request_of identity.now session.now deed.now.a request_type) }
 {
     deed.known();
+    let sender = sender_of(alloc, identity, session)?;
+    let purpose = purpose_of(alloc, deed, identity)?;
+    let units = units_by(alloc, deed)?;
     Ok(Command::Ccr(CreditControlRequest {
         header: header_by(deed),
-        session_id: made(Text::from_str(alloc, session)?),
-        origin_host: made_copy(alloc, &identity.host)?,
-        origin_realm: made_copy(alloc, &identity.realm)?,
-        destination_realm: made_copy(alloc, &identity.realm)?,
+        session_id: sender.session_id,
+        origin_host: sender.origin_host,
+        origin_realm: sender.origin_realm,
+        destination_realm: purpose.destination_realm,
         auth_application_id: made(application_of(CommandCode::CreditControl.number())),
-        service_context_id: made(Text::from_str(alloc, SERVICE_CONTEXT)?),
+        service_context_id: purpose.service_context_id,
         cc_request_type: made(request_type),
         cc_request_number: made(one_less(deed.a[session_fact::REQUEST_NUMBER])),
-        subscription_id: subscriptions(alloc, deed)?,
+        subscription_id: purpose.subscription_id,
         requested_action: action_by(request_type, deed.a[session_fact::ACTION_OR_CHECK]),
-        requested_service_unit: wanted_by(alloc, deed)?,
-        used_service_unit: used_by(alloc, deed)?,
+        requested_service_unit: units.wanted,
+        used_service_unit: units.used,
         multiple_services_indicator: indicator_by(request_type, deed.a[session_fact::SERVICES]),
-        multiple_services_credit_control: services(alloc, deed, true)?,
+        multiple_services_credit_control: units.services,
         rest: AvpList::new(alloc),
     }))
 }

@@ -1,8 +1,9 @@
 //! Instances of Multiple-Services-Credit-Control (RFC 8506 section 8.16) from the slots of a deed.
 
-ghost use Rattle.std.specs.Prelude.{◌≡◌, ◌≤◌, ◌+◌, ◌++◌, IfOk, OnOk};
+ghost use Rattle.std.specs.Prelude.{◌≡◌, ◌≤◌, ◌+◌, ◌++◌, ◌∷◌, [], IfOk, OnOk};
 ghost use Rattle.base_codes.specs.declared.slot.TheConstants.{SIZE, MAX_SLOTS};
 ghost use Rattle.tab_law.specs.declared.limits.TheConstants.{PLACES};
+ghost use Rattle.charge_message.specs.Avps.{number_avp};
 ghost use Rattle.charge_message.specs.Services.{rating_avps, final_avps, asked, answered, avps_by, first_of, is_sent, service, services};
 
 use crate::avp::{final_avp, number_avp, push_units};
@@ -13,6 +14,12 @@ use dia_command::TypedAvps;
 use std::alloc::{AllocError, Global};
 use tab_law::Deed;
 
+fn push_number(list: &mut AvpList, alloc: Global, code: u32, number: u64) -> Result<(), AllocError>
+    ensures { OnOk result (list.new ≡ list.old ++ number_avp code number ∷ []) }
+{
+    list.push(number_avp(alloc, code, number)?)
+}
+
 #[tactic(auto, unfolding(crate::specs::Services::rating_avps))]
 fn push_rating(list: &mut AvpList, alloc: Global, group: u64) -> Result<(), AllocError>
     ensures { OnOk result (list.new ≡ list.old ++ rating_avps group) }
@@ -20,8 +27,7 @@ fn push_rating(list: &mut AvpList, alloc: Global, group: u64) -> Result<(), Allo
     if group == 1 {
         return Ok(());
     }
-    let rating = group.saturating_sub(2);
-    list.push(number_avp(alloc, avp_code::RATING_GROUP, rating)?)
+    push_number(list, alloc, avp_code::RATING_GROUP, group.saturating_sub(2))
 }
 
 #[tactic(auto, unfolding(crate::specs::Services::final_avps))]
@@ -35,51 +41,57 @@ fn push_final(list: &mut AvpList, alloc: Global, last: u64, granted: u64) -> Res
 }
 
 #[tactic(auto, unfolding(crate::specs::Services::asked))]
-fn asked(alloc: Global, deed: &Deed, first: usize) -> Result<AvpList, AllocError>
+fn push_asked(
+    list: &mut AvpList,
+    alloc: Global,
+    deed: &Deed,
+    first: usize,
+) -> Result<(), AllocError>
     requires { first + SIZE ≤ PLACES }
-    ensures { IfOk result (λ list. list ≡ asked deed.now.a first) }
+    ensures { OnOk result (list.new ≡ list.old ++ asked deed.now.a first) }
 {
     deed.known();
     let unit = deed.a[first + slot::UNIT];
-    let mut list = AvpList::new(alloc);
     push_units(
-        &mut list,
+        list,
         alloc,
         avp_code::REQUESTED_SERVICE_UNIT,
         unit,
         deed.a[first + slot::WANT],
     )?;
     push_units(
-        &mut list,
+        list,
         alloc,
         avp_code::USED_SERVICE_UNIT,
         unit,
         deed.a[first + slot::USED],
     )?;
-    push_rating(&mut list, alloc, deed.a[first + slot::GROUP])?;
-    Ok(list)
+    push_rating(list, alloc, deed.a[first + slot::GROUP])
 }
 
 #[tactic(auto, unfolding(crate::specs::Services::answered))]
-fn answered(alloc: Global, deed: &Deed, first: usize) -> Result<AvpList, AllocError>
+fn push_answered(
+    list: &mut AvpList,
+    alloc: Global,
+    deed: &Deed,
+    first: usize,
+) -> Result<(), AllocError>
     requires { first + SIZE ≤ PLACES }
-    ensures { IfOk result (λ list. list ≡ answered deed.now.a first) }
+    ensures { OnOk result (list.new ≡ list.old ++ answered deed.now.a first) }
 {
     deed.known();
     let granted = deed.a[first + slot::GRANTED];
     let result = deed.a[first + slot::RESULT_CODE];
-    let mut list = AvpList::new(alloc);
     push_units(
-        &mut list,
+        list,
         alloc,
         avp_code::GRANTED_SERVICE_UNIT,
         deed.a[first + slot::UNIT],
         granted,
     )?;
-    push_rating(&mut list, alloc, deed.a[first + slot::GROUP])?;
-    list.push(number_avp(alloc, avp_code::RESULT_CODE, result)?)?;
-    push_final(&mut list, alloc, deed.a[first + slot::FINAL], granted)?;
-    Ok(list)
+    push_rating(list, alloc, deed.a[first + slot::GROUP])?;
+    push_number(list, alloc, avp_code::RESULT_CODE, result)?;
+    push_final(list, alloc, deed.a[first + slot::FINAL], granted)
 }
 
 fn first_of(number: usize) -> usize
@@ -108,11 +120,13 @@ fn service_of(
     requires { first + SIZE ≤ PLACES }
     ensures { IfOk result (λ list. list ≡ avps_by request deed.now.a first) }
 {
+    let mut list = AvpList::new(alloc);
     if request {
-        asked(alloc, deed, first)
+        push_asked(&mut list, alloc, deed, first)?;
     } else {
-        answered(alloc, deed, first)
+        push_answered(&mut list, alloc, deed, first)?;
     }
+    Ok(list)
 }
 
 #[tactic(auto, unfolding(crate::specs::Services::service))]
