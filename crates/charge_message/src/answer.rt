@@ -1,6 +1,6 @@
 //! From a deed to the answer of credit control that it sends (RFC 8506 section 3.2, RFC 6733 section 7.2).
 
-ghost use Rattle.std.specs.Prelude.{◌≡◌, IfOk, OnErr, is_some, true, slice_index};
+ghost use Rattle.std.specs.Prelude.{◌≡◌, Some, IfOk, OnErr, is_some, true, slice_index};
 ghost use Rattle.base_codes.specs.declared.session_fact.TheConstants.{HOP_BY_HOP, END_TO_END, UNIT, RESULT_CODE, GRANTED, FINAL};
 ghost use Rattle.base_codes.specs.declared.command_code.CommandCode.TheVariants.{CreditControl};
 ghost use Rattle.deed_message.specs.Headers.{answer_header};
@@ -86,6 +86,7 @@ fn header_by(deed: &Deed) -> Header
     )
 }
 
+// It comes as `answer_message` answers it, so that no arm there takes it in hand again.
 #[tactic(auto, unfolding(crate::specs::Messages::answer_of))]
 fn answer_of(
     alloc: Global,
@@ -93,13 +94,13 @@ fn answer_of(
     identity: &Identity,
     session: &str,
     request_type: RequestType,
-) -> Result<Command, AllocError>
-    ensures { IfOk result (λ c. c ≡ answer_of identity.now session.now deed.now.a request_type) }
+) -> Result<Option<Command>, AllocError>
+    ensures { IfOk result (λ message. message ≡ Some (answer_of identity.now session.now deed.now.a request_type)) }
 {
     deed.known();
     let sender = sender_of(alloc, identity, session)?;
     let units = units_by(alloc, deed)?;
-    Ok(Command::Cca(CreditControlAnswer {
+    Ok(Some(Command::Cca(CreditControlAnswer {
         header: header_by(deed),
         session_id: sender.session_id,
         result_code: made(lowest(deed.a[session_fact::RESULT_CODE])),
@@ -113,7 +114,7 @@ fn answer_of(
         check_balance_result: if_any(deed.a[session_fact::ACTION_OR_CHECK]),
         multiple_services_credit_control: units.services,
         rest: AvpList::new(alloc),
-    }))
+    })))
 }
 
 #[tactic(auto, unfolding(crate::specs::Messages::fault_of))]
@@ -122,12 +123,12 @@ fn fault_of(
     deed: &Deed,
     identity: &Identity,
     session: &str,
-) -> Result<Command, AllocError>
-    ensures { IfOk result (λ c. c ≡ fault_of identity.now session.now deed.now.a) }
+) -> Result<Option<Command>, AllocError>
+    ensures { IfOk result (λ message. message ≡ Some (fault_of identity.now session.now deed.now.a)) }
 {
     deed.known();
     let sender = sender_of(alloc, identity, session)?;
-    Ok(Command::ErrorAnswer(ErrorAnswer {
+    Ok(Some(Command::ErrorAnswer(ErrorAnswer {
         header: header_by(deed),
         session_id: Some(sender.session_id),
         origin_host: sender.origin_host,
@@ -135,7 +136,7 @@ fn fault_of(
         result_code: made(lowest(deed.a[session_fact::RESULT_CODE])),
         failed_avp: None,
         rest: AvpList::new(alloc),
-    }))
+    })))
 }
 
 /// The answer of credit control that a deed of a session's machine sends: that of a Snd-Msg deed of class 2 whose
@@ -162,14 +163,14 @@ pub fn answer_message(
         return Ok(None);
     };
     match (class_of(deed), type_of(deed)) {
-        (ANSWER, Some(request_type)) => Ok(Some(answer_of(
+        (ANSWER, Some(request_type)) => answer_of(
             alloc,
             deed,
             names.identity,
             session,
             request_type,
-        )?)),
-        (FAULT, _) => Ok(Some(fault_of(alloc, deed, names.identity, session)?)),
+        ),
+        (FAULT, _) => fault_of(alloc, deed, names.identity, session),
         _ => Ok(None),
     }
 }

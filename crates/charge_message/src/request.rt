@@ -1,6 +1,6 @@
 //! From a deed to the Credit-Control-Request that it sends (RFC 8506 section 3.1).
 
-ghost use Rattle.std.specs.Prelude.{◌≡◌, ◌-◌, ◌∷◌, [], None, IfOk, OnErr, is_some, true, codes, slice_index};
+ghost use Rattle.std.specs.Prelude.{◌≡◌, ◌-◌, ◌∷◌, [], Some, None, IfOk, OnErr, is_some, true, codes, slice_index};
 ghost use Rattle.std.specs.Option.{option_to_list};
 ghost use Rattle.base_codes.specs.declared.session_fact.TheConstants.{HOP_BY_HOP, REQUEST_NUMBER, ACCOUNT, USED, WANT, UNIT};
 ghost use Rattle.base_codes.specs.declared.command_code.CommandCode.TheVariants.{CreditControl};
@@ -132,6 +132,7 @@ fn header_by(deed: &Deed) -> Header
     )
 }
 
+// It comes as `request_message` answers it, so that no arm there takes it in hand again.
 #[tactic(auto, unfolding(crate::specs::Messages::request_of))]
 fn request_of(
     alloc: Global,
@@ -139,14 +140,14 @@ fn request_of(
     identity: &Identity,
     session: &str,
     request_type: RequestType,
-) -> Result<Command, AllocError>
-    ensures { IfOk result (λ c. c ≡ request_of identity.now session.now deed.now.a request_type) }
+) -> Result<Option<Command>, AllocError>
+    ensures { IfOk result (λ message. message ≡ Some (request_of identity.now session.now deed.now.a request_type)) }
 {
     deed.known();
     let sender = sender_of(alloc, identity, session)?;
     let purpose = purpose_of(alloc, deed, identity)?;
     let units = units_by(alloc, deed)?;
-    Ok(Command::Ccr(CreditControlRequest {
+    Ok(Some(Command::Ccr(CreditControlRequest {
         header: header_by(deed),
         session_id: sender.session_id,
         origin_host: sender.origin_host,
@@ -163,7 +164,7 @@ fn request_of(
         multiple_services_indicator: indicator_by(request_type, deed.a[session_fact::SERVICES]),
         multiple_services_credit_control: units.services,
         rest: AvpList::new(alloc),
-    }))
+    })))
 }
 
 /// The Credit-Control-Request that a deed of a session's machine sends (RFC 8506 section 3.1): that of a Snd-Msg deed of
@@ -189,13 +190,13 @@ pub fn request_message(
         return Ok(None);
     }
     match (session_of(names.session), type_of(deed)) {
-        (Some(session), Some(request_type)) => Ok(Some(request_of(
+        (Some(session), Some(request_type)) => request_of(
             alloc,
             deed,
             names.identity,
             session,
             request_type,
-        )?)),
+        ),
         _ => Ok(None),
     }
 }
