@@ -1,3 +1,4 @@
 pub mod CodedLemmas
 pub mod PlacesLemmas
 pub mod MovesLemmas
+pub mod CopyLemmas

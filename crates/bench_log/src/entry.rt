@@ -114,9 +114,10 @@ impl KeptEntry {
     pub fn keep(alloc: Global, plain: &Entry) -> Result<KeptEntry, AllocError>
         ensures { IfOk result (λ kept. kept ≡ plain.now) }
     {
-        let step = KeptStep::keep(alloc, &plain.step)?;
-        let item = keep_item(alloc, &plain.item)?;
+        // The step comes last: it would take longest to prove that it is dropped at a way out.
         let handled = keep_handled(alloc, &plain.handled)?;
+        let item = keep_item(alloc, &plain.item)?;
+        let step = KeptStep::keep(alloc, &plain.step)?;
         Ok(KeptEntry {
             step,
             item,
@@ -128,9 +129,9 @@ impl KeptEntry {
     pub fn show(&self, alloc: Global) -> Result<Entry, AllocError>
         ensures { IfOk result (λ plain. plain ≡ self.now) }
     {
-        let step = self.step.show(alloc)?;
-        let item = show_item(alloc, &self.item)?;
         let handled = show_handled(alloc, &self.handled)?;
+        let item = show_item(alloc, &self.item)?;
+        let step = self.step.show(alloc)?;
         Ok(Entry {
             step,
             item,

@@ -9,30 +9,56 @@ use std::alloc::{AllocError, Global};
 use std::marker::Model;
 use tab_law::{Deed, PLACES};
 
-/// One move of a machine.
-pub(crate) struct KeptMoved {
-    machine: u64,
+/// What happened to a machine, and where it stood before and after.
+struct KeptTurn {
     event: KeptEvent,
     before: KeptState,
     after: KeptState,
-    row: Option<u16>,
+}
+
+// A derived `drop` is proved anew at each way out of each function that holds the value; one by hand is a call.
+impl Drop for KeptTurn {
+    fn drop(self) {
+        let KeptTurn {
+            event,
+            before,
+            after,
+        } = self;
+    }
+}
+
+/// What the actions of a row did: the registers after each, their deeds, and what became of these.
+struct KeptDone {
     chain: Vec<Places>,
     deeds: Vec<KeptDeed>,
     outcomes: Vec<Outcome>,
 }
 
-// A derived `drop` takes far longer to prove.
+impl Drop for KeptDone {
+    fn drop(self) {
+        let KeptDone {
+            chain,
+            deeds,
+            outcomes,
+        } = self;
+    }
+}
+
+/// One move of a machine.
+pub(crate) struct KeptMoved {
+    machine: u64,
+    turn: KeptTurn,
+    row: Option<u16>,
+    done: KeptDone,
+}
+
 impl Drop for KeptMoved {
     fn drop(self) {
         let KeptMoved {
             machine: _,
-            event,
-            before,
-            after,
+            turn,
             row: _,
-            chain,
-            deeds,
-            outcomes,
+            done,
         } = self;
     }
 }
@@ -44,13 +70,13 @@ impl Model for KeptMoved {
 
     ghost view = { λ k. record {
       machine = k.machine;
-      event = k.event;
-      before = k.before;
-      after = k.after;
+      event = k.turn.event;
+      before = k.turn.before;
+      after = k.turn.after;
       row = k.row;
-      chain = k.chain.items;
-      deeds = k.deeds.items;
-      outcomes = k.outcomes.items;
+      chain = k.done.chain.items;
+      deeds = k.done.deeds.items;
+      outcomes = k.done.outcomes.items;
     } };
 }
 
@@ -98,26 +124,52 @@ fn show_deeds(alloc: Global, kept: &[KeptDeed]) -> Result<Vec<Deed>, AllocError>
     Ok(plain)
 }
 
+impl KeptTurn {
+    fn keep(alloc: Global, plain: &Moved) -> Result<KeptTurn, AllocError>
+        ensures event { IfOk result (λ kept. kept.event ≡ plain.now.event) }
+        ensures before { IfOk result (λ kept. kept.before ≡ plain.now.before) }
+        ensures after { IfOk result (λ kept. kept.after ≡ plain.now.after) }
+    {
+        let event = KeptEvent::keep(alloc, &plain.event)?;
+        let before = KeptState::keep(alloc, &plain.before)?;
+        let after = KeptState::keep(alloc, &plain.after)?;
+        Ok(KeptTurn {
+            event,
+            before,
+            after,
+        })
+    }
+}
+
+impl KeptDone {
+    fn keep(alloc: Global, plain: &Moved) -> Result<KeptDone, AllocError>
+        ensures chain { IfOk result (λ kept. kept.chain.items ≡ plain.now.chain) }
+        ensures deeds { IfOk result (λ kept. kept.deeds.items ≡ plain.now.deeds) }
+        ensures outcomes { IfOk result (λ kept. kept.outcomes.items ≡ plain.now.outcomes) }
+    {
+        let chain = keep_chain(alloc, plain.chain.as_slice())?;
+        let deeds = keep_deeds(alloc, plain.deeds.as_slice())?;
+        let outcomes = Vec::from_slice(alloc, plain.outcomes.as_slice())?;
+        Ok(KeptDone {
+            chain,
+            deeds,
+            outcomes,
+        })
+    }
+}
+
 impl KeptMoved {
     /// Keeps a move.
     pub(crate) fn keep(alloc: Global, plain: &Moved) -> Result<KeptMoved, AllocError>
         ensures { IfOk result (λ kept. kept ≡ plain.now) }
     {
-        let event = KeptEvent::keep(alloc, &plain.event)?;
-        let before = KeptState::keep(alloc, &plain.before)?;
-        let after = KeptState::keep(alloc, &plain.after)?;
-        let chain = keep_chain(alloc, plain.chain.as_slice())?;
-        let deeds = keep_deeds(alloc, plain.deeds.as_slice())?;
-        let outcomes = Vec::from_slice(alloc, plain.outcomes.as_slice())?;
+        let turn = KeptTurn::keep(alloc, plain)?;
+        let done = KeptDone::keep(alloc, plain)?;
         Ok(KeptMoved {
             machine: plain.machine,
-            event,
-            before,
-            after,
+            turn,
             row: plain.row,
-            chain,
-            deeds,
-            outcomes,
+            done,
         })
     }
 
@@ -125,14 +177,14 @@ impl KeptMoved {
     pub(crate) fn show(&self, alloc: Global) -> Result<Moved, AllocError>
         ensures { IfOk result (λ plain. plain ≡ self.now) }
     {
-        let chain = show_chain(alloc, &self.chain)?;
-        let deeds = show_deeds(alloc, &self.deeds)?;
-        let outcomes = Vec::from_slice(alloc, &self.outcomes)?;
+        let chain = show_chain(alloc, &self.done.chain)?;
+        let deeds = show_deeds(alloc, &self.done.deeds)?;
+        let outcomes = Vec::from_slice(alloc, &self.done.outcomes)?;
         Ok(Moved {
             machine: self.machine,
-            event: self.event.show(),
-            before: self.before.show(),
-            after: self.after.show(),
+            event: self.turn.event.show(),
+            before: self.turn.before.show(),
+            after: self.turn.after.show(),
             row: self.row,
             chain: Series::new(chain),
             deeds: Series::new(deeds),

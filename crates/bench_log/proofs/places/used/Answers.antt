@@ -1,13 +1,13 @@
 use Rattle.std.proofs.Common.{◌≡◌, ◌≤◌, ◌<◌, ◌+◌, ◌-◌, drop, replicate, length, arith}
-use Rattle.std.proofs.Math.ListN.{drop_of_length-le}
+use Rattle.std.proofs.lemmas.List.{drop_all}
 use Rattle.tab_law.specs.declared.limits.TheConstants.{PLACES}
 use Rattle.bench_log.proofs.PlacesLemmas.{zeros-more}
 use Rattle.bench_log.proofs.places.used.Goals as goal
 
 pub zeros-init : goal.zeros-init
 zeros-init c =
-    let short : length c.args.places.now ≤ 64 = omega (arith, c.told-places) in
-    record { within = omega arith; zeros = drop_of_length-le c.args.places.now short }
+    let short : length c.args.places.now ≤ PLACES = omega (arith, c.told-places) in
+    record { within = omega arith; zeros = drop_all PLACES c.args.places.now short }
 
 pub zeros-preserved : goal.zeros-preserved
 zeros-preserved c =
