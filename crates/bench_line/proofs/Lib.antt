@@ -10,5 +10,6 @@ pub mod EventLemmas
 pub mod StandLemmas
 pub mod ChangeLemmas
 pub mod CallLemmas
+pub mod RefusalLemmas
 pub mod LiftLemmas
 pub mod DialLemmas

@@ -3,6 +3,7 @@ pub mod Messages
 pub mod Talk
 pub mod Line
 pub mod Lines
+pub mod Refusals
 pub mod Rounds
 pub mod Before
 pub mod Dials

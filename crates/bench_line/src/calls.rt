@@ -7,6 +7,7 @@ use crate::change::Change;
 use crate::fault::LineFault;
 use crate::line::Line;
 use crate::lines::Lines;
+use crate::places::Call;
 use bench_item::{Hears, LineItem, LineState};
 use dia_frame::FrameFault;
 use std::alloc::Global;
@@ -47,7 +48,7 @@ impl<T: Hears> Lines<T> {
         ensures fault { IfErr result (λ f. f ≡ unwrap_or (dialled_refusal self.old.lines line) LineFault.NoMemory) }
         ensures err { OnErr result (self.new ≡ self.old) }
     {
-        let place = self.find_dialling(line)?;
+        let place = self.find_for(line, Call::Dialled)?;
         let at = &mut self.lines[place];
         let before = at.before();
         at.acknowledge(self.alloc, &self.rules, line)?;
@@ -70,7 +71,7 @@ impl<T: Hears> Lines<T> {
         ensures fault { IfErr result (λ f. f ≡ unwrap_or (came_refusal self.old.lines line) LineFault.NoMemory) }
         ensures err { OnErr result (self.new ≡ self.old) }
     {
-        let place = self.find_open(line)?;
+        let place = self.find_for(line, Call::Came)?;
         let at = &mut self.lines[place];
         let (ended, before) = at.receive(self.alloc, &self.rules, line, piece)?;
         let posted = at.posted_since(&before);
@@ -93,7 +94,7 @@ impl<T: Hears> Lines<T> {
         ensures fault { IfErr result (λ f. f ≡ unwrap_or (lost_refusal self.old.lines line) LineFault.NoMemory) }
         ensures err { OnErr result (self.new ≡ self.old) }
     {
-        let place = self.find_going(line)?;
+        let place = self.find_for(line, Call::Lost)?;
         let at = &mut self.lines[place];
         let before = at.before();
         at.lose(self.alloc, &self.rules, line)?;

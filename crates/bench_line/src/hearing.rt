@@ -125,9 +125,8 @@ impl Line {
             answers,
             closed,
         } = round;
-        self.sent.reserve(answers.len())?;
         self.outbox.reserve(posts.len())?;
-        self.sent.extend_from_slice(&answers).unwrap();
+        self.sent.extend_from_slice(&answers)?;
         self.outbox.append(&mut posts).unwrap();
         self.greeted = at.greeted;
         if closed {

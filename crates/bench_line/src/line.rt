@@ -3,6 +3,7 @@ ghost use Rattle.std.specs.Prelude.{◌≡◌, ◌++◌, length, IfErr, OnOk, On
 
 use crate::fault::LineFault;
 use crate::limit::MAX_MESSAGE;
+use crate::places::Call;
 use bench_item::{Heard, Item, LineEvent, LineState, MAX_WAITING, Opening};
 use dia_frame::Framer;
 use std::alloc::Global;
@@ -58,7 +59,8 @@ impl Line {
     ghost use Rattle.bench_item.specs.Lines.{is_dial};
     ghost use Rattle.bench_line.specs.Line.{new_line, found, loss_of};
     ghost use Rattle.bench_line.specs.Before.{before_of, restored};
-    ghost use Rattle.bench_line.specs.Lines.{is_crowded, lifted_one};
+    ghost use Rattle.bench_line.specs.Lines.{is_crowded, full_of, lifted_one};
+    ghost use Rattle.bench_line.specs.Refusals.{refused_by};
 
     /// A connection that was just opened. Takes no memory.
     pub(crate) fn new(alloc: Global, opening: Opening) -> Line
@@ -139,11 +141,43 @@ impl Line {
         }
     }
 
-    /// Whether as many items wait as may.
-    pub(crate) fn is_crowded(&self) -> bool
+    // Whether as many items wait as may.
+    fn is_crowded(&self) -> bool
         ensures { result ≡ is_crowded self.now }
     {
         self.outbox.len().saturating_sub(self.lifted) >= MAX_WAITING
+    }
+
+    // That it is crowded, where it is.
+    fn full(&self) -> Option<LineFault>
+        ensures { result ≡ full_of self.now }
+    {
+        if self.is_crowded() {
+            Some(LineFault::Full)
+        } else {
+            None
+        }
+    }
+
+    /// Why it refuses a call, if it does.
+    pub(crate) fn refusal(&self, call: Call) -> Option<LineFault>
+        ensures { result ≡ refused_by call self.now }
+    {
+        match call {
+            Call::Dialled => match self.state {
+                LineState::Closed => Some(LineFault::Closed),
+                LineState::Open => Some(LineFault::Nothing),
+                LineState::Dialling { .. } => self.full(),
+            },
+            Call::Came => match self.state {
+                LineState::Closed | LineState::Dialling { .. } => Some(LineFault::Closed),
+                LineState::Open => self.full(),
+            },
+            Call::Lost => match self.state {
+                LineState::Closed => Some(LineFault::Closed),
+                LineState::Open | LineState::Dialling { .. } => self.full(),
+            },
+        }
     }
 
     /// All that it sent.

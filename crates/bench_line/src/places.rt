@@ -3,10 +3,22 @@ ghost use Rattle.std.specs.Prelude.{◌≡◌, IfOk, IfErr, OnOk, OnErr, None, S
 
 use crate::fault::LineFault;
 use crate::lines::Lines;
-use bench_item::{Hears, LineState};
+use bench_item::Hears;
+
+/// A call on a connection that may refuse it.
+#[derive(Clone, Copy)]
+pub(crate) enum Call {
+    /// Its dial is acknowledged.
+    Dialled,
+    /// Octets come on it.
+    Came,
+    /// It is lost.
+    Lost,
+}
 
 impl<T: Hears> Lines<T> {
-    ghost use Rattle.bench_line.specs.Lines.{IsPlace, line_at, dialled_refusal, came_refusal, lost_refusal};
+    ghost use Rattle.bench_line.specs.Lines.{IsPlace, line_at};
+    ghost use Rattle.bench_line.specs.Refusals.{refusal_of};
 
     /// The place of the connection of that number.
     pub(crate) fn find(&self, line: u64) -> Result<usize, LineFault>
@@ -20,61 +32,19 @@ impl<T: Hears> Lines<T> {
         Ok((line - 1) as usize)
     }
 
-    /// The place of a connection whose dial may be acknowledged.
-    pub(crate) fn find_dialling(&self, line: u64) -> Result<usize, LineFault>
+    /// The place of the connection of that number, where it takes the call.
+    pub(crate) fn find_for(&self, line: u64, call: Call) -> Result<usize, LineFault>
         ensures ok { IfOk result (IsPlace self.now.lines line) }
-        ensures free { OnOk result (dialled_refusal self.now.lines line ≡ None) }
-        ensures err { IfErr result (λ f. dialled_refusal self.now.lines line ≡ Some f) }
+        ensures free { OnOk result (refusal_of call self.now.lines line ≡ None) }
+        ensures err { IfErr result (λ f. refusal_of call self.now.lines line ≡ Some f) }
     {
-        let place = self.find(line)?;
+        let Ok(place) = self.find(line) else {
+            return Err(LineFault::Unknown);
+        };
         let at = &self.lines[place];
-        match at.state() {
-            LineState::Closed => Err(LineFault::Closed),
-            LineState::Open => Err(LineFault::Nothing),
-            LineState::Dialling { .. } => {
-                if at.is_crowded() {
-                    return Err(LineFault::Full);
-                }
-                Ok(place)
-            }
-        }
-    }
-
-    /// The place of a connection on which octets may come.
-    pub(crate) fn find_open(&self, line: u64) -> Result<usize, LineFault>
-        ensures ok { IfOk result (IsPlace self.now.lines line) }
-        ensures free { OnOk result (came_refusal self.now.lines line ≡ None) }
-        ensures err { IfErr result (λ f. came_refusal self.now.lines line ≡ Some f) }
-    {
-        let place = self.find(line)?;
-        let at = &self.lines[place];
-        match at.state() {
-            LineState::Closed | LineState::Dialling { .. } => Err(LineFault::Closed),
-            LineState::Open => {
-                if at.is_crowded() {
-                    return Err(LineFault::Full);
-                }
-                Ok(place)
-            }
-        }
-    }
-
-    /// The place of a connection that may be lost.
-    pub(crate) fn find_going(&self, line: u64) -> Result<usize, LineFault>
-        ensures ok { IfOk result (IsPlace self.now.lines line) }
-        ensures free { OnOk result (lost_refusal self.now.lines line ≡ None) }
-        ensures err { IfErr result (λ f. lost_refusal self.now.lines line ≡ Some f) }
-    {
-        let place = self.find(line)?;
-        let at = &self.lines[place];
-        match at.state() {
-            LineState::Closed => Err(LineFault::Closed),
-            LineState::Open | LineState::Dialling { .. } => {
-                if at.is_crowded() {
-                    return Err(LineFault::Full);
-                }
-                Ok(place)
-            }
+        match at.refusal(call) {
+            Some(fault) => Err(fault),
+            None => Ok(place),
         }
     }
 }
