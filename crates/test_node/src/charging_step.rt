@@ -18,7 +18,6 @@ use server_rules::ServerKind;
 use server_wants::{Asked, Want, needs};
 use sess_dir::Directory;
 use std::alloc::{AllocError, Global};
-use std::test::Fail;
 use tab_law::{Deed, PLACES};
 use tab_step::{Event, MachineState, Stepped};
 
@@ -114,21 +113,38 @@ fn page_of(alloc: Global, given: u64) -> Result<Page, OpenError> {
     Ok(page)
 }
 
+/// The node s.example.
+fn identity(alloc: Global) -> Result<Identity, AllocError> {
+    let host = Octets::from_slice(alloc, b"s.example")?;
+    let realm = Octets::from_slice(alloc, b"example")?;
+    Ok(Identity {
+        host,
+        realm,
+        address: [192, 0, 2, 1],
+    })
+}
+
 impl Server {
-    /// The node s.example whose account is given so much, without sessions. Its peer has not connected yet.
-    pub fn new(alloc: Global, given: u64) -> Result<Server, Fail> {
-        Ok(Server {
+    /// The node s.example whose account is given so much, without sessions. Its peer has not connected yet. None where memory is
+    /// wanting, or the account can't be given so much.
+    pub fn new(alloc: Global, given: u64) -> Option<Server> {
+        let Ok(identity) = identity(alloc) else {
+            return None;
+        };
+        let Ok(dictionary) = Dictionary::base(alloc) else {
+            return None;
+        };
+        let Ok(page) = page_of(alloc, given) else {
+            return None;
+        };
+        Some(Server {
             alloc,
-            dictionary: Dictionary::base(alloc)?,
-            identity: Identity {
-                host: Octets::from_slice(alloc, b"s.example")?,
-                realm: Octets::from_slice(alloc, b"example")?,
-                address: [192, 0, 2, 1],
-            },
+            dictionary,
+            identity,
             peer: start(0),
             names: Directory::new(alloc),
             sessions: Vec::new(alloc),
-            page: page_of(alloc, given)?,
+            page,
             ops: Vec::new(alloc),
             room: Stepped::new(),
         })
@@ -185,19 +201,20 @@ impl Server {
     }
 
     /// Adds a session's machine.
-    fn add_machine(&mut self) -> Result<(), AllocError> {
+    fn adds_machine(&mut self) -> bool {
         let number = self.sessions.len() as u64;
-        self.sessions.push(start(number + 1))?;
-        Ok(())
+        self.sessions.push(start(number + 1)).is_ok()
     }
 
-    /// The place of a session, which has a machine from now on.
-    pub fn session(&mut self, name: &[u8]) -> Result<usize, Fail> {
-        let place = self.names.find_or_add(name)?;
-        if place == self.sessions.len() {
-            self.add_machine()?;
+    /// The place of a session, which has a machine from now on. None where there is no room.
+    pub fn session(&mut self, name: &[u8]) -> Option<usize> {
+        let Ok(place) = self.names.find_or_add(name) else {
+            return None;
+        };
+        if place == self.sessions.len() && !self.adds_machine() {
+            return None;
         }
-        Ok(place)
+        Some(place)
     }
 
     /// Fills what the account book would answer into the facts of an event.
@@ -226,10 +243,9 @@ impl Server {
     }
 
     /// Books the deeds of the last step, all or none.
-    pub fn book(&mut self, want: &Want) -> Result<(), Fail> {
-        put_ops(&mut self.ops, self.room.deeds.as_slice(), want)?;
-        self.page.apply_all(self.ops.as_slice())?;
-        Ok(())
+    pub fn book(&mut self, want: &Want) -> bool {
+        put_ops(&mut self.ops, self.room.deeds.as_slice(), want).is_ok()
+            && self.page.apply_all(self.ops.as_slice()).is_ok()
     }
 
     /// The deed that sends what the last step has for the peer, as the peer's machine hands it on.
@@ -239,92 +255,89 @@ impl Server {
     }
 
     /// Writes the answer of a session that a deed sends.
-    pub fn write(&self, place: usize, deed: &Deed, out: &mut Vec<u8>) -> Result<(), Fail> {
+    pub fn write(&self, place: usize, deed: &Deed, out: &mut Vec<u8>) -> bool {
         let Some(session) = self.names.name(place) else {
-            return Ok(());
+            return true;
         };
         let names = Names {
             identity: &self.identity,
             session,
         };
-        if let Some(answer) = answer_message(self.alloc, deed, &names)? {
-            write_message(&answer, out)?;
+        match &answer_message(self.alloc, deed, &names) {
+            Ok(Some(answer)) => write_message(answer, out).is_ok(),
+            Ok(None) => true,
+            Err(_) => false,
         }
-        Ok(())
     }
 
     /// Quotes, steps and books an event of a session.
-    fn charge(&mut self, roles: &Roles<'_>, place: usize, mut event: Event) -> Result<(), Fail> {
-        if let Some(want) = self.quote(place, &mut event) {
-            self.step(roles, place, &event);
-            self.book(&want)?;
+    fn charge(&mut self, roles: &Roles<'_>, place: usize, event: &mut Event) -> bool {
+        match self.quote(place, event) {
+            Some(want) => {
+                self.step(roles, place, event);
+                self.book(&want)
+            }
+            None => true,
         }
-        Ok(())
+    }
+
+    /// Writes what the last step of a session has for the peer.
+    fn send(&mut self, roles: &Roles<'_>, place: usize, out: &mut Vec<u8>) -> bool {
+        match self.sending(roles) {
+            Some(deed) => self.write(place, &deed, out),
+            None => true,
+        }
     }
 
     /// Writes the answer to a request.
-    fn answer(
-        &mut self,
-        roles: &Roles<'_>,
-        request: &Command,
-        out: &mut Vec<u8>,
-    ) -> Result<(), Fail> {
+    fn answer(&mut self, roles: &Roles<'_>, request: &Command, out: &mut Vec<u8>) -> bool {
         let Some(name) = session_of(request) else {
-            return Ok(());
+            return true;
         };
         let Some(event) = self.event_of(request) else {
-            return Ok(());
+            return true;
         };
-        let Some(event) = self.handed_on(roles, &event) else {
-            return Ok(());
+        let Some(mut event) = self.handed_on(roles, &event) else {
+            return true;
         };
-        let place = self.session(name)?;
-        self.charge(roles, place, event)?;
-        if let Some(deed) = self.sending(roles) {
-            self.write(place, &deed, out)?;
+        match self.session(name) {
+            Some(place) => { self.charge(roles, place, &mut event) && self.send(roles, place, out) }
+            None => false,
         }
-        Ok(())
     }
 
     /// Writes the answer to a faulty message, as a line does by itself.
-    fn refuse(&self, octets: &[u8], fault: &MsgFault, out: &mut Vec<u8>) -> Result<(), Fail> {
+    fn refuse(&self, octets: &[u8], fault: &MsgFault, out: &mut Vec<u8>) -> bool {
         if octets.len() < HEADER_LEN {
-            return Ok(());
+            return true;
         }
         let header = header_of(octets);
-        let answer = error_answer(
-            self.alloc,
-            &self.identity,
-            &header,
-            session_in(octets),
-            fault,
-        )?;
-        write_message(&answer, out)?;
-        Ok(())
+        let session = session_in(octets);
+        match &error_answer(self.alloc, &self.identity, &header, session, fault) {
+            Ok(answer) => write_message(answer, out).is_ok(),
+            Err(_) => false,
+        }
     }
 
-    /// Appends the octets of the answer to those of a message; nothing where it gets none.
-    pub fn serve(
-        &mut self,
-        roles: &Roles<'_>,
-        octets: &[u8],
-        out: &mut Vec<u8>,
-    ) -> Result<(), Fail> {
-        match self.read(octets) {
-            Ok(request) => self.answer(roles, &request, out),
-            Err(MsgError::Fault(fault)) => self.refuse(octets, &fault, out),
-            Err(error) => Err(Fail::from(error)),
+    /// Appends the octets of the answer to those of a message; nothing where it gets none. Whether there was room for all.
+    pub fn serve(&mut self, roles: &Roles<'_>, octets: &[u8], out: &mut Vec<u8>) -> bool {
+        match &self.read(octets) {
+            Ok(request) => self.answer(roles, request, out),
+            Err(MsgError::Fault(fault)) => self.refuse(octets, fault, out),
+            Err(MsgError::NoMemory) => false,
         }
     }
 
     /// The timer of a session fires (RFC 8506 section 13).
-    pub fn fire(&mut self, roles: &Roles<'_>, name: &[u8]) -> Result<(), Fail> {
-        let place = self.session(name)?;
-        let event = Event {
+    pub fn fire(&mut self, roles: &Roles<'_>, name: &[u8]) -> bool {
+        let mut event = Event {
             kind: ServerKind::Tcc.place(),
             facts: [0; PLACES],
         };
-        self.charge(roles, place, event)
+        match self.session(name) {
+            Some(place) => self.charge(roles, place, &mut event),
+            None => false,
+        }
     }
 
     /// The machine of a session.
