@@ -2,19 +2,18 @@
 //! the definition of the account book.
 
 use crate::charging_octets::wrong_octets;
-use crate::charging_step::{ACCOUNT, Server};
+use crate::charging_step::{ACCOUNT, Server, node};
 use crate::roles::Roles;
 use DeedCode::{Charge, Debit, Refund, Release, Reserve};
 use acct_totals::{Booked, Op, Outcome, Totals};
 use base_codes::{DeedCode, session_fact};
-use base_list::Octets;
 use bench_text::number_of;
 use charge_facts::answer_facts;
 use charge_message::request_message;
 use deed_message::Names;
 use dia_msg::{Identity, write_message};
 use role_tables::all_laws;
-use std::alloc::{AllocError, Global};
+use std::alloc::Global;
 use std::test::Fail;
 use tab_call::{Ask, Calls, Do, Registry, StoredAct, StoredGuard};
 use tab_law::{Acted, Deed, PLACES, Scene, high_into, holds};
@@ -77,17 +76,6 @@ fn answered((kind, number): (u64, u32), told: &str) -> [u64; PLACES] {
     facts
 }
 
-/// The client's node.
-fn client(alloc: Global) -> Result<Identity, AllocError> {
-    let host = Octets::from_slice(alloc, b"c.example")?;
-    let realm = Octets::from_slice(alloc, b"example")?;
-    Ok(Identity {
-        host,
-        realm,
-        address: [192, 0, 2, 2],
-    })
-}
-
 /// Appends the octets of a node's request of a session.
 fn writes_request(
     alloc: Global,
@@ -106,7 +94,7 @@ fn writes_request(
 
 /// Appends the octets of a client's request of a session.
 fn writes_of_client(alloc: Global, session: &[u8], deed: &Deed, out: &mut Vec<u8>) -> bool {
-    match &client(alloc) {
+    match &node(alloc, "c.example", [192, 0, 2, 2]) {
         Ok(identity) => writes_request(alloc, identity, session, deed, out),
         Err(_) => false,
     }

@@ -113,14 +113,14 @@ fn page_of(alloc: Global, given: u64) -> Result<Page, OpenError> {
     Ok(page)
 }
 
-/// The node s.example.
-fn identity(alloc: Global) -> Result<Identity, AllocError> {
-    let host = Octets::from_slice(alloc, b"s.example")?;
+/// A node of the realm example.
+pub fn node(alloc: Global, host: &str, address: [u8; 4]) -> Result<Identity, AllocError> {
+    let host = Octets::from_slice(alloc, host.as_bytes())?;
     let realm = Octets::from_slice(alloc, b"example")?;
     Ok(Identity {
         host,
         realm,
-        address: [192, 0, 2, 1],
+        address,
     })
 }
 
@@ -128,7 +128,7 @@ impl Server {
     /// The node s.example whose account is given so much, without sessions. Its peer has not connected yet. None where memory is
     /// wanting, or the account can't be given so much.
     pub fn new(alloc: Global, given: u64) -> Option<Server> {
-        let Ok(identity) = identity(alloc) else {
+        let Ok(identity) = node(alloc, "s.example", [192, 0, 2, 1]) else {
             return None;
         };
         let Ok(dictionary) = Dictionary::base(alloc) else {
