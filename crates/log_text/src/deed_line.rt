@@ -1,6 +1,8 @@
 //! The line of a deed, read.
 ghost use Rattle.std.specs.Prelude.{◌≡◌, ◌++◌, IfOk, IfErr, OnOk, OnSome, option_map};
+ghost use Rattle.std.specs.List.{find};
 ghost use Rattle.std.specs.Str.{bytes_eq};
+ghost use Rattle.base_codes.specs.DeedCodes.{name_of};
 ghost use Rattle.text_parts.specs.Pieces.{pieces_in, pieces_left};
 ghost use Rattle.step_text.specs.declared.read.StepTextFault.TheVariants.{BadLine};
 ghost use Rattle.log_text.specs.DeedLines.{IsDeedLine, args_of, behind_stop, code_of, deed_in, deed_line, guess_deed, named_code, outcome_behind, outcome_of, stop_of};
@@ -22,74 +24,48 @@ pub(crate) struct DeedLine {
     pub(crate) outcome: Outcome,
 }
 
+/// All codes of deeds.
+const CODES: [DeedCode; 21] = [
+    DeedCode::Unlisted,
+    DeedCode::ToPeer,
+    DeedCode::ToSession,
+    DeedCode::Close,
+    DeedCode::Dial,
+    DeedCode::Undial,
+    DeedCode::Arm,
+    DeedCode::Disarm,
+    DeedCode::SndCer,
+    DeedCode::SndCea,
+    DeedCode::SndDwa,
+    DeedCode::SndDpr,
+    DeedCode::SndDpa,
+    DeedCode::SndMsg,
+    DeedCode::Elect,
+    DeedCode::Reserve,
+    DeedCode::Debit,
+    DeedCode::Release,
+    DeedCode::Charge,
+    DeedCode::Refund,
+    DeedCode::Service,
+];
+
+/// The first of these codes with that name.
+fn named_in(codes: &[DeedCode], word: &[u8]) -> Option<DeedCode>
+    ensures { result ≡ find (λ code. bytes_eq word.now (name_of code)) codes.now }
+{
+    for code in codes {
+        if word == code.name().as_bytes() {
+            return Some(*code);
+        }
+    }
+    None
+}
+
 /// The deed of that name.
 fn named_code(word: &[u8]) -> Option<DeedCode>
     ensures { result ≡ named_code word.now }
 {
-    if word == DeedCode::Unlisted.name().as_bytes() {
-        return Some(DeedCode::Unlisted);
-    }
-    if word == DeedCode::ToPeer.name().as_bytes() {
-        return Some(DeedCode::ToPeer);
-    }
-    if word == DeedCode::ToSession.name().as_bytes() {
-        return Some(DeedCode::ToSession);
-    }
-    if word == DeedCode::Close.name().as_bytes() {
-        return Some(DeedCode::Close);
-    }
-    if word == DeedCode::Dial.name().as_bytes() {
-        return Some(DeedCode::Dial);
-    }
-    if word == DeedCode::Undial.name().as_bytes() {
-        return Some(DeedCode::Undial);
-    }
-    if word == DeedCode::Arm.name().as_bytes() {
-        return Some(DeedCode::Arm);
-    }
-    if word == DeedCode::Disarm.name().as_bytes() {
-        return Some(DeedCode::Disarm);
-    }
-    if word == DeedCode::SndCer.name().as_bytes() {
-        return Some(DeedCode::SndCer);
-    }
-    if word == DeedCode::SndCea.name().as_bytes() {
-        return Some(DeedCode::SndCea);
-    }
-    if word == DeedCode::SndDwa.name().as_bytes() {
-        return Some(DeedCode::SndDwa);
-    }
-    if word == DeedCode::SndDpr.name().as_bytes() {
-        return Some(DeedCode::SndDpr);
-    }
-    if word == DeedCode::SndDpa.name().as_bytes() {
-        return Some(DeedCode::SndDpa);
-    }
-    if word == DeedCode::SndMsg.name().as_bytes() {
-        return Some(DeedCode::SndMsg);
-    }
-    if word == DeedCode::Elect.name().as_bytes() {
-        return Some(DeedCode::Elect);
-    }
-    if word == DeedCode::Reserve.name().as_bytes() {
-        return Some(DeedCode::Reserve);
-    }
-    if word == DeedCode::Debit.name().as_bytes() {
-        return Some(DeedCode::Debit);
-    }
-    if word == DeedCode::Release.name().as_bytes() {
-        return Some(DeedCode::Release);
-    }
-    if word == DeedCode::Charge.name().as_bytes() {
-        return Some(DeedCode::Charge);
-    }
-    if word == DeedCode::Refund.name().as_bytes() {
-        return Some(DeedCode::Refund);
-    }
-    if word == DeedCode::Service.name().as_bytes() {
-        return Some(DeedCode::Service);
-    }
-    None
+    named_in(&CODES, word)
 }
 
 /// The code of a deed by its number or its name.
