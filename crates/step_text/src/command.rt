@@ -1,6 +1,8 @@
 //! The first word of a line.
 
 ghost use Rattle.std.specs.Prelude.{◌≡◌};
+ghost use Rattle.std.specs.List.{find};
+ghost use Rattle.std.specs.Str.{bytes_eq};
 ghost use Rattle.step_text.specs.Commands.{name_of, command_of, which};
 
 use bench_item::Step;
@@ -18,6 +20,19 @@ pub(crate) enum Command {
     Drop,
     Work,
 }
+
+/// All of them.
+const COMMANDS: [Command; 9] = [
+    Command::Join,
+    Command::Dialled,
+    Command::Came,
+    Command::Lost,
+    Command::Told,
+    Command::Fired,
+    Command::Lift,
+    Command::Drop,
+    Command::Work,
+];
 
 impl Command {
     /// The word.
@@ -55,36 +70,21 @@ pub(crate) fn which(step: &Step) -> Command
     }
 }
 
+/// The first of these commands with that name.
+fn named_in(commands: &[Command], word: &[u8]) -> Option<Command>
+    ensures { result ≡ find (λ command. bytes_eq word.now (name_of command)) commands.now }
+{
+    for command in commands {
+        if word == command.name() {
+            return Some(*command);
+        }
+    }
+    None
+}
+
 /// The command of a word, if it is one.
 pub(crate) fn command_of(word: &[u8]) -> Option<Command>
     ensures { result ≡ command_of word.now }
 {
-    if word == b"join".as_slice() {
-        return Some(Command::Join);
-    }
-    if word == b"dialled".as_slice() {
-        return Some(Command::Dialled);
-    }
-    if word == b"came".as_slice() {
-        return Some(Command::Came);
-    }
-    if word == b"lost".as_slice() {
-        return Some(Command::Lost);
-    }
-    if word == b"told".as_slice() {
-        return Some(Command::Told);
-    }
-    if word == b"fired".as_slice() {
-        return Some(Command::Fired);
-    }
-    if word == b"lift".as_slice() {
-        return Some(Command::Lift);
-    }
-    if word == b"drop".as_slice() {
-        return Some(Command::Drop);
-    }
-    if word == b"work".as_slice() {
-        return Some(Command::Work);
-    }
-    None
+    named_in(&COMMANDS, word)
 }

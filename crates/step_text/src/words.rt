@@ -1,6 +1,8 @@
 //! Numbers and names from words.
 
-ghost use Rattle.std.specs.Prelude.{◌≡◌, ◌<◌, OnSome, OnOk, IfOk, IfErr, option_map, Some};
+ghost use Rattle.std.specs.Prelude.{◌≡◌, ◌<◌, None, OnSome, OnOk, IfOk, IfErr, codes, option_map, Some, if◌then◌else◌};
+ghost use Rattle.std.specs.Str.{bytes_eq};
+ghost use Rattle.bench_item.specs.declared.source.Source.TheVariants as source;
 ghost use Rattle.text_parts.specs.Pieces.{pieces_left};
 ghost use Rattle.step_text.specs.Guess.{facts_in, first_name, key_of, large, nibble, rest_of, role_of, small, source_of, unshown};
 
@@ -117,6 +119,21 @@ pub(crate) fn facts_in(words: &mut Pieces<'_>) -> [u64; PLACES]
     facts
 }
 
+/// The source of that name and number.
+fn numbered(word: &[u8], number: u32) -> Option<Source>
+    ensures { result ≡ (if bytes_eq word.now (codes "line") then Some (source.Line number) else if bytes_eq word.now (codes "shard") then Some (source.Shard number) else if bytes_eq word.now (codes "desk") then Some (source.Desk number) else None) }
+{
+    if word == b"line".as_slice() {
+        Some(Source::Line(number))
+    } else if word == b"shard".as_slice() {
+        Some(Source::Shard(number))
+    } else if word == b"desk".as_slice() {
+        Some(Source::Desk(number))
+    } else {
+        None
+    }
+}
+
 /// Who puts items out.
 pub(crate) fn source_of(words: &mut Pieces<'_>) -> Option<Source>
     ensures { result ≡ source_of (pieces_left words.old) }
@@ -125,14 +142,5 @@ pub(crate) fn source_of(words: &mut Pieces<'_>) -> Option<Source>
     if word == b"clock".as_slice() {
         return Some(Source::Clock);
     }
-    if word == b"line".as_slice() {
-        return Some(Source::Line(small(words)?));
-    }
-    if word == b"shard".as_slice() {
-        return Some(Source::Shard(small(words)?));
-    }
-    if word == b"desk".as_slice() {
-        return Some(Source::Desk(small(words)?));
-    }
-    None
+    numbered(word, small(words)?)
 }
