@@ -223,6 +223,14 @@ impl Pending {
             handled: Some(handled),
         })
     }
+
+    /// The entry of all its lines, as a log keeps it.
+    fn keep(self, alloc: Global) -> Result<KeptEntry, AllocError>
+        ensures { IfOk result (λ entry. entry ≡ entry_of self) }
+    {
+        let entry = self.close(alloc)?;
+        KeptEntry::keep(alloc, &entry)
+    }
 }
 
 impl Reader {
@@ -245,9 +253,7 @@ impl Reader {
         ensures none { OnOk result (self.new.pending ≡ None) }
     {
         if let Some(pending) = self.pending.take() {
-            let entry = pending.close(alloc)?;
-            let kept = KeptEntry::keep(alloc, &entry)?;
-            self.log.put(kept);
+            self.log.put(pending.keep(alloc)?);
         }
         Ok(())
     }
