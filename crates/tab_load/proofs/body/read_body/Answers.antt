@@ -1,5 +1,4 @@
-use Rattle.std.proofs.Common.{arith, refl, inl, inr}
-use Rattle.tab_load.specs.Loading.{EntriesOf}
+use Rattle.std.proofs.Common.{arith, refl, inl}
 use Rattle.tab_load.proofs.body.read_body.Goals as goal
 
 pub returns-then-octets-begin-clause-err : goal.returns-then-octets-begin-clause-err

@@ -1,4 +1,4 @@
-use Rattle.std.proofs.Common.{arith, refl}
+use Rattle.std.proofs.Common.{arith}
 use Rattle.tab_load.proofs.NameLemmas.{names-more}
 use Rattle.tab_load.proofs.names.put_name.Goals as goal
 
