@@ -1,11 +1,13 @@
-use Rattle.std.proofs.Common.{◌≡◌, ℕ, ◌+◌, ◌≤◌, ◌||◌, Bool, true, false, not, cond, is_none, List, [], ◌∷◌, ◌++◌, Some, None, length, map, take, drop, arith, refl, sym, ap, ◌∙◌}
-use Rattle.std.specs.List.{list_any}
+use Rattle.std.proofs.Common.{◌≡◌, ℕ, suc, ◌+◌, ◌-◌, ◌≤◌, ◌||◌, nat_lt, Bool, true, false, not, cond, is_none, List, [], ◌∷◌, ◌++◌, Some, None, length, map, take, drop, arith, refl, sym, ap, ◌∙◌}
+use Rattle.std.specs.List.{list_any, slice_index_or}
+use Rattle.std.proofs.lemmas.Bool.Decides.{nat_tests}
 use Rattle.std.specs.Str.{bytes_eq}
-use Rattle.std.proofs.lemmas.List.{length-append, flat_map_more}
+use Rattle.std.proofs.lemmas.List.{length-append, flat_map_more, length-take-le, take-append-drop}
 use Rattle.base_list.specs.declared.named.Named.{Named}
 use Rattle.tab_text.specs.Names.{is_name}
 use Rattle.tab_asm.specs.Images.{name_octets}
-use Rattle.tab_load.specs.Names.{place_in, name_fault, NamesOf}
+use Rattle.tab_load.specs.Names.{place_in, name_fault, next_fault, NamesOf}
+use Rattle.tab_load.specs.declared.fault.ImageFault.{ImageFault}
 use Rattle.tab_load.specs.declared.fault.ImageFault.TheVariants.{Name, Unbound}
 use Rattle.tab_load.proofs.ScanLemmas.{front-more, EachAfter-more}
 
@@ -34,3 +36,19 @@ names-more bound entries octets begin count end next names places name rest plac
       inside = inside;
       placed = map-push (place_in bound entries) names name ∙ rw (before.placed, at) (sym (map-push Some places place));
     }
+
+-- a name that octets begin with
+pub name-stands : (octets : List ℕ) (size : ℕ) → size ≡ slice_index_or octets 0 0 → 1 + size ≤ length octets → octets ≡ name_octets (take ((1 + size) - 1) (drop 1 octets)) ++ drop (1 + length (take ((1 + size) - 1) (drop 1 octets))) octets
+name-stands [] size is inside = absurd (omega (arith, inside))
+name-stands (first ∷ rest) size is inside =
+    let long : length (take size rest) ≡ size = length-take-le size rest (omega (arith, inside)) in
+    let same : (1 + size) - 1 ≡ size = omega arith in
+    let next : 1 + first ≡ suc first = omega arith in
+    rw (same, long) (rw is (rw next (ap (λ (octets : List ℕ). first ∷ octets) (sym (take-append-drop first rest)))))
+
+-- what is wrong with the name that octets begin with
+pub name-wrong : {T : Type 0} (bound : Bool) (entries : List (Named T)) (before : List (List ℕ)) (octets : List ℕ) (size : ℕ) (fault : ImageFault) → size ≡ slice_index_or octets 0 0 → 1 + size ≤ length octets → name_fault bound entries before (take ((1 + size) - 1) (drop 1 octets)) ≡ Some fault → next_fault bound entries before octets ≡ Some fault
+name-wrong bound entries before octets size fault is inside wrong =
+    let same : (1 + size) - 1 ≡ slice_index_or octets 0 0 = omega (arith, is) in
+    let long : nat_lt (length octets) (1 + slice_index_or octets 0 0) ≡ false = grind (arith, nat_tests, is, inside) in
+    rw long (rw same at wrong)

@@ -15,7 +15,6 @@ use Rattle.tab_load.specs.declared.fault.LoadError.{LoadError}
 use Rattle.tab_load.proofs.ScanLemmas.{in-row}
 use Rattle.tab_load.specs.declared.counts.Counts.{Counts}
 use Rattle.tab_load.specs.declared.counts.Format.{Format}
-use Rattle.tab_load.specs.declared.counts.Format.TheVariants.{One, Two}
 use Rattle.tab_load.specs.declared.fault.ImageFault.TheVariants.{Count, BackJump}
 use Rattle.tab_load.proofs.CheckLemmas.{code-length}
 

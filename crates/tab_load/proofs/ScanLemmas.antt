@@ -43,7 +43,7 @@ size-is Two (GoTo state) = refl
 size-is Two NoRow = refl
 
 -- what is first behind a front
-get_or-drop-0 : (code : List ℕ) (at : ℕ) → slice_index_or (drop at code) 0 0 ≡ slice_index_or code at 0
+pub get_or-drop-0 : (code : List ℕ) (at : ℕ) → slice_index_or (drop at code) 0 0 ≡ slice_index_or code at 0
 get_or-drop-0 code zero = refl
 get_or-drop-0 [] (suc at) = refl
 get_or-drop-0 (x ∷ code) (suc at) = get_or-drop-0 code at

@@ -5,40 +5,31 @@ ghost use Rattle.tab_load.specs.Faults.{number_of, at_of};
 ghost use Rattle.tab_load.specs.declared.fault.LoadError.TheVariants.{NoMemory, Refused};
 
 use std::alloc::{AllocError, AllocFailed};
+use std::fmt;
 use thiserror::Error;
 
 /// What is wrong with an image.
 #[derive(Clone, Copy, Debug, PartialEq, Eq, Error)]
 pub enum ImageFault {
     /// It begins with the octets of no format.
-    #[error("no image")]
     Magic,
     /// It ends before its part does.
-    #[error("cut off")]
     Cut,
     /// A count or an operand is out of range.
-    #[error("a number is out of range")]
     Count,
     /// A name isn't spelled as names are, or stands in its list twice.
-    #[error("bad name")]
     Name,
     /// The book of laws lacks a name.
-    #[error("a name is not registered")]
     Unbound,
     /// An offset leads to no start of a row and to no end.
-    #[error("bad offset")]
     Offset,
     /// A failed guard would go back.
-    #[error("a jump back")]
     BackJump,
     /// No instruction begins with this octet.
-    #[error("unknown instruction")]
     OpCode,
     /// The code has no end.
-    #[error("the code has no end")]
     NoEnd,
     /// Octets stand behind the code.
-    #[error("octets behind the code")]
     Trailing,
 }
 
@@ -59,6 +50,28 @@ impl ImageFault {
             ImageFault::NoEnd => 9,
             ImageFault::Trailing => 10,
         }
+    }
+
+    fn text(self) -> &'static str {
+        match self {
+            ImageFault::Magic => "no image",
+            ImageFault::Cut => "cut off",
+            ImageFault::Count => "a number is out of range",
+            ImageFault::Name => "bad name",
+            ImageFault::Unbound => "a name is not registered",
+            ImageFault::Offset => "bad offset",
+            ImageFault::BackJump => "a jump back",
+            ImageFault::OpCode => "unknown instruction",
+            ImageFault::NoEnd => "the code has no end",
+            ImageFault::Trailing => "octets behind the code",
+        }
+    }
+}
+
+// By hand: a derived one writes in every arm, and each is proved to.
+impl fmt::Display for ImageFault {
+    fn fmt<W: fmt::Write>(&self, f: &mut fmt::Formatter<W>) -> fmt::Result {
+        f.write_str(self.text())
     }
 }
 

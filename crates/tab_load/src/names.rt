@@ -1,6 +1,6 @@
 //! The names of an image.
 
-ghost use Rattle.std.specs.Prelude.{◌≡◌, ◌++◌, ◌+◌, ◌<◌, ◌≤◌, drop, take, length, map, true, false, IfSome, IfOk, IfErr, OnOk, None, Some, is_none};
+ghost use Rattle.std.specs.Prelude.{◌≡◌, ◌++◌, ◌∷◌, [], ◌+◌, ◌<◌, ◌≤◌, slice_index_or, drop, take, length, map, true, false, IfSome, IfOk, IfErr, OnOk, None, Some, is_none};
 ghost use Rattle.std.specs.List.{flat_map, list_any};
 ghost use Rattle.std.specs.Str.{bytes_eq};
 ghost use Rattle.tab_asm.specs.Images.{name_octets};
@@ -11,17 +11,27 @@ ghost use Rattle.tab_load.specs.Loading.{lists, NamesAre, AnyNameWrong};
 use crate::counts::Counts;
 use crate::fault::{ImageFault, LoadError, fault_at};
 use base_list::{NamedList, Octets};
-use std::alloc::Global;
+use std::alloc::{AllocError, Global};
 use tab_law::LawBook;
 use tab_text::is_name;
 
 /// Names in order, and their places in a book.
-#[derive(Drop)]
 pub struct Names {
     pub names: Vec<Octets>,
     pub places: Vec<u8>,
     /// Where they end in the image.
     pub end: usize,
+}
+
+// By hand, here and below: a derived `drop` is proved anew, field by field, at each way out of each function that holds it.
+impl Drop for Names {
+    fn drop(self) {
+        let Names {
+            names,
+            places,
+            end: _,
+        } = self;
+    }
 }
 
 /// The place of a name among those of a book; names that aren't bound, those of states, are in no book.
@@ -70,6 +80,16 @@ fn place_of<T: Drop>(bound: bool, entries: &NamedList<T>, name: &[u8]) -> u8
     }
 }
 
+/// The number in the first octet, and 0 where there is none.
+fn first_number(octets: &[u8]) -> usize
+    ensures { result ≡ slice_index_or octets.now 0 0 }
+{
+    match octets {
+        [] => 0,
+        [first, ..] => *first as usize,
+    }
+}
+
 /// The name at a place of the image, behind others.
 fn read_name<'a, T: Drop>(
     bound: bool,
@@ -85,15 +105,28 @@ fn read_name<'a, T: Drop>(
     ensures err { IfErr result (λ fault. next_fault bound entries.now before.now (drop at octets.now) ≡ Some fault) }
 {
     let rest = &octets[at..];
-    if rest.is_empty() || rest.len() < 1 + rest[0] as usize {
+    let size = first_number(rest);
+    if rest.len() < 1 + size {
         return Err(ImageFault::Cut);
     }
-    let size = rest[0] as usize;
     let name = &rest[1..1 + size];
     match name_fault(bound, entries, before, name) {
         None => Ok(name),
         Some(fault) => Err(fault),
     }
+}
+
+/// Puts one more name behind the others.
+fn push_name(alloc: Global, names: &mut Names, name: &[u8], place: u8) -> Result<(), AllocError>
+    requires { names.old.end + (1 + length name.now) < 18446744073709551616 }
+    ensures names { OnOk result (names.new.names.items ≡ names.old.names.items ++ name.now ∷ []) }
+    ensures places { OnOk result (names.new.places.items ≡ names.old.places.items ++ place ∷ []) }
+    ensures end { OnOk result (names.new.end ≡ names.old.end + (1 + length name.now)) }
+{
+    names.names.push(Octets::from_slice(alloc, name)?)?;
+    names.places.push(place)?;
+    names.end += 1 + name.len();
+    Ok(())
 }
 
 /// Reads one more name.
@@ -117,9 +150,7 @@ fn put_name<T: Drop>(
         Err(fault) => return Err(LoadError::Refused(fault_at(fault, names.end, octets.len()))),
     };
     let place = place_of(bound, entries, name);
-    names.names.push(Octets::from_slice(alloc, name)?)?;
-    names.places.push(place)?;
-    names.end += 1 + name.len();
+    push_name(alloc, names, name, place)?;
     Ok(())
 }
 
@@ -149,12 +180,22 @@ pub(crate) fn read_names<T: Drop>(
 }
 
 /// The names of states, kinds, guards and actions.
-#[derive(Drop)]
 pub struct ImageNames {
     pub states: Names,
     pub kinds: Names,
     pub guards: Names,
     pub actions: Names,
+}
+
+impl Drop for ImageNames {
+    fn drop(self) {
+        let ImageNames {
+            states,
+            kinds,
+            guards,
+            actions,
+        } = self;
+    }
 }
 
 /// The names of an image.

@@ -1,4 +1,4 @@
-use Rattle.std.proofs.Common.{◌≡◌, ℕ, ◌+◌, ◌-◌, ◌<◌, ◌≤◌, suc, zero, Bool, true, false, List, [], ◌∷◌, ◌++◌, Option, Some, None, length, map, filter, get_or, arith, rules, refl, sym, ◌∙◌, append_assoc, append-nil, add-zero, ap, drop, ◌↔◌}
+use Rattle.std.proofs.Common.{◌≡◌, ℕ, ◌+◌, ◌-◌, ◌<◌, ◌≤◌, suc, zero, Bool, true, false, List, [], ◌∷◌, ◌++◌, Some, None, length, map, filter, get_or, arith, rules, refl, sym, ◌∙◌, append_assoc, append-nil, add-zero, ap, drop, ◌↔◌, take, subst, length-append}
 use Rattle.std.specs.Prelude.{◌==◌, ◌&&◌}
 use Rattle.std.specs.List.{slice_get, enumerate_from, list_all}
 use Rattle.std.specs.Option.{option_map_or}
@@ -6,25 +6,23 @@ use Rattle.std.specs.Str.{bytes_eq}
 use Rattle.std.proofs.Common.{inl, inr}
 use Rattle.std.proofs.lemmas.Bool.{cases_lt, ne_eqb}
 use Rattle.std.proofs.lemmas.List.{append_cancel_left, drop_all}
-use Rattle.std.proofs.Math.Seq.{drop-cons}
-use Rattle.tab_law.specs.Acts.{Permits}
+use Rattle.std.proofs.Math.Seq.{drop-cons, take-append_seam}
+use Rattle.tab_law.specs.Acts.{Permits, emitted}
 use Rattle.tab_law.specs.declared.law.Change.{Change}
 use Rattle.std.proofs.lemmas.Option.{slice_get-get_or}
 use Rattle.std.proofs.lemmas.Slice.Eq.{bytes_eq-Decides}
 use Rattle.std.proofs.lemmas.List.Quantifiers.{position-Some}
 use Rattle.tab_law.specs.Books.{Laws, guard_answer, named_answer, ActPermits, NamedPermits}
-use Rattle.base_list.specs.Named.{place_of, entry_of, HasOwnNames}
+use Rattle.base_list.specs.Named.{place_of, HasOwnNames}
 use Rattle.tab_law.specs.declared.scene.Scene.{Scene}
 use Rattle.tab_law.specs.declared.scene.Deed.{Deed}
 use Rattle.base_list.specs.declared.named.Named.{Named}
 use Rattle.base_list.proofs.NamedLemmas.{entry_of-place}
 use Rattle.tab_text.specs.Contents.{Contents}
 use Rattle.tab_text.specs.declared.row.Row.{Row}
-use Rattle.tab_step.specs.Moves.{Runs, end_of, scene_of, MovesBy, name_at, is_kind_of, matches}
+use Rattle.tab_step.specs.Moves.{Runs, end_of, scene_of, name_at, is_kind_of, matches}
 use Rattle.tab_step.specs.Bind.{IsPlacesOf}
 use Rattle.tab_step.specs.declared.bound.RowPlaces.{RowPlaces}
-use Rattle.tab_step.specs.declared.machine.MachineState.{MachineState}
-use Rattle.tab_step.specs.declared.machine.Event.{Event}
 
 -- a row that stands for none
 pub no_row : Row
@@ -185,3 +183,16 @@ first-none p (x ∷ xs) m d f =
 pub matches-places : (laws : Laws) (table : Contents) (row : Row) (places : RowPlaces) (state kind : ℕ) (scene : Scene) → HasOwnNames laws.kinds → IsPlacesOf laws table row places → matches table state (is_kind_of laws kind) (named_answer laws scene) row ≡ ((row.state == state) && (places.kind == kind) && list_all (guard_answer laws scene) places.guards)
 matches-places laws table row places state kind scene own at =
     rw (is_kind_of-place laws kind places.kind (name_at table.kinds row.kind) own at.kind, ← list_all-named laws table.guards scene row.guards places.guards at.guards) refl
+
+-- the deeds that a law permits are as many as it emits
+pub emits-short : (law : List Change) (scene : Scene) (new : List ℕ) (deeds : List Deed) (count : ℕ) → count ≡ length (emitted law scene new) → length deeds < count → (own rest : List Deed) → Permits law scene new own → deeds ≡ own ++ rest → ⊥
+emits-short law scene new deeds count is short own rest permits joined =
+    let all : length deeds ≡ length own + length rest = ap length joined ∙ length-append own rest in
+    let same : length own ≡ count = ap length permits.emits ∙ sym is in
+    omega (arith, short, all, same)
+
+-- and are those in front of all
+pub emits-front : (law : List Change) (scene : Scene) (new : List ℕ) (deeds : List Deed) (count : ℕ) → count ≡ length (emitted law scene new) → (own rest : List Deed) → Permits law scene new own → deeds ≡ own ++ rest → Permits law scene new (take count deeds)
+emits-front law scene new deeds count is own rest permits joined =
+    let same : count ≡ length own = is ∙ sym (ap length permits.emits) in
+    subst (Permits law scene new) (sym (rw (same, joined) (take-append_seam own rest))) permits

@@ -1,4 +1,4 @@
-use Rattle.std.proofs.Common.{◌≡◌, ℕ, ◌≤◌, Bool, true, false, ◌||◌, ltb, nat_lt, List, [], ◌∷◌, ◌++◌, length, map, Option, Some, None, option_map, arith, refl, sym, ap, ◌∙◌}
+use Rattle.std.proofs.Common.{◌≡◌, ℕ, ◌≤◌, Bool, true, false, ◌||◌, ◌&&◌, ltb, nat_lt, List, [], ◌∷◌, ◌++◌, length, map, Option, Some, None, option_map, arith, refl, sym, ap, ◌∙◌}
 use Rattle.std.specs.Str.{bytes_eq}
 use Rattle.std.proofs.lemmas.Bool.Decides.{nat_tests}
 use Rattle.std.proofs.lemmas.List.{map_push, length-map, append_assoc}
@@ -89,6 +89,12 @@ many-fault is_first cells (Some found) row is front has many = rw (has, is, ← 
 state-is : (octets : List ℕ) (name : Name) → true ≡ is_state octets → IsFront octets name → octets ≡ octets_in name
 state-is [] name is front = front-whole [] name (omega arith) front
 state-is (b ∷ octets) name is front = name-is (b ∷ octets) name (sym is) front
+
+-- what holds of three holds of each
+pub each-of-three : (a b c : Bool) → true ≡ (a && b && c) → (true ≡ a) × (true ≡ b) × (true ≡ c)
+each-of-three true true c is = (refl, refl, is)
+each-of-three true false c is = cc
+each-of-three false b c is = cc
 
 -- what a row of cells spells, part by part
 pub row-found : (cells : Cells) (kind : List ℕ) (condition : List (List ℕ)) (guards actions : Option (List (List ℕ))) (row : RowNames) → tokens cells.event ≡ kind ∷ condition → true ≡ is_state cells.state → true ≡ is_name kind → true ≡ is_name cells.next → condition_of condition ≡ guards → actions_of (tokens cells.action) ≡ actions → IsFrontOf guards row.guards → IsFrontOf actions row.actions → IsFront cells.state row.state → IsFront kind row.kind → IsFront cells.next row.next → IsRowFrontOf (row_of cells) row

@@ -1,4 +1,4 @@
-ghost use Rattle.std.specs.Prelude.{◌≡◌, ◌∷◌, [], ◌==◌, ◌≤◌, position, length, drop, take, List, ℕ, None, Some, MatchOption, MatchResult, IfSome};
+ghost use Rattle.std.specs.Prelude.{◌≡◌, ◌∷◌, [], ◌==◌, ◌&&◌, ◌≤◌, position, length, drop, take, List, ℕ, None, Some, MatchOption, MatchResult, IfSome};
 ghost use Rattle.std.specs.List.{flat_map};
 ghost use Rattle.text_parts.specs.Words.{tokens, is_token_end};
 ghost use Rattle.tab_text.specs.Names.{is_name};
@@ -253,6 +253,13 @@ fn is_state(cell: &Name) -> bool
     is_bare(cell) || is_named(cell)
 }
 
+/// Whether the cells of a row that are one name each are made of names.
+fn are_names(state: &Name, kind: &[u8], next: &Name) -> bool
+    ensures { (before after : List ℕ) → IsFront before state.now → IsFront after next.now → result ≡ (is_state before && is_name kind.now && is_name after) }
+{
+    is_state(state) && is_name(kind) && is_named(next)
+}
+
 /// The row that cells spell.
 #[tactic(auto, unfolding(crate::specs::Cells::row_of))]
 fn row_of(cells: RowLines) -> Option<RowNames>
@@ -260,14 +267,20 @@ fn row_of(cells: RowLines) -> Option<RowNames>
     ensures line { IfSome result (λ row. row.line ≡ cells.entry.line.number) }
 {
     let mut words = cells.event();
-    let kind = words.next()?;
+    let Some(kind) = words.next() else {
+        return None;
+    };
     let state = cells.state();
     let next = cells.next();
-    if !is_state(&state) || !is_name(kind) || !is_named(&next) {
+    if !are_names(&state, kind, &next) {
         return None;
     }
-    let guards = condition_of(&mut words)?;
-    let actions = actions_of(cells.action())?;
+    let Some(guards) = condition_of(&mut words) else {
+        return None;
+    };
+    let Some(actions) = actions_of(cells.action()) else {
+        return None;
+    };
     Some(RowNames {
         line: cells.line.number,
         state,

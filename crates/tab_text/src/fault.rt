@@ -3,37 +3,29 @@ ghost use Rattle.tab_text.specs.Codes.{number_of};
 ghost use Rattle.tab_text.specs.declared.fault.ParseError.TheVariants.{NoMemory, Fault};
 
 use std::alloc::{AllocError, AllocFailed};
+use std::fmt;
 use thiserror::Error;
 
 /// What is wrong with a text. The message of each says what was wanted in its place.
 #[derive(Clone, Copy, Debug, PartialEq, Eq, Error)]
 pub enum TextCode {
     /// The first line that isn't skipped is no header, or there is none.
-    #[error("wanted a header: the words State, Event, Action and Next, the first at byte 2")]
     NoHeader,
     /// A byte that a text can't have, or one in byte 0 or 1 of a row's line that can't stand there.
-    #[error("wanted bytes 0x20 to 0x7E alone, in a row's line a blank or + in byte 0 and a blank in byte 1")]
     BadByte,
     /// A line with `+` in byte 0 before which no row begins.
-    #[error("wanted a row before a line that continues one")]
     NoRowToContinue,
     /// A row lacks a cell, or the table has no row.
-    #[error("wanted a row with Event, Action and Next, and in the first row with a State")]
     EmptyCell,
     /// A cell isn't made of names as its column wants it.
-    #[error("wanted names of at most 40 bytes, a letter and then letters, digits, - / or _, an Event as `Kind` or `Kind when guard and guard`, and an Action as `-` or names with commas between")]
     BadName,
     /// A row past the last one that a table has room for.
-    #[error("wanted at most 4,096 rows")]
     TooManyRows,
     /// A name past the last one that a table has room for.
-    #[error("wanted at most 64 states, 128 kinds, 64 guards and 64 actions in all rows")]
     TooManyNames,
     /// A row with more guards or actions than a row has room for.
-    #[error("wanted at most 4 guards and 8 actions in a row")]
     TooManyInRow,
     /// The whole text is too long.
-    #[error("wanted a text of at most 1,048,576 bytes")]
     TooLong,
 }
 
@@ -53,6 +45,32 @@ impl TextCode {
             TextCode::TooManyInRow => 8,
             TextCode::TooLong => 9,
         }
+    }
+
+    fn text(self) -> &'static str {
+        match self {
+            TextCode::NoHeader =>
+                "wanted a header: the words State, Event, Action and Next, the first at byte 2",
+            TextCode::BadByte =>
+                "wanted bytes 0x20 to 0x7E alone, in a row's line a blank or + in byte 0 and a blank in byte 1",
+            TextCode::NoRowToContinue => "wanted a row before a line that continues one",
+            TextCode::EmptyCell =>
+                "wanted a row with Event, Action and Next, and in the first row with a State",
+            TextCode::BadName =>
+                "wanted names of at most 40 bytes, a letter and then letters, digits, - / or _, an Event as `Kind` or `Kind when guard and guard`, and an Action as `-` or names with commas between",
+            TextCode::TooManyRows => "wanted at most 4,096 rows",
+            TextCode::TooManyNames =>
+                "wanted at most 64 states, 128 kinds, 64 guards and 64 actions in all rows",
+            TextCode::TooManyInRow => "wanted at most 4 guards and 8 actions in a row",
+            TextCode::TooLong => "wanted a text of at most 1,048,576 bytes",
+        }
+    }
+}
+
+// By hand: a derived one writes in every arm, and each is proved to.
+impl fmt::Display for TextCode {
+    fn fmt<W: fmt::Write>(&self, f: &mut fmt::Formatter<W>) -> fmt::Result {
+        f.write_str(self.text())
     }
 }
 

@@ -66,10 +66,10 @@ pub fn parse(alloc: Global, text: &[u8]) -> Result<Table, ParseError>
     ensures refused { IfErr result (λ error. IsRefusal (first_fault text.now) error) }
 {
     let names = check(text)?;
-    let (rows, lines) = fill(alloc, text, &names)?;
     let states = names.states.copied(alloc)?;
     let kinds = names.kinds.copied(alloc)?;
     let guards = names.guards.copied(alloc)?;
     let actions = names.actions.copied(alloc)?;
+    let (rows, lines) = fill(alloc, text, &names)?;
     Ok(Table::new(states, kinds, guards, actions, rows, lines))
 }

@@ -1,4 +1,4 @@
-use Rattle.std.proofs.Common.{rules, ◌≡◌, ◌<◌, ◌++◌, ◌∷◌, [], length}
+use Rattle.std.proofs.Common.{◌≡◌, ◌<◌, ◌++◌, ◌∷◌, [], length}
 use Rattle.std.proofs.lemmas.List.{take_more}
 use Rattle.tab_step.specs.Bind.{lacking_in, IsPlacesOf}
 use Rattle.tab_step.proofs.BindLemmas.{flat_map-none, AllZip-more, none-first}
@@ -14,6 +14,6 @@ unreachable-requires c =
 
 pub loop-row-preserved : goal.loop-row-preserved
 loop-row-preserved c =
-    let pushed : c.push.new.self.items ≡ c.loop-row.places.items ++ c.in-Ok.found ∷ [] = search rules in
+    let pushed : c.push.new.self.items ≡ c.loop-row.places.items ++ c.in-Ok.found ∷ [] = c.in_ok-push-in-Ok.ensures.items in
     rw (take_more c.rows-row-items.result.now c.loop-row.row-index c.row-item.result c.loop-row-test.true, ← c.row-item.is, pushed)
     (AllZip-more (IsPlacesOf c.args.book.now c.args.table.now) _ _ _ _ c.loop-row.invariant c.in-Ok.ensures.ok)

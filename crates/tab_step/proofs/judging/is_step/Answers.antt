@@ -1,4 +1,4 @@
-use Rattle.std.proofs.Common.{◌≡◌, Some, sym, ◌∙◌}
+use Rattle.std.proofs.Common.{◌≡◌, Some}
 use Rattle.tab_step.proofs.MoveLemmas.{no_row}
 use Rattle.tab_step.proofs.judging.is_step.Goals as goal
 

@@ -1,4 +1,3 @@
-use Rattle.std.proofs.Common.{arith, refl}
 use Rattle.tab_law.specs.Books.{ActPermits}
 use Rattle.tab_step.proofs.MoveLemmas.{Runs-length, Runs-rest, Runs-none}
 use Rattle.tab_step.proofs.judging.may_run.Goals as goal

@@ -1,4 +1,4 @@
-use Rattle.std.proofs.Common.{arith, sym, ◌∙◌, ◌+◌, ◌≡◌, ◌<◌, length, []}
+use Rattle.std.proofs.Common.{arith, sym, ◌∙◌, ◌+◌, ◌≡◌, ◌<◌, length}
 use Rattle.tab_law.specs.Books.{named_answer}
 use Rattle.tab_step.specs.Moves.{matches, is_kind_of}
 use Rattle.tab_step.proofs.MoveLemmas.{first-at, first-none, no_row}
