@@ -74,6 +74,21 @@ fn with_value<'a>(
     with(command, value(alloc, id, help))
 }
 
+/// The command with one option more.
+fn with_option<'a>(
+    alloc: Global,
+    command: Command<'a>,
+    id: &'a str,
+    name: &'a str,
+    help: &'a str,
+) -> Result<Command<'a>, AllocError>
+    requires { (out-Command command).has_globals ≡ false }
+    ensures app { IfOk result (λ c. app_of c ≡ with_rule (app_of command.entry) (option_rule id.entry.now name.entry.now)) }
+    ensures local { IfOk result (λ c. (out-Command c).has_globals ≡ false) }
+{
+    with(command, option(alloc, id, name, help))
+}
+
 /// The command with one flag more.
 fn with_flag<'a>(
     alloc: Global,
@@ -140,13 +155,13 @@ fn walk_command<'a>(alloc: Global) -> Result<Command<'a>, AllocError>
         "names",
         "Print the kinds, guards and actions that a table may name, with their laws",
     )?;
-    let table = option(
+    with_option(
         alloc,
+        command,
         "NAME",
         "table",
         "Print the shipped table of that name: peer, client or server",
-    );
-    with(command, table)
+    )
 }
 
 /// The program's command, with none below it.
@@ -189,17 +204,19 @@ fn walking_command<'a>(alloc: Global) -> Result<Command<'a>, AllocError>
     ensures { IfOk result (λ c. app_of c ≡ walking_app) }
 {
     let read = read_command(alloc)?;
+    let command = with_command(top(alloc), read)?;
     let walk = walk_command(alloc)?;
-    with_command(with_command(top(alloc), read)?, walk)
+    with_command(command, walk)
 }
 
 /// The program's command.
 pub(crate) fn command<'a>(alloc: Global) -> Result<Command<'a>, AllocError>
     ensures { IfOk result (λ c. app_of c ≡ dbench_app) }
 {
+    let command = walking_command(alloc)?;
     let command = with_file_command(
         alloc,
-        walking_command(alloc)?,
+        command,
         "draw",
         (DRAW_ABOUT, DRAW_LONG_ABOUT),
         ("TABLE", TABLE_HELP),
