@@ -74,6 +74,20 @@ fn session_field(alloc: Global, session: Option<&str>) -> Result<Option<TypedAvp
     }
 }
 
+// The session and the node's names, as an answer has them.
+fn named(
+    alloc: Global,
+    identity: &Identity,
+    session: Option<&str>,
+) -> Result<(Option<TypedAvp<Text>>, TypedAvp<Octets>, TypedAvp<Octets>), AllocError>
+    ensures { IfOk result (λ n. n ≡ (option_map made (option_copied session.entry), made identity.now.host, made identity.now.realm)) }
+{
+    let session_id = session_field(alloc, session)?;
+    let host = identity.host.copy(alloc)?;
+    let realm = identity.realm.copy(alloc)?;
+    Ok((session_id, made(host), made(realm)))
+}
+
 /// The answer of a node to a request with this header, of this session, for its fault: R and T are clear, P is the
 /// request's, and E is set where the Result-Code is 3xxx (RFC 6733 sections 6.2 and 7.1.3). Its AVPs, Session-Id,
 /// Origin-Host, Origin-Realm, Result-Code and Failed-AVP (section 7.5), have M and not P. `length` is 0: writing
@@ -91,13 +105,13 @@ pub fn error_answer(
     ensures too_long { IsErrOf result WriteError.LengthOver24Bits ↔ IsSomeAnd fault.now.failed (λ a. 2 ^ 24 ≤ length_of a) }
 {
     let failed_avp = failed_field(alloc, &fault.failed)?;
-    let session_id = session_field(alloc, session)?;
+    let (session_id, origin_host, origin_realm) = named(alloc, identity, session)?;
     let code = fault.result.number();
     Ok(Command::ErrorAnswer(ErrorAnswer {
         header: answer_header(header, code),
         session_id,
-        origin_host: made(identity.host.copy(alloc)?),
-        origin_realm: made(identity.realm.copy(alloc)?),
+        origin_host,
+        origin_realm,
         result_code: made(code),
         failed_avp,
         rest: AvpList::new(alloc),

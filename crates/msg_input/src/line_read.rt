@@ -79,6 +79,16 @@ fn close_lines<M: Manner, O: ByteSink>(lines: &ByLine<M>, end: End, sink: &mut O
     tell_end::<M, O>(sink, lines.text(), end, lines.place(), lines.has_refused())
 }
 
+// What is known before the first read, and room for what is read at once.
+fn begun<M: Manner>(alloc: Global) -> Result<(ByLine<M>, Vec<u8>), AllocError>
+    ensures begun { IfOk result (λ begun. begun.0.reading.characters ≡ 0) }
+    ensures start { IfOk result (λ begun. LinesSoFar M.Says M.line_text begun.0 [] []) }
+    ensures room { IfOk result (λ begun. length begun.1.items ≡ TEXT) }
+{
+    let lines = ByLine::new(alloc)?;
+    Ok((lines, vec![in alloc; 0u8; TEXT]?))
+}
+
 /// Reads lines to the end of `source`, each of which is an input by itself, and prints them to `sink` in a manner.
 pub fn read_lines_in<M: Manner, I: ByteSource, O: ByteSink>(
     alloc: Global,
@@ -98,7 +108,7 @@ pub fn read_lines_in<M: Manner, I: ByteSource, O: ByteSink>(
     ensures refused { result ≡ Status.Refused → I.reads source.old < I.reads source.new }
     ensures words { result ≢ Status.Usage }
 {
-    let (Ok(mut lines), Ok(mut text)) = (ByLine::<M>::new(alloc), vec![in alloc; 0u8; TEXT]) else {
+    let Ok((mut lines, mut text)) = begun::<M>(alloc) else {
         return tell_no_memory::<M, O>(sink);
     };
     match pour_lines(&mut lines, &mut text, source, sink) {

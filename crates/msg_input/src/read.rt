@@ -12,7 +12,7 @@ use crate::reading::Reading;
 use bench_device::{
     ByteSink, ByteSource, MAX_IDLE_WRITES, MAX_READS, Status, WriteFault, write_whole,
 };
-use std::alloc::Global;
+use std::alloc::{AllocError, Global};
 
 /// How many characters are read at once.
 pub(crate) const TEXT: usize = 65_536;
@@ -164,6 +164,15 @@ pub(crate) fn tell_no_memory<M: Manner, O: ByteSink>(sink: &mut O) -> Status
     tell_end::<M, O>(sink, b"", End::Refused(Refusal::NoMemory), start, false)
 }
 
+// What is known before the first read, and room for what is read at once.
+fn begun<M: Manner>(alloc: Global) -> Result<(Reading<M>, Vec<u8>), AllocError>
+    ensures start { IfOk result (λ begun. SoFar M.Says 0 begun.0 [] [] None) }
+    ensures room { IfOk result (λ begun. length begun.1.items ≡ TEXT) }
+{
+    let reading = Reading::new(alloc)?;
+    Ok((reading, vec![in alloc; 0u8; TEXT]?))
+}
+
 /// Reads messages to the end of `source`, and prints them to `sink` in a manner.
 pub fn read_in<M: Manner, I: ByteSource, O: ByteSink>(
     alloc: Global,
@@ -183,8 +192,7 @@ pub fn read_in<M: Manner, I: ByteSource, O: ByteSink>(
     ensures refused { result ≡ Status.Refused → I.reads source.old < I.reads source.new }
     ensures words { result ≢ Status.Usage }
 {
-    let (Ok(mut reading), Ok(mut text)) = (Reading::<M>::new(alloc), vec![in alloc; 0u8; TEXT])
-    else {
+    let Ok((mut reading, mut text)) = begun::<M>(alloc) else {
         return tell_no_memory::<M, O>(sink);
     };
     match pour(&mut reading, &mut text, source, sink) {

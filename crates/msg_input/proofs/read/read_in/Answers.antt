@@ -12,19 +12,19 @@ returns-in_default-clause-run g c =
     refl (λ e. cc) c.tell_no_memory.ensures.told
 
 -- reading ended, and the last texts were handed out
-pub returns-in-Ok-clause-run : goal.returns-in-Ok-clause-run
-returns-in-Ok-clause-run g c =
-    IsRun-closed g.I.ByteSource.remaining g.I.ByteSource.reads g.I.ByteSource.failures g.O.ByteSink.contents g.O.ByteSink.failures g.O.ByteSink.idle _ _ _ _ _ _ c.in-Ok.end _ _
-    c.in-Ok.ensures.end c.in-Ok.ensures.sound.0 c.close.ensures.closes
+pub returns-in-Ok-pour-clause-run : goal.returns-in-Ok-pour-clause-run
+returns-in-Ok-pour-clause-run g c =
+    IsRun-closed g.I.ByteSource.remaining g.I.ByteSource.reads g.I.ByteSource.failures g.O.ByteSink.contents g.O.ByteSink.failures g.O.ByteSink.idle _ _ _ _ _ _ c.in-Ok-pour.end _ _
+    c.in-Ok-pour.ensures.end c.in-Ok-pour.ensures.sound.0 c.close.ensures.closes
 
-pub returns-in-Ok-clause-whole : goal.returns-in-Ok-clause-whole
-returns-in-Ok-clause-whole g c =
-    done-closed g.I.ByteSource.remaining g.I.ByteSource.reads g.I.ByteSource.failures g.O.ByteSink.contents g.O.ByteSink.failures g.O.ByteSink.idle _ _ _ _ _ c.in-Ok.end _ _
-    c.in-Ok.ensures.end c.close.ensures.closes
+pub returns-in-Ok-pour-clause-whole : goal.returns-in-Ok-pour-clause-whole
+returns-in-Ok-pour-clause-whole g c =
+    done-closed g.I.ByteSource.remaining g.I.ByteSource.reads g.I.ByteSource.failures g.O.ByteSink.contents g.O.ByteSink.failures g.O.ByteSink.idle _ _ _ _ _ c.in-Ok-pour.end _ _
+    c.in-Ok-pour.ensures.end c.close.ensures.closes
 
-pub returns-in-Ok-clause-words : goal.returns-in-Ok-clause-words
-returns-in-Ok-clause-words g c =
-    usage-closed g.O.ByteSink.contents g.O.ByteSink.failures g.O.ByteSink.idle _ _ _ c.in-Ok.end _ _ c.close.ensures.closes
+pub returns-in-Ok-pour-clause-words : goal.returns-in-Ok-pour-clause-words
+returns-in-Ok-pour-clause-words g c =
+    usage-closed g.O.ByteSink.contents g.O.ByteSink.failures g.O.ByteSink.idle _ _ _ c.in-Ok-pour.end _ _ c.close.ensures.closes
 
 -- a write failed
 pub returns-clause-run : goal.returns-clause-run
@@ -38,10 +38,10 @@ pub returns-in_default-clause-report : goal.returns-in_default-clause-report
 returns-in_default-clause-report g c =
     IsReport-none (IsPrintedOf g.M.Manner.Says 0) g.M.Manner.end_text g.I.ByteSource.remaining g.O.ByteSink.contents g.O.ByteSink.failures g.O.ByteSink.idle _ _ _ _ _ (HaltedText-none g.M.Manner.Says 0) c.tell_no_memory.ensures.told
 
-pub returns-in-Ok-clause-report : goal.returns-in-Ok-clause-report
-returns-in-Ok-clause-report g c =
-    IsReport-closed (IsPrintedOf g.M.Manner.Says 0) g.M.Manner.end_text g.I.ByteSource.remaining g.O.ByteSink.contents g.O.ByteSink.failures g.O.ByteSink.idle _ _ _ _ _ _ _ _ c.in-Ok.end _
-    c.in-Ok.ensures.report c.in-Ok.ensures.sound.0 c.close.ensures.closes
+pub returns-in-Ok-pour-clause-report : goal.returns-in-Ok-pour-clause-report
+returns-in-Ok-pour-clause-report g c =
+    IsReport-closed (IsPrintedOf g.M.Manner.Says 0) g.M.Manner.end_text g.I.ByteSource.remaining g.O.ByteSink.contents g.O.ByteSink.failures g.O.ByteSink.idle _ _ _ _ _ _ _ _ c.in-Ok-pour.end _
+    c.in-Ok-pour.ensures.report c.in-Ok-pour.ensures.sound.0 c.close.ensures.closes
 
 pub returns-clause-report : goal.returns-clause-report
 returns-clause-report g c = inr (c.in-Err.ensures.cause.0, refl)
