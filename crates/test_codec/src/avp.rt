@@ -285,82 +285,64 @@ fn wrong_unsigned64(alloc: Global) -> Option<usize> {
     None
 }
 
-/// Data, and whether they are a DiameterIdentity.
-const IDENTITIES: &[(&[u8], bool)] = &[
-    (b"a.example", true),
-    (&[], true),
-    (&[0x7f], true),
-    (&[0x61, 0x80], false),
+/// Data, and the DiameterIdentity that they are.
+const IDENTITIES: &[(&[u8], Result<&[u8], FieldFault>)] = &[
+    (b"a.example", Ok(b"a.example")),
+    (&[], Ok(&[])),
+    (&[0x7f], Ok(&[0x7f])),
+    (&[0x61, 0x80], Err(FieldFault::BadValue)),
 ];
 
-fn is_identity(alloc: Global, data: &[u8], good: bool) -> bool {
-    let expected = if good {
-        Ok(data)
-    } else {
-        Err(FieldFault::BadValue)
-    };
+fn is_identity(alloc: Global, data: &[u8], identity: Result<&[u8], FieldFault>) -> bool {
     match avp_of(alloc, data) {
         Err(_) => false,
-        Ok(avp) => identity_of(&avp) == expected && avp.view().as_identity() == expected,
+        Ok(avp) => identity_of(&avp) == identity && avp.view().as_identity() == identity,
     }
 }
 
+/// Octets that are no UTF-8.
+const NO_TEXT: Result<&str, FieldFault> = Err(FieldFault::BadValue);
+
 /// Data, and the text that they are.
-const TEXTS: &[(&[u8], &str)] = &[
-    (b"", ""),
-    (&[0x7f], "\u{7f}"),
-    (&[0xc2, 0x80], "\u{80}"),
-    (&[0xed, 0x9f, 0xbf], "\u{d7ff}"),
-    (&[0xee, 0x80, 0x80], "\u{e000}"),
-    (&[0xf0, 0x90, 0x80, 0x80], "\u{10000}"),
-    (&[0x61, 0xf4, 0x8f, 0xbf, 0xbf], "a\u{10ffff}"),
+const TEXTS: &[(&[u8], Result<&str, FieldFault>)] = &[
+    (b"", Ok("")),
+    (&[0x7f], Ok("\u{7f}")),
+    (&[0xc2, 0x80], Ok("\u{80}")),
+    (&[0xed, 0x9f, 0xbf], Ok("\u{d7ff}")),
+    (&[0xee, 0x80, 0x80], Ok("\u{e000}")),
+    (&[0xf0, 0x90, 0x80, 0x80], Ok("\u{10000}")),
+    (&[0x61, 0xf4, 0x8f, 0xbf, 0xbf], Ok("a\u{10ffff}")),
+    // A lone continuation.
+    (&[0x61, 0x80], NO_TEXT),
+    // Overlong in 2, 3 and 4 octets.
+    (&[0xc1, 0xbf], NO_TEXT),
+    (&[0xe0, 0x9f, 0xbf], NO_TEXT),
+    (&[0xf0, 0x8f, 0xbf, 0xbf], NO_TEXT),
+    // The first surrogate, and the last.
+    (&[0xed, 0xa0, 0x80], NO_TEXT),
+    (&[0xed, 0xbf, 0xbf], NO_TEXT),
+    // Cut after 1 of 2 octets, 2 of 3 and 3 of 4, and by a letter.
+    (&[0xc3], NO_TEXT),
+    (&[0xe2, 0x82], NO_TEXT),
+    (&[0xf0, 0x9f, 0x98], NO_TEXT),
+    (&[0xe2, 0x82, 0x61], NO_TEXT),
+    // Over 10ffff, and no first octet.
+    (&[0xf4, 0x90, 0x80, 0x80], NO_TEXT),
+    (&[0xff], NO_TEXT),
 ];
 
 /// Whether data are this text, of an AVP and of a view.
-fn is_text(alloc: Global, data: &[u8], text: &str) -> bool {
+fn is_text(alloc: Global, data: &[u8], text: Result<&str, FieldFault>) -> bool {
     match avp_of(alloc, data) {
         Err(_) => false,
-        Ok(avp) => text_of(&avp) == Ok(text) && avp.view().as_text() == Ok(text),
-    }
-}
-
-/// Octets that are no UTF-8, and why.
-const NO_TEXTS: &[(&str, &[u8])] = &[
-    ("a lone continuation", &[0x61, 0x80]),
-    ("overlong in 2 octets", &[0xc1, 0xbf]),
-    ("overlong in 3 octets", &[0xe0, 0x9f, 0xbf]),
-    ("overlong in 4 octets", &[0xf0, 0x8f, 0xbf, 0xbf]),
-    ("the first surrogate", &[0xed, 0xa0, 0x80]),
-    ("the last surrogate", &[0xed, 0xbf, 0xbf]),
-    ("cut after 1 of 2 octets", &[0xc3]),
-    ("cut after 2 of 3 octets", &[0xe2, 0x82]),
-    ("cut after 3 of 4 octets", &[0xf0, 0x9f, 0x98]),
-    ("cut by a letter", &[0xe2, 0x82, 0x61]),
-    ("over 10ffff", &[0xf4, 0x90, 0x80, 0x80]),
-    ("no first octet", &[0xff]),
-];
-
-fn is_no_text(alloc: Global, data: &[u8]) -> bool {
-    match avp_of(alloc, data) {
-        Err(_) => false,
-        Ok(avp) => text_of(&avp) == Err(FieldFault::BadValue),
+        Ok(avp) => text_of(&avp) == text && avp.view().as_text() == text,
     }
 }
 
 /// The place of the first text of the table that isn't read so.
 fn wrong_text(alloc: Global) -> Option<usize> {
     for (place, (data, text)) in TEXTS.iter().enumerate() {
-        if !is_text(alloc, data, text) {
-            return Some(place);
-        }
-    }
-    None
-}
-
-/// The place of the first line of the table that is read as a text.
-fn wrong_no_text(alloc: Global) -> Option<usize> {
-    for (place, (_, data)) in NO_TEXTS.iter().enumerate() {
-        if !is_no_text(alloc, data) {
+        if !is_text(alloc, data, *text) {
             return Some(place);
         }
     }
@@ -369,8 +351,8 @@ fn wrong_no_text(alloc: Global) -> Option<usize> {
 
 /// The place of the first line of the table that isn't so.
 fn wrong_identity(alloc: Global) -> Option<usize> {
-    for (place, (data, good)) in IDENTITIES.iter().enumerate() {
-        if !is_identity(alloc, data, *good) {
+    for (place, (data, identity)) in IDENTITIES.iter().enumerate() {
+        if !is_identity(alloc, data, *identity) {
             return Some(place);
         }
     }
@@ -437,7 +419,6 @@ fn wrong_data(alloc: Global) -> Option<(&'static str, usize)> {
         ("Unsigned32", wrong_unsigned32(alloc)),
         ("Unsigned64", wrong_unsigned64(alloc)),
         ("a text", wrong_text(alloc)),
-        ("no text", wrong_no_text(alloc)),
         ("DiameterIdentity", wrong_identity(alloc)),
         ("Address", wrong_address(alloc)),
     ];
@@ -600,39 +581,24 @@ fn are_kept(alloc: Global, octets: &[u8], len: usize) -> bool {
     }
 }
 
-/// Whether the first AVP of `TWO` has the second behind it.
-fn has_second_behind() -> bool {
-    match first_avp(&TWO) {
+/// Whether a list with this AVP alone has one, and is written as these octets.
+fn is_list_of(alloc: Global, avp: Avp, octets: &[u8]) -> bool {
+    let Ok(mut list) = AvpList::with_capacity(alloc, 1) else {
+        return false;
+    };
+    let pushed = list.push(avp).is_ok();
+    let list = AvpList::from_vec(list.into_vec());
+    pushed && list.as_slice().len() == 1 && is_written(alloc, &list, octets)
+}
+
+/// Whether the first AVP of `TWO` has the second behind it, and a list of the first is written as it.
+fn is_first_of_two(alloc: Global) -> bool {
+    let Ok((first, rest)) = first_avp(&TWO) else {
+        return false;
+    };
+    match first.to_avp(alloc) {
         Err(_) => false,
-        Ok((_, rest)) => rest == &TWO[20..],
-    }
-}
-
-/// A list of the first AVP of `TWO`, where it has one and there is memory.
-fn first_of_two(alloc: Global) -> Option<AvpList> {
-    let Ok((first, _)) = first_avp(&TWO) else {
-        return None;
-    };
-    let Ok(avp) = first.to_avp(alloc) else {
-        return None;
-    };
-    match AvpList::with_capacity(alloc, 1) {
-        Err(_) => None,
-        Ok(mut list) => {
-            if list.push(avp).is_ok() {
-                Some(AvpList::from_vec(list.into_vec()))
-            } else {
-                None
-            }
-        }
-    }
-}
-
-/// Whether a list of the first AVP of `TWO` has one, and is written as it.
-fn has_first_of_two(alloc: Global) -> bool {
-    match first_of_two(alloc) {
-        None => false,
-        Some(list) => list.as_slice().len() == 1 && is_written(alloc, &list, &TWO[..20]),
+        Ok(avp) => rest == &TWO[20..] && is_list_of(alloc, avp, &TWO[..20]),
     }
 }
 
@@ -640,7 +606,7 @@ fn has_first_of_two(alloc: Global) -> bool {
 fn what_takes_memory_answers_where_there_is_memory(rt: HostRuntime) {
     let alloc = rt.alloc();
     assert!(rt; are_kept(alloc, b"abc", 3) && are_kept(alloc, &[7; 33], 33));
-    assert!(rt; has_second_behind() && has_first_of_two(alloc));
+    assert!(rt; is_first_of_two(alloc));
 }
 
 /// An octet, then `TWO`, a Subscription-Id with `TWO` in it, and the first of `TWO`.

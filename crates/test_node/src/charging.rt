@@ -11,7 +11,7 @@ use bench_text::number_of;
 use charge_facts::answer_facts;
 use charge_message::request_message;
 use deed_message::Names;
-use dia_msg::{Identity, write_message};
+use dia_msg::write_message;
 use role_tables::all_laws;
 use std::alloc::Global;
 use std::test::Fail;
@@ -76,26 +76,18 @@ fn answered((kind, number): (u64, u32), told: &str) -> [u64; PLACES] {
     facts
 }
 
-/// Appends the octets of a node's request of a session.
-fn writes_request(
-    alloc: Global,
-    identity: &Identity,
-    session: &[u8],
-    deed: &Deed,
-    out: &mut Vec<u8>,
-) -> bool {
-    let names = Names { identity, session };
+/// Appends the octets of a client's request of a session.
+fn writes_of_client(alloc: Global, session: &[u8], deed: &Deed, out: &mut Vec<u8>) -> bool {
+    let Ok(identity) = node(alloc, "c.example", [192, 0, 2, 2]) else {
+        return false;
+    };
+    let names = Names {
+        identity: &identity,
+        session,
+    };
     match &request_message(alloc, deed, &names) {
         Ok(Some(request)) => write_message(request, out).is_ok(),
         Ok(None) => true,
-        Err(_) => false,
-    }
-}
-
-/// Appends the octets of a client's request of a session.
-fn writes_of_client(alloc: Global, session: &[u8], deed: &Deed, out: &mut Vec<u8>) -> bool {
-    match &node(alloc, "c.example", [192, 0, 2, 2]) {
-        Ok(identity) => writes_request(alloc, identity, session, deed, out),
         Err(_) => false,
     }
 }
@@ -484,20 +476,18 @@ fn requests_are_charged(rt: HostRuntime) -> Result<(), Fail> {
     let alloc = rt.alloc();
     let laws = all_laws(alloc)?;
     let mut guards = Vec::new(alloc);
-    for place in 0..laws.guards().len() {
-        let law = &laws.guards().at(place).value;
-        let own = law.copy(alloc)?;
+    for entry in laws.guards().as_slice() {
+        let own = entry.value.copy(alloc)?;
         let ask: Ask = Box::new(alloc, move |scene: &Scene| holds(&own, scene))?;
-        guards.push(StoredGuard::new(law.copy(alloc)?, ask))?;
+        guards.push(StoredGuard::new(entry.value.copy(alloc)?, ask))?;
     }
     let mut acts = Vec::new(alloc);
-    for place in 0..laws.acts().len() {
-        let law = &laws.acts().at(place).value;
-        let own = law.copy(alloc)?;
+    for entry in laws.acts().as_slice() {
+        let own = entry.value.copy(alloc)?;
         let act: Do = Box::new(alloc, move |scene: &Scene, room: &mut Acted| {
             high_into(&own, scene, room);
         })?;
-        acts.push(StoredAct::new(law.copy(alloc)?, act))?;
+        acts.push(StoredAct::new(entry.value.copy(alloc)?, act))?;
     }
     let mut registry = Registry::new(alloc);
     registry.register(&laws, Calls { guards, acts })?;

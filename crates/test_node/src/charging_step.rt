@@ -2,7 +2,7 @@
 //! its session's machine and the account book to the answer's octets (RFC 8506 sections 3, 5 and 6).
 
 use crate::roles::Roles;
-use acct_book::{Op, OpenError, Page};
+use acct_book::{Op, Page};
 use base_codes::{DeedCode, HEADER_LEN, avp_code, peer_fact, peer_register, session_register};
 use base_list::Octets;
 use charge_event::server_event;
@@ -106,13 +106,6 @@ fn put_ops(ops: &mut Vec<Op>, deeds: &[Deed], want: &Want) -> Result<(), AllocEr
     Ok(())
 }
 
-/// A page with one account that is given so much.
-fn page_of(alloc: Global, given: u64) -> Result<Page, OpenError> {
-    let mut page = Page::new(alloc);
-    page.open_account(ACCOUNT, given)?;
-    Ok(page)
-}
-
 /// A node of the realm example.
 pub fn node(alloc: Global, host: &str, address: [u8; 4]) -> Result<Identity, AllocError> {
     let host = Octets::from_slice(alloc, host.as_bytes())?;
@@ -128,13 +121,14 @@ impl Server {
     /// The node s.example whose account is given so much, without sessions. Its peer has not connected yet. None where memory is
     /// wanting, or the account can't be given so much.
     pub fn new(alloc: Global, given: u64) -> Option<Server> {
+        let mut page = Page::new(alloc);
+        if page.open_account(ACCOUNT, given).is_err() {
+            return None;
+        }
         let Ok(identity) = node(alloc, "s.example", [192, 0, 2, 1]) else {
             return None;
         };
         let Ok(dictionary) = Dictionary::base(alloc) else {
-            return None;
-        };
-        let Ok(page) = page_of(alloc, given) else {
             return None;
         };
         Some(Server {
@@ -186,18 +180,11 @@ impl Server {
     }
 
     /// The event of a request as the peer's machine hands it on to the session.
-    pub fn handed_on(&mut self, roles: &Roles<'_>, event: &Event) -> Option<Event> {
-        let deed = self.step_peer(
-            roles,
-            PeerKind::RRcvMessage,
-            &event.facts,
-            DeedCode::ToSession,
-        )?;
+    fn handed_on(&mut self, roles: &Roles<'_>, request: &Command) -> Option<Event> {
+        let Event { kind, facts } = self.event_of(request)?;
+        let deed = self.step_peer(roles, PeerKind::RRcvMessage, &facts, DeedCode::ToSession)?;
         let facts = deed.a;
-        Some(Event {
-            kind: event.kind,
-            facts,
-        })
+        Some(Event { kind, facts })
     }
 
     /// Adds a session's machine.
@@ -248,12 +235,6 @@ impl Server {
             && self.page.apply_all(self.ops.as_slice()).is_ok()
     }
 
-    /// The deed that sends what the last step has for the peer, as the peer's machine hands it on.
-    pub fn sending(&mut self, roles: &Roles<'_>) -> Option<Deed> {
-        let deed = deed_of(self.room.deeds.as_slice(), DeedCode::ToPeer)?;
-        self.step_peer(roles, PeerKind::SendMessage, &deed.a, DeedCode::SndMsg)
-    }
-
     /// Writes the answer of a session that a deed sends.
     pub fn write(&self, place: usize, deed: &Deed, out: &mut Vec<u8>) -> bool {
         let Some(session) = self.names.name(place) else {
@@ -281,9 +262,12 @@ impl Server {
         }
     }
 
-    /// Writes what the last step of a session has for the peer.
+    /// Writes what the last step of a session has for the peer, as the peer's machine hands it on.
     fn send(&mut self, roles: &Roles<'_>, place: usize, out: &mut Vec<u8>) -> bool {
-        match self.sending(roles) {
+        let Some(deed) = deed_of(self.room.deeds.as_slice(), DeedCode::ToPeer) else {
+            return true;
+        };
+        match self.step_peer(roles, PeerKind::SendMessage, &deed.a, DeedCode::SndMsg) {
             Some(deed) => self.write(place, &deed, out),
             None => true,
         }
@@ -294,10 +278,7 @@ impl Server {
         let Some(name) = session_of(request) else {
             return true;
         };
-        let Some(event) = self.event_of(request) else {
-            return true;
-        };
-        let Some(mut event) = self.handed_on(roles, &event) else {
+        let Some(mut event) = self.handed_on(roles, request) else {
             return true;
         };
         match self.session(name) {
