@@ -9,56 +9,30 @@ use std::alloc::{AllocError, Global};
 use std::marker::Model;
 use tab_law::{Deed, PLACES};
 
-/// What happened to a machine, and where it stood before and after.
-struct KeptTurn {
+/// One move of a machine.
+pub(crate) struct KeptMoved {
+    machine: u64,
     event: KeptEvent,
     before: KeptState,
     after: KeptState,
-}
-
-// A derived `drop` is proved anew at each way out of each function that holds the value; one by hand is a call.
-impl Drop for KeptTurn {
-    fn drop(self) {
-        let KeptTurn {
-            event,
-            before,
-            after,
-        } = self;
-    }
-}
-
-/// What the actions of a row did: the registers after each, their deeds, and what became of these.
-struct KeptDone {
+    row: Option<u16>,
     chain: Vec<Places>,
     deeds: Vec<KeptDeed>,
     outcomes: Vec<Outcome>,
 }
 
-impl Drop for KeptDone {
-    fn drop(self) {
-        let KeptDone {
-            chain,
-            deeds,
-            outcomes,
-        } = self;
-    }
-}
-
-/// One move of a machine.
-pub(crate) struct KeptMoved {
-    machine: u64,
-    turn: KeptTurn,
-    row: Option<u16>,
-    done: KeptDone,
-}
-
+// A derived `drop` takes far longer to prove.
 impl Drop for KeptMoved {
     fn drop(self) {
         let KeptMoved {
             machine: _,
-            turn,
+            event,
+            before,
+            after,
             row: _,
-            done,
+            chain,
+            deeds,
+            outcomes,
         } = self;
     }
 }
@@ -70,13 +44,13 @@ impl Model for KeptMoved {
 
     ghost view = { λ k. record {
       machine = k.machine;
-      event = k.turn.event;
-      before = k.turn.before;
-      after = k.turn.after;
+      event = k.event;
+      before = k.before;
+      after = k.after;
       row = k.row;
-      chain = k.done.chain.items;
-      deeds = k.done.deeds.items;
-      outcomes = k.done.outcomes.items;
+      chain = k.chain.items;
+      deeds = k.deeds.items;
+      outcomes = k.outcomes.items;
     } };
 }
 
@@ -124,52 +98,26 @@ fn show_deeds(alloc: Global, kept: &[KeptDeed]) -> Result<Vec<Deed>, AllocError>
     Ok(plain)
 }
 
-impl KeptTurn {
-    fn keep(alloc: Global, plain: &Moved) -> Result<KeptTurn, AllocError>
-        ensures event { IfOk result (λ kept. kept.event ≡ plain.now.event) }
-        ensures before { IfOk result (λ kept. kept.before ≡ plain.now.before) }
-        ensures after { IfOk result (λ kept. kept.after ≡ plain.now.after) }
-    {
-        let event = KeptEvent::keep(alloc, &plain.event)?;
-        let before = KeptState::keep(alloc, &plain.before)?;
-        let after = KeptState::keep(alloc, &plain.after)?;
-        Ok(KeptTurn {
-            event,
-            before,
-            after,
-        })
-    }
-}
-
-impl KeptDone {
-    fn keep(alloc: Global, plain: &Moved) -> Result<KeptDone, AllocError>
-        ensures chain { IfOk result (λ kept. kept.chain.items ≡ plain.now.chain) }
-        ensures deeds { IfOk result (λ kept. kept.deeds.items ≡ plain.now.deeds) }
-        ensures outcomes { IfOk result (λ kept. kept.outcomes.items ≡ plain.now.outcomes) }
-    {
-        let chain = keep_chain(alloc, plain.chain.as_slice())?;
-        let deeds = keep_deeds(alloc, plain.deeds.as_slice())?;
-        let outcomes = Vec::from_slice(alloc, plain.outcomes.as_slice())?;
-        Ok(KeptDone {
-            chain,
-            deeds,
-            outcomes,
-        })
-    }
-}
-
 impl KeptMoved {
     /// Keeps a move.
     pub(crate) fn keep(alloc: Global, plain: &Moved) -> Result<KeptMoved, AllocError>
         ensures { IfOk result (λ kept. kept ≡ plain.now) }
     {
-        let turn = KeptTurn::keep(alloc, plain)?;
-        let done = KeptDone::keep(alloc, plain)?;
+        let event = KeptEvent::keep(alloc, &plain.event)?;
+        let before = KeptState::keep(alloc, &plain.before)?;
+        let after = KeptState::keep(alloc, &plain.after)?;
+        let chain = keep_chain(alloc, plain.chain.as_slice())?;
+        let deeds = keep_deeds(alloc, plain.deeds.as_slice())?;
+        let outcomes = Vec::from_slice(alloc, plain.outcomes.as_slice())?;
         Ok(KeptMoved {
             machine: plain.machine,
-            turn,
+            event,
+            before,
+            after,
             row: plain.row,
-            done,
+            chain,
+            deeds,
+            outcomes,
         })
     }
 
@@ -177,14 +125,14 @@ impl KeptMoved {
     pub(crate) fn show(&self, alloc: Global) -> Result<Moved, AllocError>
         ensures { IfOk result (λ plain. plain ≡ self.now) }
     {
-        let chain = show_chain(alloc, &self.done.chain)?;
-        let deeds = show_deeds(alloc, &self.done.deeds)?;
-        let outcomes = Vec::from_slice(alloc, &self.done.outcomes)?;
+        let chain = show_chain(alloc, &self.chain)?;
+        let deeds = show_deeds(alloc, &self.deeds)?;
+        let outcomes = Vec::from_slice(alloc, &self.outcomes)?;
         Ok(Moved {
             machine: self.machine,
-            event: self.turn.event.show(),
-            before: self.turn.before.show(),
-            after: self.turn.after.show(),
+            event: self.event.show(),
+            before: self.before.show(),
+            after: self.after.show(),
             row: self.row,
             chain: Series::new(chain),
             deeds: Series::new(deeds),
