@@ -11,7 +11,7 @@ ghost use Rattle.tab_load.specs.Loading.{lists, NamesAre, AnyNameWrong};
 use crate::counts::Counts;
 use crate::fault::{ImageFault, LoadError, fault_at};
 use base_list::{NamedList, Octets};
-use std::alloc::{AllocError, Global};
+use std::alloc::Global;
 use tab_law::LawBook;
 use tab_text::is_name;
 
@@ -116,19 +116,6 @@ fn read_name<'a, T: Drop>(
     }
 }
 
-/// Puts one more name behind the others.
-fn push_name(alloc: Global, names: &mut Names, name: &[u8], place: u8) -> Result<(), AllocError>
-    requires { names.old.end + (1 + length name.now) < 18446744073709551616 }
-    ensures names { OnOk result (names.new.names.items ≡ names.old.names.items ++ name.now ∷ []) }
-    ensures places { OnOk result (names.new.places.items ≡ names.old.places.items ++ place ∷ []) }
-    ensures end { OnOk result (names.new.end ≡ names.old.end + (1 + length name.now)) }
-{
-    names.names.push(Octets::from_slice(alloc, name)?)?;
-    names.places.push(place)?;
-    names.end += 1 + name.len();
-    Ok(())
-}
-
 /// Reads one more name.
 fn put_name<T: Drop>(
     alloc: Global,
@@ -150,7 +137,9 @@ fn put_name<T: Drop>(
         Err(fault) => return Err(LoadError::Refused(fault_at(fault, names.end, octets.len()))),
     };
     let place = place_of(bound, entries, name);
-    push_name(alloc, names, name, place)?;
+    names.names.push(Octets::from_slice(alloc, name)?)?;
+    names.places.push(place)?;
+    names.end += 1 + name.len();
     Ok(())
 }
 

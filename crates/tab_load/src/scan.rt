@@ -11,6 +11,7 @@ use crate::instruction::{Step, counted, instruction_fault, octets_fault, size_of
 use std::alloc::{AllocError, Global};
 
 /// What is known of the code as far as it was read.
+#[derive(Drop)]
 pub struct Scan {
     /// How many octets were read.
     pub at: usize,
@@ -19,18 +20,6 @@ pub struct Scan {
     pub landings: Vec<bool>,
     /// How many actions stand behind the row that was begun last.
     pub count: Option<usize>,
-}
-
-// By hand: a derived `drop` is proved anew, field by field, at each way out of each function that holds it.
-impl Drop for Scan {
-    fn drop(self) {
-        let Scan {
-            at: _,
-            steps,
-            landings,
-            count: _,
-        } = self;
-    }
 }
 
 /// Whether a jump may lead to an instruction.
