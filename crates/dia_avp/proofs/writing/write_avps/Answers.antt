@@ -1,3 +1,4 @@
+use Rattle.std.proofs.Common.{rules}
 use Rattle.dia_avp.proofs.Encoded.{Avps-encoding}
 use Rattle.dia_avp.proofs.writing.write_avps.Goals as goal
 
@@ -6,3 +7,6 @@ returns-clause-means c = rw (← c.as_slice-avps.ensures) (Avps-encoding c.as_sl
 
 pub returns-clause-read_back : goal.returns-clause-read_back
 returns-clause-read_back c = λ some few depth shallow. (shallow, few, returns-clause-means c some)
+
+pub returns-clause-ok : goal.returns-clause-ok
+returns-clause-ok c = search rules
