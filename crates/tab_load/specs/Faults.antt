@@ -1,4 +1,4 @@
-use Rattle.std.specs.Prelude.{◌≡◌, ℕ, ◌+◌, ◌*◌, ◌<◌, ◌≤◌, ◌||◌, nat_lt, List, [], ◌∷◌, Option, Some, None, length, take, drop, slice_index_or, if◌then◌else◌}
+use Rattle.std.specs.Prelude.{◌≡◌, ℕ, ◌+◌, ◌*◌, ◌<◌, ◌≤◌, ◌||◌, nat_lt, List, [], ◌∷◌, Option, Some, None, length, take, drop, slice_index_or, if◌then◌else◌, codes}
 use Rattle.std.specs.Int.{w16, from_be_bytes}
 use Rattle.tab_text.specs.declared.limits.TheConstants.{MAX_STATES, MAX_KINDS, MAX_GUARDS, MAX_ACTIONS}
 use Rattle.tab_asm.specs.Formats.{Format as FormatSpec, format_1, format_2}
@@ -20,6 +20,19 @@ number_of BackJump = 7
 number_of OpCode = 8
 number_of NoEnd = 9
 number_of Trailing = 10
+
+-- what is told of a fault
+abbrev pub text_of : ImageFault → List ℕ
+text_of Magic = codes "no image"
+text_of Cut = codes "cut off"
+text_of Count = codes "a number is out of range"
+text_of Name = codes "bad name"
+text_of Unbound = codes "a name is not registered"
+text_of Offset = codes "bad offset"
+text_of BackJump = codes "a jump back"
+text_of OpCode = codes "unknown instruction"
+text_of NoEnd = codes "the code has no end"
+text_of Trailing = codes "octets behind the code"
 
 -- the place of a fault in a part that begins there: of a part that is cut off, the length of the image
 abbrev pub at_of : ImageFault → ℕ → ℕ → ℕ

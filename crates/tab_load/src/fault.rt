@@ -1,7 +1,7 @@
 //! Why an image is not loaded.
 
-ghost use Rattle.std.specs.Prelude.{◌≡◌};
-ghost use Rattle.tab_load.specs.Faults.{number_of, at_of};
+ghost use Rattle.std.specs.Prelude.{◌≡◌, Some};
+ghost use Rattle.tab_load.specs.Faults.{number_of, text_of, at_of};
 ghost use Rattle.tab_load.specs.declared.fault.LoadError.TheVariants.{NoMemory, Refused};
 
 use std::alloc::{AllocError, AllocFailed};
@@ -52,7 +52,9 @@ impl ImageFault {
         }
     }
 
-    fn text(self) -> &'static str {
+    fn text(self) -> &'static str
+        ensures { result.now ≡ text_of self }
+    {
         match self {
             ImageFault::Magic => "no image",
             ImageFault::Cut => "cut off",
@@ -68,8 +70,9 @@ impl ImageFault {
     }
 }
 
-// By hand: a derived one writes in every arm, and each is proved to.
 impl fmt::Display for ImageFault {
+    ghost output = { λ fault. Some (text_of fault) };
+
     fn fmt<W: fmt::Write>(&self, f: &mut fmt::Formatter<W>) -> fmt::Result {
         f.write_str(self.text())
     }

@@ -1,7 +1,6 @@
 //! Images of state tables loaded to programs.
 //!
-//! [`load`] takes both formats, by the octets that an image begins with. The definitions of faults and of what a program
-//! promises stand in `specs/`; those of images and of paths through their code in `tab_asm`.
+//! [`load`] takes both formats, by the octets that an image begins with. What an image is stands in `tab_asm/specs`.
 #![tactic(auto)]
 
 mod body;

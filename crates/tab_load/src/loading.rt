@@ -121,8 +121,7 @@ fn read_program(alloc: Global, octets: &[u8], book: &LawBook) -> Result<Program,
 /// the image, or an instruction that the code, ends before is cut off, and is not looked into. Where guards and entries
 /// lead is looked at once nothing else is wrong with the code.
 ///
-/// In a program that is loaded each event ends, whatever its guards say: a path of at most as many instructions as the code
-/// has octets leads from its entry to an end, and each of them names what the image has.
+/// In a loaded program each event ends, whatever its guards say, within as many instructions as the code has octets.
 pub fn load(alloc: Global, octets: &[u8], book: &LawBook) -> Result<Program, LoadError>
     ensures read { IfOk result (IsReadFrom book.now octets.now) }
     ensures loaded { IfOk result (IsLoaded book.now) }
