@@ -25,4 +25,4 @@ mod state;
 mod step;
 
 pub use entry::KeptEntry;
-pub use log::{Log, LogFault};
+pub use log::{Log, LogError};

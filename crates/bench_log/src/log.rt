@@ -2,7 +2,7 @@
 ghost use Rattle.std.specs.Prelude.{◌≡◌, ◌==◌, ◌-◌, ◌≤◌, ◌<◌, [], false, None, Ok, IsOk, IfOk, OnOk, OnErr, IfErr, length, max};
 ghost use Rattle.std.specs.List.{slice_get};
 ghost use Rattle.std.specs.Option.{option_map, option_and_then};
-ghost use Rattle.bench_log.specs.declared.log.LogFault.TheVariants.{NoMemory};
+ghost use Rattle.bench_log.specs.declared.log.LogError.TheVariants.{NoMemory};
 ghost use Rattle.bench_log.specs.Moves.{machine_in, places_of};
 ghost use Rattle.bench_log.specs.Logged.{added, cut, fault_of, is_past, with_room};
 
@@ -14,7 +14,7 @@ use thiserror::Error;
 
 /// Why an entry is not added to the log. The log is then as it was.
 #[derive(Clone, Copy, Debug, PartialEq, Eq, Error)]
-pub enum LogFault {
+pub enum LogError {
     /// The log has as many entries as it may.
     #[error("the log is full")]
     Full,
@@ -23,19 +23,19 @@ pub enum LogFault {
     NoMemory,
 }
 
-impl From<AllocError> for LogFault {
+impl From<AllocError> for LogError {
     ghost from_gives = { λ _ e. e ≡ NoMemory };
 
-    fn from(_e: AllocError) -> LogFault {
-        LogFault::NoMemory
+    fn from(_e: AllocError) -> LogError {
+        LogError::NoMemory
     }
 }
 
-impl<T: Drop> From<AllocFailed<T>> for LogFault {
+impl<T: Drop> From<AllocFailed<T>> for LogError {
     ghost from_gives = { λ _ e. e ≡ NoMemory };
 
-    fn from(_e: AllocFailed<T>) -> LogFault {
-        LogFault::NoMemory
+    fn from(_e: AllocFailed<T>) -> LogError {
+        LogError::NoMemory
     }
 }
 
@@ -107,7 +107,7 @@ impl Log {
     }
 
     /// Makes room for so many more entries, which can then be put without fail.
-    pub fn reserve(&mut self, n: usize) -> Result<(), LogFault>
+    pub fn reserve(&mut self, n: usize) -> Result<(), LogError>
         ensures ok { OnOk result (self.new ≡ with_room self.old (max self.old.room n)) }
         ensures within { OnOk result (is_past self.old.entries n ≡ false) }
         ensures fault { IfErr result (λ fault. fault ≡ fault_of self.old.entries n) }
@@ -116,7 +116,7 @@ impl Log {
         ensures there { n ≤ self.old.room → IsOk result }
     {
         if self.is_past(n) {
-            return Err(LogFault::Full);
+            return Err(LogError::Full);
         }
         self.entries.reserve(n)?;
         self.room = self.room.max(n);
@@ -134,7 +134,7 @@ impl Log {
     }
 
     /// Adds an entry that was made ready by `KeptEntry::keep`.
-    pub fn add(&mut self, entry: KeptEntry) -> Result<(), LogFault>
+    pub fn add(&mut self, entry: KeptEntry) -> Result<(), LogError>
         ensures ok { OnOk result (self.new ≡ added self.old entry) }
         ensures within { OnOk result (is_past self.old.entries 1 ≡ false) }
         ensures fault { IfErr result (λ fault. fault ≡ fault_of self.old.entries 1) }
@@ -147,14 +147,14 @@ impl Log {
     }
 
     /// Adds an entry at the end.
-    pub fn push(&mut self, alloc: Global, entry: &Entry) -> Result<(), LogFault>
+    pub fn push(&mut self, alloc: Global, entry: &Entry) -> Result<(), LogError>
         ensures ok { OnOk result (self.new ≡ added self.old entry.now) }
         ensures within { OnOk result (is_past self.old.entries 1 ≡ false) }
         ensures fault { IfErr result (λ fault. fault ≡ fault_of self.old.entries 1) }
         ensures err { OnErr result (self.new ≡ self.old) }
     {
         if self.is_full() {
-            return Err(LogFault::Full);
+            return Err(LogError::Full);
         }
         let kept = KeptEntry::keep(alloc, entry)?;
         self.add(kept)

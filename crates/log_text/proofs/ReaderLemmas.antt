@@ -21,8 +21,8 @@ use Rattle.log_text.specs.declared.item_line.ItemLine.{ItemLine}
 use Rattle.log_text.specs.declared.item_line.ItemLine.TheVariants.{TooBusy, Stale, Moved}
 use Rattle.log_text.specs.declared.pending.Pending.{Pending}
 use Rattle.log_text.specs.declared.pending.Reader.{Reader}
-use Rattle.step_text.specs.declared.read.StepTextFault.{StepTextFault}
-use Rattle.step_text.specs.declared.read.StepTextFault.TheVariants.{BadLine}
+use Rattle.step_text.specs.declared.read.StepTextError.{StepTextError}
+use Rattle.step_text.specs.declared.read.StepTextError.TheVariants.{BadLine}
 use Rattle.log_text.specs.DeedLines.{deed_line}
 use Rattle.log_text.specs.Following.{MayBegin, MayFollow, MayStandBelow, begins_blank, ended, ends, is_move, is_waiting, outcomes_of}
 use Rattle.log_text.specs.declared.deed_line.DeedLine.{DeedLine}
@@ -123,7 +123,7 @@ empty_none names reader line none reading blank may =
     by (inr (inr deed)) = absurd (cc (deed.0))
 
 -- a refused line may not follow, where it may not stand below the last entry
-pub follows_fault : {A : Type 0} (names : Named) (reader : Reader) (pending : Pending) (line : List ℕ) (result : Result A StepTextFault) → reader.pending ≡ Some pending
+pub follows_fault : {A : Type 0} (names : Named) (reader : Reader) (pending : Pending) (line : List ℕ) (result : Result A StepTextError) → reader.pending ≡ Some pending
     → begins_blank line ≡ true
     → IfErr result (λ fault. fault ≡ BadLine → AreWords names → MayStandBelow names (entry_of pending) line → ⊥)
     → IfErr result (λ fault. fault ≡ BadLine → AreWords names → MayFollow names (entries_of reader) line → ⊥)

@@ -4,7 +4,7 @@ ghost use Rattle.std.specs.List.{find};
 ghost use Rattle.std.specs.Str.{bytes_eq};
 ghost use Rattle.base_codes.specs.DeedCodes.{name_of};
 ghost use Rattle.text_parts.specs.Pieces.{pieces_in, pieces_left};
-ghost use Rattle.step_text.specs.declared.read.StepTextFault.TheVariants.{BadLine};
+ghost use Rattle.step_text.specs.declared.read.StepTextError.TheVariants.{BadLine};
 ghost use Rattle.log_text.specs.DeedLines.{IsDeedLine, args_of, behind_stop, code_of, deed_in, deed_line, guess_deed, named_code, outcome_behind, outcome_of, stop_of};
 
 use crate::deeds::{is_booking, put_outcome};
@@ -13,7 +13,7 @@ use base_codes::DeedCode;
 use bench_text::number_of;
 use event_text::put_deed_words;
 use std::alloc::{AllocError, Global};
-use step_text::{StepTextFault, next_number};
+use step_text::{StepTextError, next_number};
 use tab_law::{Deed, PLACES};
 use text_parts::Pieces;
 
@@ -164,16 +164,16 @@ fn has_line(alloc: Global, deed: &DeedLine, line: &[u8]) -> Result<bool, AllocEr
 }
 
 /// The deed of a line without its newline, as it is printed.
-pub(crate) fn read_deed(alloc: Global, line: &[u8]) -> Result<DeedLine, StepTextFault>
+pub(crate) fn read_deed(alloc: Global, line: &[u8]) -> Result<DeedLine, StepTextError>
     ensures ok { IfOk result (λ deed. deed_line deed ≡ line.now) }
     ensures fault { IfErr result (λ fault. fault ≡ BadLine → IsDeedLine line.now → ⊥) }
 {
     let Some(deed) = guess_deed(line) else {
-        return Err(StepTextFault::BadLine);
+        return Err(StepTextError::BadLine);
     };
     if has_line(alloc, &deed, line)? {
         Ok(deed)
     } else {
-        Err(StepTextFault::BadLine)
+        Err(StepTextError::BadLine)
     }
 }

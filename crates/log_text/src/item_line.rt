@@ -4,7 +4,7 @@ ghost use Rattle.std.specs.List.{position};
 ghost use Rattle.std.specs.Str.{bytes_eq};
 ghost use Rattle.text_parts.specs.Pieces.{pieces_in, pieces_left};
 ghost use Rattle.step_text.specs.Guess.{rest_of};
-ghost use Rattle.step_text.specs.declared.read.StepTextFault.TheVariants.{BadLine};
+ghost use Rattle.step_text.specs.declared.read.StepTextError.TheVariants.{BadLine};
 ghost use Rattle.log_text.specs.Books.{named, states_in};
 ghost use Rattle.log_text.specs.ItemLines.{AreWords, IsItemLine, below, ending_of, guess_item, item_line, items_in, row_of, state_called, state_of, who_of};
 
@@ -14,7 +14,7 @@ use base_list::Octets;
 use bench_item::{Key, Role};
 use bench_text::number_of;
 use std::alloc::{AllocError, Global};
-use step_text::{StepTextFault, next_key, next_kind};
+use step_text::{StepTextError, next_key, next_kind};
 use text_parts::Pieces;
 
 /// Which machine an item was for, and the kind of its event.
@@ -203,16 +203,16 @@ pub(crate) fn read_item(
     alloc: Global,
     names: &NameBook<'_>,
     line: &[u8],
-) -> Result<ItemLine, StepTextFault>
+) -> Result<ItemLine, StepTextError>
     ensures ok { IfOk result (λ item. item_line (named names.now) item ≡ line.now) }
     ensures fault { IfErr result (λ fault. fault ≡ BadLine → AreWords (named names.now) → IsItemLine (named names.now) line.now → ⊥) }
 {
     let Some(item) = guess_item(alloc, names, line)? else {
-        return Err(StepTextFault::BadLine);
+        return Err(StepTextError::BadLine);
     };
     if has_line(alloc, names, &item, line)? {
         Ok(item)
     } else {
-        Err(StepTextFault::BadLine)
+        Err(StepTextError::BadLine)
     }
 }

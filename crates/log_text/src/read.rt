@@ -9,7 +9,7 @@ use crate::pending::Reader;
 use bench_log::Log;
 use event_text::LinesError;
 use std::alloc::Global;
-use step_text::StepTextFault;
+use step_text::StepTextError;
 use text_parts::Pieces;
 
 /// A text without the newline at its end.
@@ -39,8 +39,8 @@ pub fn read_log(alloc: Global, names: &NameBook<'_>, text: &[u8]) -> Result<Log,
         place += 1;
         match reader.take(alloc, names, line) {
             Ok(()) => {}
-            Err(StepTextFault::BadLine) => return Err(LinesError::BadLine(place)),
-            Err(StepTextFault::NoMemory) => return Err(LinesError::NoMemory),
+            Err(StepTextError::BadLine) => return Err(LinesError::BadLine(place)),
+            Err(StepTextError::NoMemory) => return Err(LinesError::NoMemory),
         }
     }
     Ok(reader.finish(alloc)?)

@@ -1,7 +1,7 @@
 //! The entries of a text's lines, one line after another.
 ghost use Rattle.std.specs.Prelude.{◌≡◌, ◌≢◌, ◌<◌, ◌++◌, [], None, IfOk, IfErr, OnOk, map, replicate};
 ghost use Rattle.bench_item.specs.declared.step.Step.{Step};
-ghost use Rattle.step_text.specs.declared.read.StepTextFault.TheVariants.{BadLine};
+ghost use Rattle.step_text.specs.declared.read.StepTextError.TheVariants.{BadLine};
 ghost use Rattle.log_text.specs.Books.{named};
 ghost use Rattle.log_text.specs.EntryLines.{entry_lines, log_lines};
 ghost use Rattle.log_text.specs.ItemLines.{AreWords};
@@ -17,9 +17,9 @@ use crate::pending::{Pending, Reader};
 use acct_totals::Outcome;
 use base_list::Octets;
 use bench_item::{Entry, Handled, Item, Key, MachineItem, Moved, Role, Series, Step};
-use bench_log::{KeptEntry, Log, LogFault};
+use bench_log::{KeptEntry, Log, LogError};
 use std::alloc::{AllocError, Global};
-use step_text::{StepTextFault, read_step};
+use step_text::{StepTextError, read_step};
 use tab_law::{Deed, PLACES};
 use tab_step::{Event, MachineState};
 
@@ -136,7 +136,7 @@ fn nobody(alloc: Global) -> Who
 }
 
 impl Pending {
-    ghost use Rattle.step_text.specs.declared.read.StepTextFault.TheVariants.{BadLine};
+    ghost use Rattle.step_text.specs.declared.read.StepTextError.TheVariants.{BadLine};
 
     /// An entry with the line of its step.
     fn new(alloc: Global, step: Step) -> Pending
@@ -155,13 +155,13 @@ impl Pending {
         alloc: Global,
         names: &NameBook<'_>,
         line: &[u8],
-    ) -> Result<(), StepTextFault>
+    ) -> Result<(), StepTextError>
         requires { self.old.item ≡ None }
         ensures ok { OnOk result (entry_lines (named names.now) (entry_of self.new) ≡ entry_lines (named names.now) (entry_of self.old) ++ ended line.now) }
         ensures fault { IfErr result (λ fault. fault ≡ BadLine → AreWords (named names.now) → MayStandBelow (named names.now) (entry_of self.old) line.now → ⊥) }
     {
         if !is_work(&self.step) {
-            return Err(StepTextFault::BadLine);
+            return Err(StepTextError::BadLine);
         }
         self.item = Some(read_item(alloc, names, line)?);
         Ok(())
@@ -173,7 +173,7 @@ impl Pending {
         alloc: Global,
         names: &NameBook<'_>,
         line: &[u8],
-    ) -> Result<(), StepTextFault>
+    ) -> Result<(), StepTextError>
         ensures ok { OnOk result (entry_lines (named names.now) (entry_of self.new) ≡ entry_lines (named names.now) (entry_of self.old) ++ ended line.now) }
         ensures fault { IfErr result (λ fault. fault ≡ BadLine → AreWords (named names.now) → MayStandBelow (named names.now) (entry_of self.old) line.now → ⊥) }
     {
@@ -181,12 +181,12 @@ impl Pending {
             return self.take_item(alloc, names, line);
         };
         if !is_moved(item) {
-            return Err(StepTextFault::BadLine);
+            return Err(StepTextError::BadLine);
         }
         let deed = read_deed(alloc, line)?;
         match self.deeds.push(deed) {
             Ok(()) => Ok(()),
-            Err(_) => Err(StepTextFault::NoMemory),
+            Err(_) => Err(StepTextError::NoMemory),
         }
     }
 
@@ -234,7 +234,7 @@ impl Pending {
 }
 
 impl Reader {
-    ghost use Rattle.step_text.specs.declared.read.StepTextFault.TheVariants.{BadLine, NoMemory};
+    ghost use Rattle.step_text.specs.declared.read.StepTextError.TheVariants.{BadLine, NoMemory};
 
     /// Before any line.
     pub(crate) fn new(alloc: Global) -> Reader
@@ -264,7 +264,7 @@ impl Reader {
         alloc: Global,
         names: &NameBook<'_>,
         line: &[u8],
-    ) -> Result<(), StepTextFault>
+    ) -> Result<(), StepTextError>
         ensures reading { OnOk result (IsReading self.new) }
         ensures ok { OnOk result (log_lines (named names.now) (entries_of self.new) ≡ log_lines (named names.now) (entries_of self.old) ++ ended line.now) }
         ensures fault { IfErr result (λ fault. fault ≡ BadLine → MayBegin (named names.now) (entries_of self.old) line.now → ⊥) }
@@ -272,8 +272,8 @@ impl Reader {
         self.close(alloc)?;
         match self.log.reserve(1) {
             Ok(()) => {}
-            Err(LogFault::Full) => return Err(StepTextFault::BadLine),
-            Err(LogFault::NoMemory) => return Err(StepTextFault::NoMemory),
+            Err(LogError::Full) => return Err(StepTextError::BadLine),
+            Err(LogError::NoMemory) => return Err(StepTextError::NoMemory),
         }
         let step = read_step(alloc, names.laws, names.machines, line)?;
         self.pending = Some(Pending::new(alloc, step));
@@ -286,7 +286,7 @@ impl Reader {
         alloc: Global,
         names: &NameBook<'_>,
         line: &[u8],
-    ) -> Result<(), StepTextFault>
+    ) -> Result<(), StepTextError>
         requires { IsReading self.old }
         ensures reading { OnOk result (IsReading self.new) }
         ensures ok { OnOk result (log_lines (named names.now) (entries_of self.new) ≡ log_lines (named names.now) (entries_of self.old) ++ ended line.now) }
@@ -297,7 +297,7 @@ impl Reader {
         }
         match &mut self.pending {
             Some(pending) => pending.take(alloc, names, line),
-            None => Err(StepTextFault::BadLine),
+            None => Err(StepTextError::BadLine),
         }
     }
 

@@ -22,6 +22,6 @@ mod write;
 pub use guess::{next_key, next_kind};
 pub use machines::Machines;
 pub use name::is_plain;
-pub use read::{StepTextFault, read_step};
+pub use read::{StepTextError, read_step};
 pub use words::next_number;
 pub use write::{put_key, put_kind, write_step};

@@ -19,7 +19,7 @@ use thiserror::Error;
 
 /// Why a line was not read.
 #[derive(Clone, Copy, Debug, PartialEq, Eq, Error)]
-pub enum StepTextFault {
+pub enum StepTextError {
     /// No step has that line.
     #[error("the line is of no step")]
     BadLine,
@@ -27,13 +27,13 @@ pub enum StepTextFault {
     NoMemory,
 }
 
-impl From<AllocError> for StepTextFault {
-    ghost use Rattle.step_text.specs.declared.read.StepTextFault.TheVariants.{NoMemory};
+impl From<AllocError> for StepTextError {
+    ghost use Rattle.step_text.specs.declared.read.StepTextError.TheVariants.{NoMemory};
 
     ghost from_gives = { λ _ e. e ≡ NoMemory };
 
-    fn from(_e: AllocError) -> StepTextFault {
-        StepTextFault::NoMemory
+    fn from(_e: AllocError) -> StepTextError {
+        StepTextError::NoMemory
     }
 }
 
@@ -79,17 +79,17 @@ pub fn read_step(
     laws: &LawBook,
     machines: &Machines,
     line: &[u8],
-) -> Result<Step, StepTextFault>
+) -> Result<Step, StepTextError>
     ensures ok { IfOk result (λ step. line_of (names_of laws.now machines.now) step ≡ line.now) }
     ensures fault { IfErr result (λ fault. IsFaultOf (names_of laws.now machines.now) line.now fault) }
 {
     machines.known();
     let Some(step) = guess_line(alloc, laws, machines, line)? else {
-        return Err(StepTextFault::BadLine);
+        return Err(StepTextError::BadLine);
     };
     if has_line(alloc, laws, machines, &step, line)? {
         Ok(step)
     } else {
-        Err(StepTextFault::BadLine)
+        Err(StepTextError::BadLine)
     }
 }

@@ -5,7 +5,7 @@ use base_list::Octets;
 use bench_item::{
     Entry, Handled, Item, Key, MAX_ENTRIES, MachineItem, Moved, Role, Series, Source, Step,
 };
-use bench_log::{Log, LogFault};
+use bench_log::{Log, LogError};
 use log_text::{NameBook, put_entry};
 use peer_rules::peer_laws;
 use script_text::{Asked, read_script};
@@ -291,7 +291,7 @@ fn is_filled(alloc: Global) -> Result<bool, Fail> {
     log.push(alloc, &worked(alloc, moved(alloc)?)?)?;
     let full = log.push(alloc, &entry);
     let places = log.of_machine(4097, alloc)?;
-    let is_full = full == Err(LogFault::Full) && log.len() == MAX_ENTRIES;
+    let is_full = full == Err(LogError::Full) && log.len() == MAX_ENTRIES;
     log.truncate(1);
     Ok(is_full && places.as_slice() == [MAX_ENTRIES - 1].as_slice() && log.len() == 1)
 }
