@@ -30,7 +30,7 @@ use Rattle.bench_spec.proofs.AfterLemmas.{flat_map-snoc}
 use Rattle.bench_spec.proofs.BookLemmas.{entry_of, moves_next}
 use Rattle.bench_spec.proofs.PlaceLemmas.{place_stays}
 
-role_sound : (a b : Role) → is_same_role a b ≡ true → a ≡ b
+pub role_sound : (a b : Role) → is_same_role a b ≡ true → a ≡ b
 role_sound Peer Peer h = refl
 role_sound Peer Client h = absurd (false≢true h)
 role_sound Peer Server h = absurd (false≢true h)
@@ -41,24 +41,24 @@ role_sound Server Peer h = absurd (false≢true h)
 role_sound Server Client h = absurd (false≢true h)
 role_sound Server Server h = refl
 
-role_itself : (a : Role) → is_same_role a a ≡ true
+pub role_itself : (a : Role) → is_same_role a a ≡ true
 role_itself Peer = refl
 role_itself Client = refl
 role_itself Server = refl
 
-both_true : (a b : Bool) → (a && b) ≡ true → (a ≡ true) × (b ≡ true)
+pub both_true : (a b : Bool) → (a && b) ≡ true → (a ≡ true) × (b ≡ true)
 both_true true b h = (refl, h)
 both_true false b h = absurd (false≢true h)
 
 same_fields : (r s : Role) (n m : List ℕ) → r ≡ s → n ≡ m → key_of r n ≡ key_of s m
 same_fields r s n m e f = rw (e, f) refl
 
-key_sound : (a b : Key) → is_same_key a b ≡ true → a ≡ b
+pub key_sound : (a b : Key) → is_same_key a b ≡ true → a ≡ b
 key_sound a b h =
     let parts = both_true (is_same_role a.role b.role) (bytes_eq a.name b.name) h in
     same_fields a.role b.role a.name b.name (role_sound a.role b.role parts.0) ((bytes_eq-Decides a.name b.name).0 parts.1)
 
-key_itself : (a : Key) → is_same_key a a ≡ true
+pub key_itself : (a : Key) → is_same_key a a ≡ true
 key_itself a = rw (role_itself a.role, (bytes_eq-Decides a.name a.name).1 refl) refl
 
 itself : (n : ℕ) → (n == n) ≡ true
