@@ -4,6 +4,7 @@ pub mod BookLemmas
 pub mod PlaceLemmas
 pub mod RunLemmas
 pub mod OwnLemmas
+pub mod NumberLemmas
 pub mod BackLemmas
 pub mod PauseLemmas
 pub mod LineLemmas

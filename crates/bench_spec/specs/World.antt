@@ -1,5 +1,5 @@
 -- The bench at a place of its log, and where a breakpoint is met.
-use Rattle.std.specs.Prelude.{ℕ, ◌==◌, ◌&&◌, ◌||◌, Bool, false, List, [], find, flat_map, take, Option, option_map, option_to_list}
+use Rattle.std.specs.Prelude.{ℕ, min, ◌==◌, ◌&&◌, ◌||◌, Bool, false, List, [], ◌∷◌, map, filter, flat_map, take, Option, None, Some, option_to_list}
 use Rattle.std.specs.List.{list_any}
 use Rattle.std.specs.Option.{option_map_or}
 use Rattle.acct_book.specs.Book.{totals_of}
@@ -90,6 +90,11 @@ abbrev pub meets : Entry → Breakpoint → Bool
 meets e breakpoint =
     list_any (λ item. is_met_at breakpoint item || list_any (is_met_by breakpoint item) (moved_in e)) (handled_in e)
 
--- the breakpoint that a run stops at: the first that the entry meets, of those that are set, in order of number
+-- the least of numbers, if there is one
+abbrev pub least : List ℕ → Option ℕ
+least [] = None
+least (n ∷ numbers) = Some (option_map_or (min n) (least numbers) n)
+
+-- the breakpoint that a run stops at: of those that are set and that the entry meets, the one of the least number
 abbrev pub first_met : List (ℕ × Breakpoint) → Entry → Option ℕ
-first_met set e = option_map (λ b. b.0) (find (λ b. meets e b.1) set)
+first_met set e = least (map (λ b. b.0) (filter (λ b. meets e b.1) set))

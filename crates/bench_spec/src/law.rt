@@ -1,6 +1,7 @@
 //! Laws of legal logs, over all settings and logs.
 ghost use Rattle.bench_spec.specs.ExampleLog as example;
 ghost use Rattle.bench_spec.specs.Legal.{BookIsAnswered, EachIsRun, FrontsAreLegal, GoesBack, GoesOn, IsLegal, NoneIsOver, PauseOnlyRefuses};
+ghost use Rattle.bench_spec.specs.Numbers.{NumbersAgree};
 ghost use Rattle.bench_spec.specs.Own.{EachIsOwnRun};
 ghost use Rattle.bench_spec.specs.Taken.{ReplayThenBack, StepThenBack};
 
@@ -41,6 +42,11 @@ pub fn legal_is_run()
 /// table of its role, from its start.
 pub fn legal_is_own_run()
     ensures { EachIsOwnRun }
+{}
+
+/// In a legal log the entries that move a machine by its number are those that move it by its key.
+pub fn numbers_agree()
+    ensures { NumbersAgree }
 {}
 
 /// A step and then back is no step: whatever the step was, the world is the one before it, and so is all that it shows.
