@@ -6,6 +6,7 @@ pub mod RunLemmas
 pub mod OwnLemmas
 pub mod NumberLemmas
 pub mod BackLemmas
+pub mod SameLemmas
 pub mod PauseLemmas
 pub mod LineLemmas
 pub mod ExampleLemmas

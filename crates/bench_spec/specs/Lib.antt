@@ -16,4 +16,5 @@ pub mod Merged
 pub mod ExampleLog
 pub mod LineExamples
 pub mod Examples
+pub mod OpeningExamples
 pub mod Taken

@@ -3,6 +3,7 @@ ghost use Rattle.bench_spec.specs.ExampleLog as example;
 ghost use Rattle.bench_spec.specs.Legal.{BookIsAnswered, EachIsRun, FrontsAreLegal, GoesBack, GoesOn, IsLegal, NoneIsOver, PauseOnlyRefuses};
 ghost use Rattle.bench_spec.specs.Numbers.{NumbersAgree};
 ghost use Rattle.bench_spec.specs.Own.{EachIsOwnRun};
+ghost use Rattle.bench_spec.specs.SameLaws.{SameLaws};
 ghost use Rattle.bench_spec.specs.Taken.{ReplayThenBack, StepThenBack};
 
 /// One more entry that may follow keeps a log legal.
@@ -57,6 +58,11 @@ pub fn step_then_back()
 /// Nor is an entry that is replayed, and then back.
 pub fn replay_then_back()
     ensures { ReplayThenBack }
+{}
+
+/// The test by which the registries of a bench are compared finds two books of laws the same exactly where they are equal.
+pub fn same_laws()
+    ensures { SameLaws }
 {}
 
 /// A step that may be taken while shards are paused may be taken while none is.

@@ -18,6 +18,6 @@ mod opening;
 pub use law::{
     example_is_legal, fronts_are_legal, legal_book_is_answered, legal_goes_back, legal_goes_on,
     legal_is_own_run, legal_is_run, legal_never_over, numbers_agree, pause_only_refuses, replay_then_back,
-    step_then_back,
+    same_laws, step_then_back,
 };
 pub use opening::OpeningError;
