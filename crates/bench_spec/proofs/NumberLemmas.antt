@@ -57,7 +57,7 @@ distinct-snoc is_same sound (x ∷ xs) k =
     ∙ ap (λ ds. x ∷ ds) (distinct-more is_same sound x (distinct is_same xs) k (is_same x k) (list_any (λ y. is_same y k) (distinct is_same xs)) refl refl)
 
 -- what is in a list is among its distinct items
-any-distinct : {X : Type 0} (is_same : X → X → Bool) (sound : (x y : X) → is_same x y ≡ true → x ≡ y) (k : X) (xs : List X) → list_any (λ y. is_same y k) (distinct is_same xs) ≡ list_any (λ y. is_same y k) xs
+pub any-distinct : {X : Type 0} (is_same : X → X → Bool) (sound : (x y : X) → is_same x y ≡ true → x ≡ y) (k : X) (xs : List X) → list_any (λ y. is_same y k) (distinct is_same xs) ≡ list_any (λ y. is_same y k) xs
 any-distinct is_same sound k [] = refl
 any-distinct {X} is_same sound k (x ∷ xs) = by (any-distinct is_same sound k xs) (is_same x k) refl
   where

@@ -14,6 +14,8 @@ pub mod Numbers
 pub mod World
 pub mod Merged
 pub mod ExampleLog
+pub mod SessionLog
+pub mod ChargeLog
 pub mod LineExamples
 pub mod Examples
 pub mod OpeningExamples

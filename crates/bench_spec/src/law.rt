@@ -1,6 +1,5 @@
 //! Laws of legal logs, over all settings and logs.
-ghost use Rattle.bench_spec.specs.ExampleLog as example;
-ghost use Rattle.bench_spec.specs.Legal.{BookIsAnswered, EachIsRun, FrontsAreLegal, GoesBack, GoesOn, IsLegal, NoneIsOver, PauseOnlyRefuses};
+ghost use Rattle.bench_spec.specs.Legal.{BookIsAnswered, EachIsRun, FrontsAreLegal, GoesBack, GoesOn, NoneIsOver, PauseOnlyRefuses};
 ghost use Rattle.bench_spec.specs.Numbers.{NumbersAgree};
 ghost use Rattle.bench_spec.specs.Own.{EachIsOwnRun};
 ghost use Rattle.bench_spec.specs.SameLaws.{SameLaws};
@@ -68,9 +67,4 @@ pub fn same_laws()
 /// A step that may be taken while shards are paused may be taken while none is.
 pub fn pause_only_refuses()
     ensures { PauseOnlyRefuses }
-{}
-
-/// A log of six entries is legal: a desk tells a peer Start, its machine moves, and its timer is armed.
-pub fn example_is_legal()
-    ensures { IsLegal example.settings example.log }
 {}
