@@ -27,7 +27,7 @@ use Rattle.bench_item.specs.declared.key.Role.TheVariants.{Client, Peer, Server}
 use Rattle.bench_item.specs.declared.source.Source.TheVariants.{Desk, Shard}
 use Rattle.bench_item.specs.declared.step.Step.{Step}
 use Rattle.bench_item.specs.declared.step.Step.TheVariants.{Drop, Lift, Told, Work}
-use Rattle.bench_spec.specs.ExampleLog.{carried, silent}
+use Rattle.bench_spec.specs.ExampleLog.{carried}
 use Rattle.bench_spec.specs.Settings.{Settings}
 
 -- facts from the first on, each handed on as it is
@@ -90,7 +90,6 @@ settings = record {
   accounts = record { id = 100; given = 100 } ∷ record { id = 101; given = 100 } ∷ [];
   pages = 2;
   desks = 2;
-  rules = λ line. silent;
 }
 
 -- what a session is told: an account, units, whether there are services, the group of the first and its units

@@ -23,7 +23,7 @@ use Rattle.bench_item.specs.declared.key.Key.{Key}
 use Rattle.bench_item.specs.declared.key.Role.TheVariants.{Client}
 use Rattle.bench_item.specs.declared.source.Source.TheVariants.{Clock, Desk, Shard}
 use Rattle.bench_item.specs.declared.step.Step.TheVariants.{Drop, Fired, Lift, Told, Work}
-use Rattle.bench_spec.specs.ExampleLog.{carried, regs_with, silent}
+use Rattle.bench_spec.specs.ExampleLog.{carried, regs_with}
 use Rattle.bench_spec.specs.Items.{told_item}
 use Rattle.bench_spec.specs.Settings.{Settings}
 
@@ -66,7 +66,6 @@ settings = record {
   accounts = [];
   pages = 1;
   desks = 1;
-  rules = λ line. silent;
 }
 
 -- the session `x`, whose machine has number 0
