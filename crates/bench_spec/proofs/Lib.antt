@@ -12,6 +12,7 @@ pub mod PermitLemmas
 pub mod TextLemmas
 pub mod SessionLemmas
 pub mod ChargeLemmas
+pub mod MergedLemmas
 pub mod PauseLemmas
 pub mod LineLemmas
 pub mod ExampleLemmas

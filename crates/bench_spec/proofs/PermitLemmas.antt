@@ -36,7 +36,7 @@ abbrev pub is_held : List Change → Scene → List ℕ → ℕ → Bool
 is_held law scene new register =
     may_hold scene (last_of register law) (slice_index scene.regs register) (slice_index new register)
 
-of_range : (p : ℕ → Bool) (count n : ℕ) → list_all p (range_with_len 0 count) ≡ true → n < count → p n ≡ true
+pub of_range : (p : ℕ → Bool) (count n : ℕ) → list_all p (range_with_len 0 count) ≡ true → n < count → p n ≡ true
 of_range p count n all below = by (p n) refl
   where
     at : get_or (range_with_len 0 count) n 0 ≡ n

@@ -16,6 +16,7 @@ pub mod Merged
 pub mod ExampleLog
 pub mod SessionLog
 pub mod ChargeLog
+pub mod MergedLog
 pub mod LineExamples
 pub mod Examples
 pub mod OpeningExamples

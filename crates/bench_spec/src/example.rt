@@ -2,6 +2,8 @@
 ghost use Rattle.bench_spec.specs.ChargeLog as charge;
 ghost use Rattle.bench_spec.specs.ExampleLog as example;
 ghost use Rattle.bench_spec.specs.Legal.{IsLegal};
+ghost use Rattle.bench_spec.specs.Merged.{IsMerged};
+ghost use Rattle.bench_spec.specs.MergedLog as merged;
 ghost use Rattle.bench_spec.specs.SessionLog as session;
 
 /// A log of six entries is legal: a desk tells a peer Start, its machine moves, and its timer is armed.
@@ -18,4 +20,9 @@ pub fn session_log_is_legal()
 /// services.
 pub fn charge_log_is_legal()
     ensures { IsLegal charge.settings charge.log }
+{}
+
+/// The parts of two shards and two desks, each of which looked once, are merged as that log.
+pub fn charge_log_is_merged()
+    ensures { IsMerged charge.settings merged.parts charge.log }
 {}

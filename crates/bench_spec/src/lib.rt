@@ -16,7 +16,9 @@ mod example;
 mod law;
 mod opening;
 
-pub use example::{charge_log_is_legal, example_is_legal, session_log_is_legal};
+pub use example::{
+    charge_log_is_legal, charge_log_is_merged, example_is_legal, session_log_is_legal,
+};
 pub use law::{
     fronts_are_legal, legal_book_is_answered, legal_goes_back, legal_goes_on, legal_is_own_run,
     legal_is_run, legal_never_over, numbers_agree, pause_only_refuses, replay_then_back, same_laws,
