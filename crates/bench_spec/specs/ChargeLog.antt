@@ -5,7 +5,7 @@ use Rattle.std.specs.Prelude.{ℕ, ◌++◌, List, [], ◌∷◌, Option, Some, 
 use Rattle.base_codes.specs.DeedCodes.{number_of}
 use Rattle.base_codes.specs.declared.deed_code.DeedCode.TheVariants as deeds
 use Rattle.acct_totals.specs.declared.op.Outcome.{Outcome}
-use Rattle.acct_totals.specs.declared.op.Outcome.TheVariants.{Done}
+use Rattle.acct_totals.specs.declared.op.Outcome.TheVariants.{Done, Refused}
 use Rattle.tab_law.specs.Books.{Laws}
 use Rattle.tab_law.specs.declared.law.Atom.TheVariants.{Constant, Fact}
 use Rattle.tab_law.specs.declared.law.Change.{Change}
@@ -35,7 +35,7 @@ abbrev pub facts_on : List ℕ → List Term
 facts_on places = map (λ place. Just (Fact place)) places
 
 -- a request of class 1 and type 1 to the peer's machine, with account, units, and the group and units of a service; the same to the
--- server's session; and reservations of what the book offers, without a group and for that service
+-- server's session; and reservations of what is wanted, without a group and for that service
 abbrev pub ask_law : List Change
 ask_law =
     Emit (number_of deeds.ToPeer)
@@ -50,8 +50,8 @@ loop_law =
 
 abbrev pub reserve_law : List Change
 reserve_law =
-    EmitIf (Fact 13) (number_of deeds.Reserve) (facts_on (13 ∷ []))
-    ∷ EmitIf (Fact 17) (number_of deeds.Reserve) (facts_on (22 ∷ 17 ∷ []))
+    EmitIf (Fact 9) (number_of deeds.Reserve) (facts_on (9 ∷ []))
+    ∷ EmitIf (Fact 17) (number_of deeds.Reserve) (facts_on (19 ∷ 17 ∷ []))
     ∷ []
 
 abbrev pub laws : Laws
@@ -154,7 +154,7 @@ asked machine a = moved machine 0 (facts_told a) 1 (record { code = number_of de
 abbrev pub looped : Asks → Moved
 looped a = moved 4096 1 (requested a) 0 (record { code = number_of deeds.ToSession; a = requested a } ∷ []) []
 
--- the book offers `x` 60 units, and the service of `y` 30
+-- the book offers `x` 60 units, and the service of `y` 30 units
 abbrev pub offered_x : List ℕ
 offered_x = slice_set (slice_set (requested of_x) 12 2001) 13 60
 
@@ -204,3 +204,32 @@ log_y =
 
 abbrev pub log : List Entry
 log = log_x ++ log_y
+
+-- the session `y` where it asks for 60 units of account 100 too: the book offers it the last 40, and refuses the 60
+abbrev pub of_z : Asks
+of_z = record { name = codes "y"; account = 100; units = 60; services = 0; group = 0; of_group = 0 }
+
+abbrev pub offered_z : List ℕ
+offered_z = slice_set (slice_set (slice_set (requested of_z) 12 2001) 13 40) 14 1
+
+abbrev pub reserving_z : Outcome → Moved
+reserving_z outcome =
+    moved 4098 2 offered_z 1 (record { code = number_of deeds.Reserve; a = 60 ∷ replicate 63 0 } ∷ []) (outcome ∷ [])
+
+-- the log up to the work of that request, and with it
+abbrev pub before_z : List Entry
+before_z =
+    log_x
+    ++ carried (tells 1 of_z) None
+    ∷ carried (Lift (Desk 1)) (Some (begin of_z))
+    ∷ carried (Drop (Desk 1)) (Some (begin of_z))
+    ∷ works 1 (begin of_z) (asked 4097 of_z)
+    ∷ carried (Lift (Shard 1)) (Some (request of_z))
+    ∷ carried (Drop (Shard 1)) (Some (request of_z))
+    ∷ works 1 (request of_z) (looped of_z)
+    ∷ carried (Lift (Shard 1)) (Some (initial of_z))
+    ∷ carried (Drop (Shard 1)) (Some (initial of_z))
+    ∷ []
+
+abbrev pub log_z : List Entry
+log_z = before_z ++ works 1 (initial of_z) (reserving_z Refused) ∷ []

@@ -134,28 +134,3 @@ after_work = before_work ++ worked_by 30 ∷ []
 
 abbrev pub log : List Entry
 log = after_work ++ carried (Lift (Shard 0)) (Some (armed_with 1)) ∷ carried (Drop (Shard 0)) (Some (armed_with 1)) ∷ []
-
--- the session `x`, which asks for 60 units of account 100
-abbrev pub asking : MachineItem
-asking = record {
-  key = key_of Server (codes "x");
-  event = record { kind = 2; facts = slice_set (slice_set no_facts 7 100) 9 60 };
-  condition = None;
-  session = [];
-}
-
--- what it moves, with this outcome of its deed, which reserves 60
-abbrev pub reserving : Outcome → Moved
-reserving outcome = record {
-  machine = 1;
-  event = record { kind = 2; facts = slice_set (slice_set (slice_set (slice_set no_facts 7 100) 9 60) 12 2001) 13 60 };
-  before = record { state = 0; regs = slice_set no_facts 14 1 };
-  after = record { state = 0; regs = slice_set no_facts 14 1 };
-  row = Some 0;
-  chain = slice_set no_facts 14 1 ∷ [];
-  deeds = record { code = number_of deeds.Reserve; a = 60 ∷ replicate 63 0 } ∷ [];
-  outcomes = outcome ∷ [];
-}
-
-abbrev pub reserved_by : Outcome → Entry
-reserved_by outcome = record { step = Work 0; item = Some (ToMachine asking); handled = Some (Move (reserving outcome)) }

@@ -10,19 +10,24 @@ use Rattle.acct_totals.specs.declared.op.Outcome.TheVariants.{Done, Refused}
 use Rattle.server_wants.specs.declared.want.Asked.TheVariants.{Several}
 use Rattle.server_wants.specs.declared.want.Want.{Want}
 use Rattle.tab_step.specs.Moves.{row_taken}
+use Rattle.tab_step.specs.declared.machine.Event.{Event}
 use Rattle.bench_item.specs.declared.entry.Entry.{Entry}
 use Rattle.bench_item.specs.declared.entry.Moved.{Moved}
 use Rattle.bench_item.specs.declared.entry.Handled.TheVariants.{Move}
+use Rattle.bench_item.specs.Keys.{key_of}
 use Rattle.bench_item.specs.Posts.{no_facts}
 use Rattle.bench_item.specs.declared.item.Item.{Item}
 use Rattle.bench_item.specs.declared.item.Item.TheVariants.{Arm, ToMachine}
 use Rattle.bench_item.specs.declared.item.MachineItem.{MachineItem}
+use Rattle.bench_item.specs.declared.key.Role.TheVariants.{Server}
 use Rattle.bench_item.specs.declared.source.Source.TheVariants.{Desk, Shard}
 use Rattle.bench_item.specs.declared.step.Step.TheVariants.{Drop, Fired, Lift, Told, Work}
 use Rattle.bench_item.specs.declared.step.StepFault.{StepFault}
 use Rattle.bench_item.specs.declared.step.StepFault.TheVariants.{Nothing, Paused, Unknown}
+use Rattle.bench_spec.specs.ChargeLog as charge
+use Rattle.bench_spec.specs.SessionLog as session
 use Rattle.bench_spec.specs.Booked.{book_at, event_with_quote, outcomes_for, want_of}
-use Rattle.bench_spec.specs.ExampleLog.{after_work, armed_with, asking, before_work, carried, laws, log, move_by, peer_a, peer_table, regs_with, reserved_by, reserving, settings, told, worked_by}
+use Rattle.bench_spec.specs.ExampleLog.{after_work, armed_with, before_work, carried, laws, log, move_by, peer_a, peer_table, regs_with, settings, told, worked_by}
 use Rattle.bench_spec.specs.Items.{IsCarried, IsFront, armed, dropped, hand, inbox, lifted, outbox, posts}
 use Rattle.bench_spec.specs.Legal.{BecomesOf, IsMove, MayFollow, is_met}
 use Rattle.bench_spec.specs.Machines.{directory, state_of}
@@ -157,10 +162,6 @@ fires = refl
 pub fires_late : is_met settings log (fired_with 0) ≡ false
 fires_late = refl
 
--- so that an entry in which the late one moves its machine is none
-pub late_move : (moved : Moved) → BecomesOf settings log (fired_with 0) (Move moved) → ⊥
-late_move moved becomes = false≢true becomes.1
-
 -- order: what was lifted and dropped is in the order in which it was put out
 pub shard_in_order : IsCarried (posts settings log (Shard 0)) (lifted log (Shard 0)) (dropped log (Shard 0))
 unfolding coded
@@ -182,23 +183,43 @@ unfolding coded
 other_post front = false≢true (ap arms_for_31 front.1)
 
 -- the book: of 100 units 60 are reserved, and then 60 more are refused
-pub first_reserve : outcomes_for (book_at settings []) (want_of laws asking (reserving Refused).before) (reserving Refused).deeds ≡ Done 60 0 ∷ []
+abbrev outcomes_at : List Entry → Moved → MachineItem → List Outcome
+outcomes_at past moved item =
+    outcomes_for (book_at charge.settings past) (want_of charge.laws item moved.before) moved.deeds
+
+abbrev item_of : charge.Asks → MachineItem
+item_of asks = record {
+  key = key_of Server asks.name;
+  event = record { kind = 2; facts = charge.requested asks };
+  condition = None;
+  session = asks.name;
+}
+
+pub first_reserve : outcomes_at (take 9 charge.log) charge.reserved_x (item_of charge.of_x) ≡ Done 60 0 ∷ []
 unfolding coded own left_where debited unpaid
 first_reserve = refl
 
-pub second_reserve : outcomes_for (book_at settings (reserved_by (Done 60 0) ∷ [])) (want_of laws asking (reserving Refused).before) (reserving Refused).deeds ≡ Refused ∷ []
+pub second_reserve : outcomes_at charge.before_z (charge.reserving_z Refused) (item_of charge.of_z) ≡ Refused ∷ []
 unfolding coded own left_where debited unpaid
 second_reserve = refl
 
 -- an entry that reserves them again has another outcome than the book allows
-pub reserved_again : outcomes_for (book_at settings (reserved_by (Done 60 0) ∷ [])) (want_of laws asking (reserving (Done 60 0)).before) (reserving (Done 60 0)).deeds ≢ (reserving (Done 60 0)).outcomes
+pub reserved_again : outcomes_at charge.before_z (charge.reserving_z (Done 60 0)) (item_of charge.of_z) ≢ Done 60 0 ∷ []
 unfolding coded own left_where debited unpaid
 reserved_again same = false≢true (ap first_is_done same)
 
 -- the quote among the facts of the event
-pub quoted_event : event_with_quote (book_at settings []) (want_of laws asking (reserving Refused).before) asking.event ≡ (reserving Refused).event
+abbrev quoted_at : List Entry → Moved → MachineItem → Event
+quoted_at past moved item =
+    event_with_quote (book_at charge.settings past) (want_of charge.laws item moved.before) item.event
+
+pub quoted_event : quoted_at (take 9 charge.log) charge.reserved_x (item_of charge.of_x) ≡ charge.reserved_x.event
 unfolding coded own left_where debited unpaid
 quoted_event = refl
+
+pub quoted_service : quoted_at (take 19 charge.log) charge.reserved_y (item_of charge.of_y) ≡ charge.reserved_y.event
+unfolding coded own left_where debited unpaid
+quoted_service = refl
 
 -- so none of these entries may follow: the lift of another item than the one that was put out,
 pub no_other_item : MayFollow settings after_work (carried (Lift (Shard 0)) (Some (armed_with 2))) → ⊥
@@ -213,15 +234,15 @@ pub no_second_row : MayFollow settings before_work (record { step = Work 0; item
 no_second_row follows = second_row follows.parts.2.move
 
 -- a timer that fires with a generation with which it isn't armed,
-pub no_other_generation : MayFollow settings log (carried (Fired 0 2) None) → ⊥
+pub no_other_generation : MayFollow settings log (carried (Fired 0 2) (Some (ToMachine (fired_with 2)))) → ⊥
 no_other_generation follows = false≢true (ap is_taken follows.could)
 
--- a move for a timer that fires late,
-pub no_late_move : (moved : Moved) → MayFollow settings log (record { step = Work 0; item = Some (ToMachine (fired_with 0)); handled = Some (Move moved) }) → ⊥
-no_late_move moved follows = late_move moved follows.parts
+-- a move of the session's machine for a timer that fires late, where another firing of its timer would move it so,
+pub no_late_move : MayFollow session.settings (take 13 session.log) (session.works (session.fired_with 1) (Move session.ending)) → ⊥
+no_late_move follows = false≢true follows.parts.1
 
 -- or a Reserve of 60 units that is done where 40 are left
-pub no_second_reserve : MayFollow settings (reserved_by (Done 60 0) ∷ []) (reserved_by (Done 60 0)) → ⊥
+pub no_second_reserve : MayFollow charge.settings charge.before_z (charge.works 1 (charge.initial charge.of_z) (charge.reserving_z (Done 60 0))) → ⊥
 no_second_reserve follows = reserved_again (sym follows.parts.2.outcomes)
 
 -- several services of an account that is not there: each slot is answered 5030, and so is the request
@@ -229,7 +250,7 @@ abbrev unknown_want : Want
 unknown_want = record { account = 7; session = 1; asked = Several (Some (record { group = 2; used = 0; want = 60 }) ∷ Some (record { group = 3; used = 5; want = 0 }) ∷ None ∷ None ∷ []) }
 
 abbrev unknown_facts : List ℕ
-unknown_facts = (event_with_quote (book_at settings []) (Some unknown_want) asking.event).facts
+unknown_facts = (event_with_quote (book_at settings []) (Some unknown_want) (record { kind = 0; facts = no_facts })).facts
 
 pub unknown_request : slice_index unknown_facts 12 ≡ 5030
 unknown_request = refl

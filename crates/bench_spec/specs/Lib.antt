@@ -20,4 +20,5 @@ pub mod MergedLog
 pub mod LineExamples
 pub mod Examples
 pub mod OpeningExamples
+pub mod LogExamples
 pub mod Taken

@@ -22,6 +22,11 @@ pub fn charge_log_is_legal()
     ensures { IsLegal charge.settings charge.log }
 {}
 
+/// The same where the second session asks for 60 units of the account of which 60 are reserved and 40 are left: it is refused.
+pub fn refused_log_is_legal()
+    ensures { IsLegal charge.settings charge.log_z }
+{}
+
 /// The parts of two shards and two desks, each of which looked once, are merged as that log.
 pub fn charge_log_is_merged()
     ensures { IsMerged charge.settings merged.parts charge.log }
