@@ -10,6 +10,7 @@ pub mod Sent
 pub mod Refusal
 pub mod Legal
 pub mod Own
+pub mod Played
 pub mod Numbers
 pub mod World
 pub mod Merged

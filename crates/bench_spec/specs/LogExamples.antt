@@ -5,6 +5,7 @@ use Rattle.acct_book.specs.Sums.{debited, left_where, own, unpaid}
 use Rattle.bench_item.specs.declared.entry.Handled.TheVariants.{Move, Stale}
 use Rattle.bench_item.specs.declared.key.Role.TheVariants.{Client, Peer, Server}
 use Rattle.bench_item.specs.declared.source.Source.TheVariants.{Clock, Desk, Shard}
+use Rattle.bench_item.specs.declared.step.Step.{Step}
 use Rattle.bench_item.specs.declared.step.Step.TheVariants.{Drop}
 use Rattle.bench_item.specs.Keys.{key_of}
 use Rattle.bench_spec.specs.ExampleLog.{carried}
@@ -13,6 +14,7 @@ use Rattle.bench_spec.specs.SessionLog as session
 use Rattle.bench_spec.specs.Items.{armed, hand, inbox, outbox}
 use Rattle.bench_spec.specs.Machines.{directory, moves_of, number_of, state_of}
 use Rattle.bench_spec.specs.Own.{own_events}
+use Rattle.bench_spec.specs.Played.{play}
 use Rattle.bench_spec.specs.World.{AtKind, AtMachine, AtRow, AtState, first_met, meets, names_of, world_at, world_of}
 
 -- the session's own events are Begin, More and the second Tx: the first was stale
@@ -121,3 +123,15 @@ least_met = refl
 
 pub none_met : first_met ((7, AtKind 0) ∷ []) (session.works (session.fired_with 1) (Stale 1)) ≡ None
 none_met = refl
+
+-- a log played from its steps, where each action picks the greatest number that its law allows
+abbrev session_steps : List Step
+session_steps = map (λ e. e.step) session.log
+
+pub session_played : play session.settings [] session_steps ≡ session.log
+unfolding coded
+session_played = refl
+
+pub charge_played : play charge.settings [] (map (λ e. e.step) charge.log_z) ≡ charge.log_z
+unfolding coded own left_where debited unpaid
+charge_played = refl
