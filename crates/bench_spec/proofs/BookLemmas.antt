@@ -32,20 +32,36 @@ IsAllowed accounts past b = b.outcome ≡ outcome_of (record { accounts = accoun
 abbrev with_outcomes : List Op → List Outcome → List Booked
 with_outcomes ops outcomes = map (λ p. record { op = p.0; outcome = p.1 }) (zip ops outcomes)
 
-allowed_each : (accounts : List Opened) (journal : List Booked) (ops : List Op) → EachAfter (IsAllowed accounts) journal (with_outcomes ops (outcomes_of (record { accounts = accounts; journal = journal }) ops))
+allowed_each : (accounts : List Opened) (journal : List Booked) (ops : List Op)
+    → EachAfter (IsAllowed accounts) journal
+    (with_outcomes ops (outcomes_of (record { accounts = accounts; journal = journal }) ops))
 allowed_each accounts journal [] = tt
-allowed_each accounts journal (op ∷ ops) = (refl, allowed_each accounts (journal ++ record { op = op; outcome = outcome_of (record { accounts = accounts; journal = journal }) op } ∷ []) ops)
+allowed_each accounts journal (op ∷ ops) = (
+  refl,
+  allowed_each accounts
+      (journal ++ record { op = op; outcome = outcome_of (record { accounts = accounts; journal = journal }) op } ∷ [])
+      ops,
+)
 
-allowed_for : (accounts : List Opened) (journal : List Booked) (want : Option Want) (deeds : List Deed) (outcomes : List Outcome) → outcomes ≡ outcomes_for (record { accounts = accounts; journal = journal }) want deeds → EachAfter (IsAllowed accounts) journal (with_outcomes (ops_of want deeds) outcomes)
+allowed_for : (accounts : List Opened) (journal : List Booked) (want : Option Want) (deeds : List Deed)
+    (outcomes : List Outcome) → outcomes ≡ outcomes_for (record { accounts = accounts; journal = journal }) want deeds
+    → EachAfter (IsAllowed accounts) journal (with_outcomes (ops_of want deeds) outcomes)
 allowed_for accounts journal None deeds outcomes same = tt
 allowed_for accounts journal (Some want) deeds outcomes same =
-    subst (λ os. EachAfter (IsAllowed accounts) journal (with_outcomes (ops_of (Some want) deeds) os)) (sym same) (allowed_each accounts journal (ops_of (Some want) deeds))
+    subst (λ os. EachAfter (IsAllowed accounts) journal (with_outcomes (ops_of (Some want) deeds) os)) (sym same)
+    (allowed_each accounts journal (ops_of (Some want) deeds))
 
 -- one move
-move_allowed : (settings : Settings) (past : List Entry) (item : MachineItem) (moved : Moved) → MovesNext settings past item moved → EachAfter (IsAllowed settings.accounts) (booked settings.node.laws past) ((booked_by settings.node.laws item moved ++ []) ++ [])
+move_allowed : (settings : Settings) (past : List Entry) (item : MachineItem) (moved : Moved)
+    → MovesNext settings past item moved
+    → EachAfter (IsAllowed settings.accounts) (booked settings.node.laws past)
+    ((booked_by settings.node.laws item moved ++ []) ++ [])
 move_allowed settings past item moved next =
-    subst (EachAfter (IsAllowed settings.accounts) (booked settings.node.laws past)) (sym (append-nil (booked_by settings.node.laws item moved ++ []) ∙ append-nil (booked_by settings.node.laws item moved)))
-    (allowed_for settings.accounts (booked settings.node.laws past) (want_of settings.node.laws item moved.before) moved.deeds moved.outcomes next.outcomes)
+    subst (EachAfter (IsAllowed settings.accounts) (booked settings.node.laws past))
+    (sym (append-nil (booked_by settings.node.laws item moved ++ [])
+    ∙ append-nil (booked_by settings.node.laws item moved)))
+    (allowed_for settings.accounts (booked settings.node.laws past) (want_of settings.node.laws item moved.before)
+    moved.deeds moved.outcomes next.outcomes)
 
 -- an entry whose item moved its machine is one of work
 abbrev pub entry_of : Step → Option Item → Option Handled → Entry
@@ -58,7 +74,9 @@ IsThere (Some h) = Unit {0}
 not_none : (h : Handled) → Some h ≡ None → ⊥
 not_none h same = subst IsThere same tt
 
-pub moves_next : (settings : Settings) (past : List Entry) (step : Step) (item : MachineItem) (moved : Moved) → HasParts settings past (entry_of step (Some (ToMachine item)) (Some (Move moved))) → MovesNext settings past item moved
+pub moves_next : (settings : Settings) (past : List Entry) (step : Step) (item : MachineItem) (moved : Moved)
+    → HasParts settings past (entry_of step (Some (ToMachine item)) (Some (Move moved)))
+    → MovesNext settings past item moved
 moves_next settings past Joined item moved parts = absurd (not_none (Move moved) parts.1)
 moves_next settings past (Dialled l) item moved parts = absurd (not_none (Move moved) parts.1)
 moves_next settings past (Came l p) item moved parts = absurd (not_none (Move moved) parts.1)
@@ -70,12 +88,16 @@ moves_next settings past (Drop s) item moved parts = absurd (not_none (Move move
 moves_next settings past (Work s) item moved parts = parts.2
 
 -- one entry
-entry_allowed : (settings : Settings) (past : List Entry) (step : Step) (item : Option Item) (handled : Option Handled) → HasParts settings past (entry_of step item handled) → EachAfter (IsAllowed settings.accounts) (booked settings.node.laws past) (booked_in settings.node.laws (entry_of step item handled))
+entry_allowed : (settings : Settings) (past : List Entry) (step : Step) (item : Option Item) (handled : Option Handled)
+    → HasParts settings past (entry_of step item handled)
+    → EachAfter (IsAllowed settings.accounts) (booked settings.node.laws past)
+    (booked_in settings.node.laws (entry_of step item handled))
 entry_allowed settings past step item None parts = tt
 entry_allowed settings past step item (Some TooBusy) parts = tt
 entry_allowed settings past step item (Some (Stale state)) parts = tt
 entry_allowed settings past step None (Some (Move moved)) parts = tt
-entry_allowed settings past step (Some (ToMachine item)) (Some (Move moved)) parts = move_allowed settings past item moved (moves_next settings past step item moved parts)
+entry_allowed settings past step (Some (ToMachine item)) (Some (Move moved)) parts =
+    move_allowed settings past item moved (moves_next settings past step item moved parts)
 entry_allowed settings past step (Some (ToLine item)) (Some (Move moved)) parts = tt
 entry_allowed settings past step (Some (Dial p g)) (Some (Move moved)) parts = tt
 entry_allowed settings past step (Some (Undial p g)) (Some (Move moved)) parts = tt
@@ -83,19 +105,26 @@ entry_allowed settings past step (Some (Arm m g t)) (Some (Move moved)) parts = 
 entry_allowed settings past step (Some (Disarm m)) (Some (Move moved)) parts = tt
 
 -- what the log books with one more entry
-pub booked-snoc : (settings : Settings) (log : List Entry) (e : Entry) → booked settings.node.laws (log ++ e ∷ []) ≡ booked settings.node.laws log ++ booked_in settings.node.laws e
+pub booked-snoc : (settings : Settings) (log : List Entry) (e : Entry)
+    → booked settings.node.laws (log ++ e ∷ []) ≡ booked settings.node.laws log ++ booked_in settings.node.laws e
 booked-snoc settings log e = flat_map-snoc (booked_in settings.node.laws) log e
 
-all_allowed : (settings : Settings) (past log : List Entry) → EachAfter (MayFollow settings) past log → EachAfter (IsAllowed settings.accounts) (booked settings.node.laws past) (booked settings.node.laws log)
+all_allowed : (settings : Settings) (past log : List Entry) → EachAfter (MayFollow settings) past log
+    → EachAfter (IsAllowed settings.accounts) (booked settings.node.laws past) (booked settings.node.laws log)
 all_allowed settings past [] legal = tt
 all_allowed settings past (e ∷ log) legal =
-    EachAfter-append (IsAllowed settings.accounts) (booked settings.node.laws past) (booked_in settings.node.laws e) (booked settings.node.laws log)
+    EachAfter-append (IsAllowed settings.accounts) (booked settings.node.laws past) (booked_in settings.node.laws e)
+    (booked settings.node.laws log)
     (entry_allowed settings past e.step e.item e.handled legal.0.parts)
-    (subst (λ js. EachAfter (IsAllowed settings.accounts) js (booked settings.node.laws log)) (booked-snoc settings past e) (all_allowed settings (past ++ e ∷ []) log legal.1))
+    (subst (λ js. EachAfter (IsAllowed settings.accounts) js (booked settings.node.laws log))
+    (booked-snoc settings past e) (all_allowed settings (past ++ e ∷ []) log legal.1))
 
--- all outcomes of a legal log are the ones that the book allows, so of no account is more reserved and debited than was given
+-- all outcomes of a legal log are the ones that the book allows, so of no account is more reserved and debited than was
+-- given
 pub IsLegal-answered : (settings : Settings) (log : List Entry) → IsLegal settings log → IsBookAnswered settings log
 IsLegal-answered settings log legal = all_allowed settings [] log legal
 
-pub IsLegal-never_over : (settings : Settings) (log : List Entry) → IsLegal settings log → NeverOver (book_at settings log)
-IsLegal-never_over settings log legal = never_over_from_answered settings.accounts (booked settings.node.laws log) (IsLegal-answered settings log legal)
+pub IsLegal-never_over : (settings : Settings) (log : List Entry) → IsLegal settings log
+    → NeverOver (book_at settings log)
+IsLegal-never_over settings log legal =
+    never_over_from_answered settings.accounts (booked settings.node.laws log) (IsLegal-answered settings log legal)

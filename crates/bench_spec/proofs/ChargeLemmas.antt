@@ -1,14 +1,15 @@
 -- The logs of two requests on two shards are legal, whole.
-use Rattle.std.proofs.Common.{◌≡◌, ℕ, List, [], ◌∷◌, Some, None, refl, arith}
+use Rattle.std.proofs.Common.{[], Some, None, refl, arith}
 use Rattle.std.specs.Prelude.{take}
 use Rattle.base_codes.specs.DeedCodes.{coded}
 use Rattle.acct_book.specs.Sums.{debited, left_where, own, unpaid}
-use Rattle.acct_totals.specs.declared.op.Outcome.{Outcome}
 use Rattle.acct_totals.specs.declared.op.Outcome.TheVariants.{Refused}
 use Rattle.tab_step.specs.Moves.{scene_of}
 use Rattle.bench_item.specs.declared.source.Source.TheVariants.{Desk, Shard}
 use Rattle.bench_item.specs.declared.step.Step.TheVariants.{Drop, Lift}
-use Rattle.bench_spec.specs.ChargeLog.{ask_law, asked, at, begin, facts_told, initial, log, log_z, loop_law, looped, of_x, of_y, of_z, offered_x, offered_y, offered_z, request, requested, reserve_law, reserved_x, reserved_y, reserving_z, settings, tells, works}
+use Rattle.bench_spec.specs.ChargeLog.{ask_law, asked, at, begin, facts_told, initial, log, log_z, loop_law, looped}
+use Rattle.bench_spec.specs.ChargeLog.{of_x, of_y, of_z, offered_x, offered_y, offered_z, request, requested}
+use Rattle.bench_spec.specs.ChargeLog.{reserve_law, reserved_x, reserved_y, reserving_z, settings, tells, works}
 use Rattle.bench_spec.specs.ExampleLog.{carried}
 use Rattle.bench_spec.specs.Legal.{IsLegal, IsMove, MayFollow}
 use Rattle.bench_spec.proofs.OrderLemmas.{order_by}
@@ -21,7 +22,13 @@ asks_x = record {
   row = refl;
   moves = record {
     state = refl;
-    runs = ((asked 0 of_x).deeds, [], permitted ask_law (scene_of (at 0 0).regs (facts_told of_x)) (at 0 0).regs (asked 0 of_x).deeds refl refl, refl, refl);
+    runs = (
+      (asked 0 of_x).deeds,
+      [],
+      permitted ask_law (scene_of (at 0 0).regs (facts_told of_x)) (at 0 0).regs (asked 0 of_x).deeds refl refl,
+      refl,
+      refl,
+    );
     regs = refl;
   };
 }
@@ -31,7 +38,14 @@ asks_y = record {
   row = refl;
   moves = record {
     state = refl;
-    runs = ((asked 4097 of_y).deeds, [], permitted ask_law (scene_of (at 0 4097).regs (facts_told of_y)) (at 0 4097).regs (asked 4097 of_y).deeds refl refl, refl, refl);
+    runs = (
+      (asked 4097 of_y).deeds,
+      [],
+      permitted ask_law (scene_of (at 0 4097).regs (facts_told of_y)) (at 0 4097).regs (asked 4097 of_y).deeds refl
+          refl,
+      refl,
+      refl,
+    );
     regs = refl;
   };
 }
@@ -41,7 +55,14 @@ asks_z = record {
   row = refl;
   moves = record {
     state = refl;
-    runs = ((asked 4097 of_z).deeds, [], permitted ask_law (scene_of (at 0 4097).regs (facts_told of_z)) (at 0 4097).regs (asked 4097 of_z).deeds refl refl, refl, refl);
+    runs = (
+      (asked 4097 of_z).deeds,
+      [],
+      permitted ask_law (scene_of (at 0 4097).regs (facts_told of_z)) (at 0 4097).regs (asked 4097 of_z).deeds refl
+          refl,
+      refl,
+      refl,
+    );
     regs = refl;
   };
 }
@@ -51,7 +72,13 @@ loops_x = record {
   row = refl;
   moves = record {
     state = refl;
-    runs = ((looped of_x).deeds, [], permitted loop_law (scene_of (at 0 4096).regs (requested of_x)) (at 0 4096).regs (looped of_x).deeds refl refl, refl, refl);
+    runs = (
+      (looped of_x).deeds,
+      [],
+      permitted loop_law (scene_of (at 0 4096).regs (requested of_x)) (at 0 4096).regs (looped of_x).deeds refl refl,
+      refl,
+      refl,
+    );
     regs = refl;
   };
 }
@@ -61,7 +88,13 @@ loops_y = record {
   row = refl;
   moves = record {
     state = refl;
-    runs = ((looped of_y).deeds, [], permitted loop_law (scene_of (at 0 4096).regs (requested of_y)) (at 0 4096).regs (looped of_y).deeds refl refl, refl, refl);
+    runs = (
+      (looped of_y).deeds,
+      [],
+      permitted loop_law (scene_of (at 0 4096).regs (requested of_y)) (at 0 4096).regs (looped of_y).deeds refl refl,
+      refl,
+      refl,
+    );
     regs = refl;
   };
 }
@@ -71,7 +104,13 @@ loops_z = record {
   row = refl;
   moves = record {
     state = refl;
-    runs = ((looped of_z).deeds, [], permitted loop_law (scene_of (at 0 4096).regs (requested of_z)) (at 0 4096).regs (looped of_z).deeds refl refl, refl, refl);
+    runs = (
+      (looped of_z).deeds,
+      [],
+      permitted loop_law (scene_of (at 0 4096).regs (requested of_z)) (at 0 4096).regs (looped of_z).deeds refl refl,
+      refl,
+      refl,
+    );
     regs = refl;
   };
 }
@@ -81,7 +120,13 @@ reserves_x = record {
   row = refl;
   moves = record {
     state = refl;
-    runs = (reserved_x.deeds, [], permitted reserve_law (scene_of (at 0 1).regs offered_x) (at 0 1).regs reserved_x.deeds refl refl, refl, refl);
+    runs = (
+      reserved_x.deeds,
+      [],
+      permitted reserve_law (scene_of (at 0 1).regs offered_x) (at 0 1).regs reserved_x.deeds refl refl,
+      refl,
+      refl,
+    );
     regs = refl;
   };
 }
@@ -91,7 +136,13 @@ reserves_y = record {
   row = refl;
   moves = record {
     state = refl;
-    runs = (reserved_y.deeds, [], permitted reserve_law (scene_of (at 0 4098).regs offered_y) (at 0 4098).regs reserved_y.deeds refl refl, refl, refl);
+    runs = (
+      reserved_y.deeds,
+      [],
+      permitted reserve_law (scene_of (at 0 4098).regs offered_y) (at 0 4098).regs reserved_y.deeds refl refl,
+      refl,
+      refl,
+    );
     regs = refl;
   };
 }
@@ -101,7 +152,14 @@ reserves_z = record {
   row = refl;
   moves = record {
     state = refl;
-    runs = ((reserving_z Refused).deeds, [], permitted reserve_law (scene_of (at 0 4098).regs offered_z) (at 0 4098).regs (reserving_z Refused).deeds refl refl, refl, refl);
+    runs = (
+      (reserving_z Refused).deeds,
+      [],
+      permitted reserve_law (scene_of (at 0 4098).regs offered_z) (at 0 4098).regs (reserving_z Refused).deeds refl
+          refl,
+      refl,
+      refl,
+    );
     regs = refl;
   };
 }
@@ -410,9 +468,91 @@ refused_20 = record {
 }
 
 pub is_legal : IsLegal settings log
-is_legal =
-    (follows_1, (follows_2, (follows_3, (follows_4, (follows_5, (follows_6, (follows_7, (follows_8, (follows_9, (follows_10, (follows_11, (follows_12, (follows_13, (follows_14, (follows_15, (follows_16, (follows_17, (follows_18, (follows_19, (follows_20, tt))))))))))))))))))))
+is_legal = (
+  follows_1,
+  (
+    follows_2,
+    (
+      follows_3,
+      (
+        follows_4,
+        (
+          follows_5,
+          (
+            follows_6,
+            (
+              follows_7,
+              (
+                follows_8,
+                (
+                  follows_9,
+                  (
+                    follows_10,
+                    (
+                      follows_11,
+                      (
+                        follows_12,
+                        (
+                          follows_13,
+                          (
+                            follows_14,
+                            (follows_15, (follows_16, (follows_17, (follows_18, (follows_19, (follows_20, tt)))))),
+                          ),
+                        ),
+                      ),
+                    ),
+                  ),
+                ),
+              ),
+            ),
+          ),
+        ),
+      ),
+    ),
+  ),
+)
 
 pub z_is_legal : IsLegal settings log_z
-z_is_legal =
-    (follows_1, (follows_2, (follows_3, (follows_4, (follows_5, (follows_6, (follows_7, (follows_8, (follows_9, (follows_10, (refused_11, (refused_12, (refused_13, (refused_14, (refused_15, (refused_16, (refused_17, (refused_18, (refused_19, (refused_20, tt))))))))))))))))))))
+z_is_legal = (
+  follows_1,
+  (
+    follows_2,
+    (
+      follows_3,
+      (
+        follows_4,
+        (
+          follows_5,
+          (
+            follows_6,
+            (
+              follows_7,
+              (
+                follows_8,
+                (
+                  follows_9,
+                  (
+                    follows_10,
+                    (
+                      refused_11,
+                      (
+                        refused_12,
+                        (
+                          refused_13,
+                          (
+                            refused_14,
+                            (refused_15, (refused_16, (refused_17, (refused_18, (refused_19, (refused_20, tt)))))),
+                          ),
+                        ),
+                      ),
+                    ),
+                  ),
+                ),
+              ),
+            ),
+          ),
+        ),
+      ),
+    ),
+  ),
+)

@@ -1,3 +1,4 @@
+-- Lemmas on logs, which upper crates cite, and the proofs of the examples.
 pub mod AfterLemmas
 pub mod LegalLemmas
 pub mod BookLemmas

@@ -1,5 +1,6 @@
 -- What an action may leave, by a test on each register.
-use Rattle.std.proofs.Common.{◌≡◌, ◌<◌, ◌≤◌, ℕ, List, [], ◌∷◌, Bool, true, false, Option, Some, None, refl, sym, ◌∙◌, ap, length, get_or, arith}
+use Rattle.std.proofs.Common.{◌≡◌, ◌<◌, ℕ, List, Bool, true, false, Option, Some, None, refl, sym, ◌∙◌, ap, length}
+use Rattle.std.proofs.Common.{get_or, arith}
 use Rattle.std.specs.Prelude.{◌==◌, ◌&&◌, min, nat_le, slice_index}
 use Rattle.std.specs.List.{list_all, range_with_len}
 use Rattle.std.proofs.lemmas.Bool.{eqb-true, false≢true, leb-true}
@@ -23,12 +24,16 @@ may_hold scene (Some (Pick number low high)) old new =
 may_hold scene (Some (Emit code terms)) old new = new == old
 may_hold scene (Some (EmitIf test code terms)) old new = new == old
 
-holds_so : (scene : Scene) (change : Option Change) (old new : ℕ) → may_hold scene change old new ≡ true → Allows scene change old new
+holds_so : (scene : Scene) (change : Option Change) (old new : ℕ) → may_hold scene change old new ≡ true
+    → Allows scene change old new
 holds_so scene None old new h = eqb-true new old h
 holds_so scene (Some (Set number term)) old new h = eqb-true new (term_value scene scene.regs term) h
 holds_so scene (Some (Pick number low high)) old new h =
-    let parts = both_true (nat_le (min (term_value scene scene.regs low) (term_value scene scene.regs high)) new) (nat_le new (term_value scene scene.regs high)) h in
-    (leb-true (min (term_value scene scene.regs low) (term_value scene scene.regs high)) new parts.0, leb-true new (term_value scene scene.regs high) parts.1)
+    let parts = both_true (nat_le (min (term_value scene scene.regs low) (term_value scene scene.regs high)) new)
+    (nat_le new (term_value scene scene.regs high)) h in (
+      leb-true (min (term_value scene scene.regs low) (term_value scene scene.regs high)) new parts.0,
+      leb-true new (term_value scene scene.regs high) parts.1,
+    )
 holds_so scene (Some (Emit code terms)) old new h = eqb-true new old h
 holds_so scene (Some (EmitIf test code terms)) old new h = eqb-true new old h
 
@@ -48,8 +53,12 @@ of_range p count n all below = by (p n) refl
         let within : n < length (range_with_len 0 count) = omega (arith, below, length-range_with_len 0 count) in
         absurd (false≢true (sym (list_all_at p (range_with_len 0 count) n 0 within (ap p at ∙ is)) ∙ all))
 
-pub permitted : (law : List Change) (scene : Scene) (new : List ℕ) (deeds : List Deed) → list_all (is_held law scene new) (range_with_len 0 PLACES) ≡ true → deeds ≡ emitted law scene new → Permits law scene new deeds
+pub permitted : (law : List Change) (scene : Scene) (new : List ℕ) (deeds : List Deed)
+    → list_all (is_held law scene new) (range_with_len 0 PLACES) ≡ true → deeds ≡ emitted law scene new
+    → Permits law scene new deeds
 permitted law scene new deeds all emits = record {
-  registers = λ register within. holds_so scene (last_of register law) (slice_index scene.regs register) (slice_index new register) (of_range (is_held law scene new) PLACES register all within);
+  registers =
+      λ register within. holds_so scene (last_of register law) (slice_index scene.regs register)
+      (slice_index new register) (of_range (is_held law scene new) PLACES register all within);
   emits = emits;
 }

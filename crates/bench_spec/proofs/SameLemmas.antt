@@ -1,5 +1,5 @@
 -- Two books of laws are the same exactly where they are equal.
-use Rattle.std.proofs.Common.{◌≡◌, ℕ, List, [], ◌∷◌, Bool, true, false, refl, sym, ◌∙◌, ap, subst, arith}
+use Rattle.std.proofs.Common.{◌≡◌, ℕ, List, [], ◌∷◌, Bool, true, false, refl, ap, subst, arith}
 use Rattle.std.specs.Prelude.{◌==◌, ◌&&◌}
 use Rattle.std.specs.Bool.{Decides}
 use Rattle.std.specs.Cmp.Lexicographic.{pointwise}
@@ -19,7 +19,8 @@ use Rattle.tab_law.specs.declared.law.Term.{Term}
 use Rattle.tab_law.specs.declared.law.Term.TheVariants.{Just, Sum, Difference, Least}
 use Rattle.tab_law.specs.declared.law.Test.{Test}
 use Rattle.tab_law.specs.declared.law.Test.TheVariants.{Equal, Differing, Below, AtLeast, Among}
-use Rattle.bench_spec.specs.SameLaws.{is_same_atom, is_same_book, is_same_change, is_same_entry, is_same_field, is_same_term, is_same_test}
+use Rattle.bench_spec.specs.SameLaws.{is_same_atom, is_same_book, is_same_change, is_same_entry, is_same_field}
+use Rattle.bench_spec.specs.SameLaws.{is_same_term, is_same_test}
 use Rattle.bench_spec.proofs.RunLemmas.{both_true}
 
 -- a test that is right: what passes is equal, and each thing passes with itself
@@ -36,7 +37,8 @@ number_itself : (n : ℕ) → (n == n) ≡ true
 number_itself n = grind (arith, nat_tests)
 
 -- lists by their elements
-list_sound : {T : Type 0} (is_same : T → T → Bool) → IsSameness is_same → (xs ys : List T) → pointwise is_same xs ys ≡ true → xs ≡ ys
+list_sound : {T : Type 0} (is_same : T → T → Bool) → IsSameness is_same → (xs ys : List T)
+    → pointwise is_same xs ys ≡ true → xs ≡ ys
 list_sound is_same same [] [] h = refl
 list_sound is_same same [] (y ∷ ys) h = absurd (false≢true h)
 list_sound is_same same (x ∷ xs) [] h = absurd (false≢true h)
@@ -44,7 +46,8 @@ list_sound is_same same (x ∷ xs) (y ∷ ys) h =
     let parts = both_true (is_same x y) (pointwise is_same xs ys) h in
     rw (same.sound x y parts.0, list_sound is_same same xs ys parts.1) refl
 
-list_itself : {T : Type 0} (is_same : T → T → Bool) → IsSameness is_same → (xs : List T) → pointwise is_same xs xs ≡ true
+list_itself : {T : Type 0} (is_same : T → T → Bool) → IsSameness is_same → (xs : List T)
+    → pointwise is_same xs xs ≡ true
 list_itself is_same same [] = refl
 list_itself is_same same (x ∷ xs) = rw (same.itself x, list_itself is_same same xs) refl
 
@@ -64,7 +67,8 @@ entries {T} is_same same = record { sound = sound; itself = itself }
     sound : (a b : Named T) → is_same_entry is_same a b ≡ true → a ≡ b
     sound a b h =
         let parts = both_true (bytes_eq a.name b.name) (is_same a.value b.value) h in
-        same_entry a.name b.name a.value b.value ((bytes_eq-Decides a.name b.name).0 parts.0) (same.sound a.value b.value parts.1)
+        same_entry a.name b.name a.value b.value ((bytes_eq-Decides a.name b.name).0 parts.0)
+        (same.sound a.value b.value parts.1)
 
     itself : (a : Named T) → is_same_entry is_same a a ≡ true
     itself a = rw ((bytes_eq-Decides a.name a.name).1 refl, same.itself a.value) refl
@@ -83,7 +87,8 @@ atom_itself (atom.Register a) = number_itself a
 atom_itself (atom.Fact a) = number_itself a
 atom_itself (atom.NewRegister a) = number_itself a
 
-two_atoms : (make : Atom → Atom → Term) (a b c d : Atom) → (is_same_atom a b && is_same_atom c d) ≡ true → make a c ≡ make b d
+two_atoms : (make : Atom → Atom → Term) (a b c d : Atom) → (is_same_atom a b && is_same_atom c d) ≡ true
+    → make a c ≡ make b d
 two_atoms make a b c d h =
     let parts = both_true (is_same_atom a b) (is_same_atom c d) h in
     rw (atom_sound a b parts.0, atom_sound c d parts.1) refl
@@ -114,7 +119,8 @@ field_itself (field.Register a) = number_itself a
 field_itself (field.Fact a) = number_itself a
 
 -- tests
-field_and_atom : (make : Field → Atom → Test) (f g : Field) (a b : Atom) → (is_same_field f g && is_same_atom a b) ≡ true → make f a ≡ make g b
+field_and_atom : (make : Field → Atom → Test) (f g : Field) (a b : Atom)
+    → (is_same_field f g && is_same_atom a b) ≡ true → make f a ≡ make g b
 field_and_atom make f g a b h =
     let parts = both_true (is_same_field f g) (is_same_atom a b) h in
     rw (field_sound f g parts.0, atom_sound a b parts.1) refl
@@ -171,12 +177,15 @@ kinds = record { sound = λ a b h. refl; itself = λ a. refl }
 abbrev laws_of : List (Named (Unit {0})) → List (Named (List Test)) → List (Named (List Change)) → Laws
 laws_of ks gs as_ = record { kinds = ks; guards = gs; acts = as_ }
 
-same_parts : (ks ls : List (Named (Unit {0}))) (gs hs : List (Named (List Test))) (cs ds : List (Named (List Change))) → ks ≡ ls → gs ≡ hs → cs ≡ ds → laws_of ks gs cs ≡ laws_of ls hs ds
+same_parts : (ks ls : List (Named (Unit {0}))) (gs hs : List (Named (List Test))) (cs ds : List (Named (List Change)))
+    → ks ≡ ls → gs ≡ hs → cs ≡ ds → laws_of ks gs cs ≡ laws_of ls hs ds
 same_parts ks ls gs hs cs ds e f g = rw (e, f, g) refl
 
 book_sound : (a b : Laws) → is_same_book a b ≡ true → a ≡ b
 book_sound a b h =
-    let parts = three_true (pointwise (is_same_entry (λ x y. true)) a.kinds b.kinds) (pointwise (is_same_entry (pointwise is_same_test)) a.guards b.guards) (pointwise (is_same_entry (pointwise is_same_change)) a.acts b.acts) h in
+    let parts = three_true (pointwise (is_same_entry (λ x y. true)) a.kinds b.kinds)
+    (pointwise (is_same_entry (pointwise is_same_test)) a.guards b.guards)
+    (pointwise (is_same_entry (pointwise is_same_change)) a.acts b.acts) h in
     same_parts a.kinds b.kinds a.guards b.guards a.acts b.acts
     ((lists _ (entries _ kinds)).sound a.kinds b.kinds parts.0)
     ((lists _ (entries _ (lists _ tests))).sound a.guards b.guards parts.1)
@@ -184,7 +193,11 @@ book_sound a b h =
 
 book_itself : (a : Laws) → is_same_book a a ≡ true
 book_itself a =
-    rw ((lists _ (entries _ kinds)).itself a.kinds, (lists _ (entries _ (lists _ tests))).itself a.guards, (lists _ (entries _ (lists _ changes))).itself a.acts) refl
+    rw (
+      (lists _ (entries _ kinds)).itself a.kinds,
+      (lists _ (entries _ (lists _ tests))).itself a.guards,
+      (lists _ (entries _ (lists _ changes))).itself a.acts,
+    ) refl
 
 pub is_same_book-Decides : (a b : Laws) → Decides (is_same_book a b) (a ≡ b)
 is_same_book-Decides a b = (book_sound a b, λ same. subst (λ (x : Laws). is_same_book a x ≡ true) same (book_itself a))

@@ -1,15 +1,16 @@
 -- The log of a session's timer is legal, whole.
-use Rattle.std.proofs.Common.{◌≡◌, ℕ, List, [], ◌∷◌, Some, None, refl, arith}
+use Rattle.std.proofs.Common.{[], Some, None, refl, arith}
 use Rattle.std.specs.Prelude.{take}
 use Rattle.base_codes.specs.DeedCodes.{coded}
 use Rattle.tab_step.specs.Moves.{scene_of}
 use Rattle.bench_item.specs.Posts.{no_facts}
 use Rattle.bench_item.specs.declared.source.Source.TheVariants.{Clock, Desk, Shard}
-use Rattle.bench_item.specs.declared.step.Step.TheVariants.{Drop, Fired, Lift, Told, Work}
+use Rattle.bench_item.specs.declared.step.Step.TheVariants.{Drop, Fired, Lift, Told}
 use Rattle.bench_item.specs.declared.entry.Handled.TheVariants.{Move, Stale}
 use Rattle.bench_spec.specs.ExampleLog.{carried, regs_with}
 use Rattle.bench_spec.specs.Legal.{IsLegal, IsMove, MayFollow}
-use Rattle.bench_spec.specs.SessionLog.{arm_law, armed_with, arming, ending, event, fired_with, log, session, settings, table, told, works}
+use Rattle.bench_spec.specs.SessionLog.{arm_law, armed_with, arming, ending, event, fired_with, log, session, settings}
+use Rattle.bench_spec.specs.SessionLog.{table, told, works}
 use Rattle.bench_spec.proofs.OrderLemmas.{order_by}
 use Rattle.bench_spec.proofs.PermitLemmas.{permitted}
 use Rattle.bench_spec.proofs.TextLemmas.{octet_is_utf8}
@@ -19,7 +20,13 @@ begins = record {
   row = refl;
   moves = record {
     state = refl;
-    runs = ((arming 0 0 0).deeds, [], permitted arm_law (scene_of (regs_with 0) no_facts) (regs_with 1) (arming 0 0 0).deeds refl refl, refl, refl);
+    runs = (
+      (arming 0 0 0).deeds,
+      [],
+      permitted arm_law (scene_of (regs_with 0) no_facts) (regs_with 1) (arming 0 0 0).deeds refl refl,
+      refl,
+      refl,
+    );
     regs = refl;
   };
 }
@@ -29,7 +36,13 @@ goes_on = record {
   row = refl;
   moves = record {
     state = refl;
-    runs = ((arming 1 1 1).deeds, [], permitted arm_law (scene_of (regs_with 1) no_facts) (regs_with 2) (arming 1 1 1).deeds refl refl, refl, refl);
+    runs = (
+      (arming 1 1 1).deeds,
+      [],
+      permitted arm_law (scene_of (regs_with 1) no_facts) (regs_with 2) (arming 1 1 1).deeds refl refl,
+      refl,
+      refl,
+    );
     regs = refl;
   };
 }
@@ -38,13 +51,21 @@ ends : IsMove settings table ending
 ends = record { row = refl; moves = record { state = refl; runs = refl; regs = refl } }
 
 follows_1 : MayFollow settings [] (carried (Told 0 session (event 0)) None)
-follows_1 = record { could = rw (octet_is_utf8 120 (omega arith)) refl; parts = (refl, refl); order = order_by settings (take 1 log) (tt, tt) }
+follows_1 =
+    record {
+      could = rw (octet_is_utf8 120 (omega arith)) refl;
+      parts = (refl, refl);
+      order =
+          order_by settings (take 1 log) (tt, tt);
+    }
 
 follows_2 : MayFollow settings (take 1 log) (carried (Lift (Desk 0)) (Some (told 0)))
-follows_2 = record { could = refl; parts = (refl, refl); order = order_by settings (take 2 log) (((refl, refl, refl), tt), tt) }
+follows_2 =
+    record { could = refl; parts = (refl, refl); order = order_by settings (take 2 log) (((refl, refl, refl), tt), tt) }
 
 follows_3 : MayFollow settings (take 2 log) (carried (Drop (Desk 0)) (Some (told 0)))
-follows_3 = record { could = refl; parts = (refl, refl); order = order_by settings (take 3 log) (((refl, refl, refl), tt), tt) }
+follows_3 =
+    record { could = refl; parts = (refl, refl); order = order_by settings (take 3 log) (((refl, refl, refl), tt), tt) }
 
 follows_4 : MayFollow settings (take 3 log) (works (told 0) (Move (arming 0 0 0)))
 unfolding coded
@@ -107,7 +128,9 @@ unfolding coded
 follows_11 = record {
   could = refl;
   parts = (refl, refl);
-  order = order_by settings (take 11 log) (((refl, refl, refl), ((refl, refl, refl), ((refl, refl, refl), tt))), (refl, tt));
+  order =
+      order_by settings (take 11 log)
+      (((refl, refl, refl), ((refl, refl, refl), ((refl, refl, refl), tt))), (refl, tt));
 }
 
 follows_12 : MayFollow settings (take 11 log) (carried (Drop Clock) (Some (fired_with 1)))
@@ -115,7 +138,9 @@ unfolding coded
 follows_12 = record {
   could = refl;
   parts = (refl, refl);
-  order = order_by settings (take 12 log) (((refl, refl, refl), ((refl, refl, refl), ((refl, refl, refl), tt))), (refl, tt));
+  order =
+      order_by settings (take 12 log)
+      (((refl, refl, refl), ((refl, refl, refl), ((refl, refl, refl), tt))), (refl, tt));
 }
 
 follows_13 : MayFollow settings (take 12 log) (works (told 1) (Move (arming 1 1 1)))
@@ -123,7 +148,9 @@ unfolding coded
 follows_13 = record {
   could = refl;
   parts = (refl, refl, record { machine = refl; before = refl; event = refl; move = goes_on; outcomes = refl });
-  order = order_by settings (take 13 log) (((refl, refl, refl), ((refl, refl, refl), ((refl, refl, refl), tt))), (refl, tt));
+  order =
+      order_by settings (take 13 log)
+      (((refl, refl, refl), ((refl, refl, refl), ((refl, refl, refl), tt))), (refl, tt));
 }
 
 follows_14 : MayFollow settings (take 13 log) (works (fired_with 1) (Stale 1))
@@ -131,7 +158,9 @@ unfolding coded
 follows_14 = record {
   could = refl;
   parts = (refl, refl, refl);
-  order = order_by settings (take 14 log) (((refl, refl, refl), ((refl, refl, refl), ((refl, refl, refl), tt))), (refl, tt));
+  order =
+      order_by settings (take 14 log)
+      (((refl, refl, refl), ((refl, refl, refl), ((refl, refl, refl), tt))), (refl, tt));
 }
 
 follows_15 : MayFollow settings (take 14 log) (carried (Lift (Shard 0)) (Some (armed_with 2)))
@@ -139,7 +168,9 @@ unfolding coded
 follows_15 = record {
   could = refl;
   parts = (refl, refl);
-  order = order_by settings (take 15 log) (((refl, refl, refl), ((refl, refl, refl), ((refl, refl, refl), tt))), (refl, tt));
+  order =
+      order_by settings (take 15 log)
+      (((refl, refl, refl), ((refl, refl, refl), ((refl, refl, refl), tt))), (refl, tt));
 }
 
 follows_16 : MayFollow settings (take 15 log) (carried (Drop (Shard 0)) (Some (armed_with 2)))
@@ -147,7 +178,9 @@ unfolding coded
 follows_16 = record {
   could = refl;
   parts = (refl, refl);
-  order = order_by settings (take 16 log) (((refl, refl, refl), ((refl, refl, refl), ((refl, refl, refl), tt))), (refl, tt));
+  order =
+      order_by settings (take 16 log)
+      (((refl, refl, refl), ((refl, refl, refl), ((refl, refl, refl), tt))), (refl, tt));
 }
 
 follows_17 : MayFollow settings (take 16 log) (carried (Fired 0 2) (Some (fired_with 2)))
@@ -155,7 +188,9 @@ unfolding coded
 follows_17 = record {
   could = refl;
   parts = (refl, refl);
-  order = order_by settings (take 17 log) (((refl, refl, refl), ((refl, refl, refl), ((refl, refl, refl), tt))), (refl, tt));
+  order =
+      order_by settings (take 17 log)
+      (((refl, refl, refl), ((refl, refl, refl), ((refl, refl, refl), tt))), (refl, tt));
 }
 
 follows_18 : MayFollow settings (take 17 log) (carried (Lift Clock) (Some (fired_with 2)))
@@ -163,7 +198,9 @@ unfolding coded
 follows_18 = record {
   could = refl;
   parts = (refl, refl);
-  order = order_by settings (take 18 log) (((refl, refl, refl), ((refl, refl, refl), ((refl, refl, refl), tt))), (refl, tt));
+  order =
+      order_by settings (take 18 log)
+      (((refl, refl, refl), ((refl, refl, refl), ((refl, refl, refl), tt))), (refl, tt));
 }
 
 follows_19 : MayFollow settings (take 18 log) (carried (Drop Clock) (Some (fired_with 2)))
@@ -171,7 +208,9 @@ unfolding coded
 follows_19 = record {
   could = refl;
   parts = (refl, refl);
-  order = order_by settings (take 19 log) (((refl, refl, refl), ((refl, refl, refl), ((refl, refl, refl), tt))), (refl, tt));
+  order =
+      order_by settings (take 19 log)
+      (((refl, refl, refl), ((refl, refl, refl), ((refl, refl, refl), tt))), (refl, tt));
 }
 
 follows_20 : MayFollow settings (take 19 log) (works (fired_with 2) (Move ending))
@@ -179,9 +218,52 @@ unfolding coded
 follows_20 = record {
   could = refl;
   parts = (refl, refl, record { machine = refl; before = refl; event = refl; move = ends; outcomes = refl });
-  order = order_by settings (take 20 log) (((refl, refl, refl), ((refl, refl, refl), ((refl, refl, refl), tt))), (refl, tt));
+  order =
+      order_by settings (take 20 log)
+      (((refl, refl, refl), ((refl, refl, refl), ((refl, refl, refl), tt))), (refl, tt));
 }
 
 pub is_legal : IsLegal settings log
-is_legal =
-    (follows_1, (follows_2, (follows_3, (follows_4, (follows_5, (follows_6, (follows_7, (follows_8, (follows_9, (follows_10, (follows_11, (follows_12, (follows_13, (follows_14, (follows_15, (follows_16, (follows_17, (follows_18, (follows_19, (follows_20, tt))))))))))))))))))))
+is_legal = (
+  follows_1,
+  (
+    follows_2,
+    (
+      follows_3,
+      (
+        follows_4,
+        (
+          follows_5,
+          (
+            follows_6,
+            (
+              follows_7,
+              (
+                follows_8,
+                (
+                  follows_9,
+                  (
+                    follows_10,
+                    (
+                      follows_11,
+                      (
+                        follows_12,
+                        (
+                          follows_13,
+                          (
+                            follows_14,
+                            (follows_15, (follows_16, (follows_17, (follows_18, (follows_19, (follows_20, tt)))))),
+                          ),
+                        ),
+                      ),
+                    ),
+                  ),
+                ),
+              ),
+            ),
+          ),
+        ),
+      ),
+    ),
+  ),
+)

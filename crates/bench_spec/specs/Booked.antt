@@ -1,5 +1,6 @@
 -- What the entries of a log booked, and what the account book must answer them.
-use Rattle.std.specs.Prelude.{◌==◌, Bool, List, [], ◌∷◌, map, filter, filter_map, flat_map, length, replicate, zip, Option, Some, None, option_map, option_and_then, option_to_list, slice_get}
+use Rattle.std.specs.Prelude.{◌==◌, Bool, List, [], ◌∷◌, map, filter, filter_map, flat_map, length, replicate, zip}
+use Rattle.std.specs.Prelude.{Option, Some, None, option_map, option_and_then, option_to_list, slice_get}
 use Rattle.std.specs.List.{list_any}
 use Rattle.acct_book.specs.Book.{Book, after, outcome_of, quote_of}
 use Rattle.acct_book.specs.Slots.{quotes_of}
@@ -38,7 +39,8 @@ as_server_event laws event =
     option_map (λ kind. record { kind = kind; facts = event.facts })
     (option_and_then (λ entry. place_of entry.name kinds) (slice_get laws.kinds event.kind))
 
--- what an item asks of the account book in a machine: only a server's session asks something (RFC 8506 sections 5 and 6)
+-- what an item asks of the account book in a machine: only a server's session asks something (RFC 8506 sections 5 and
+-- 6)
 abbrev pub want_of : Laws → MachineItem → MachineState → Option Want
 want_of laws item state = by item.key.role
   where
@@ -58,10 +60,13 @@ ops_of (Some want) deeds = filter_map (op_of want) deeds
 -- what a move that an item led to booked: its operations with their outcomes
 abbrev pub booked_by : Laws → MachineItem → Moved → List Booked
 booked_by laws item moved =
-    map (λ p. record { op = p.0; outcome = p.1 }) (zip (ops_of (want_of laws item moved.before) moved.deeds) moved.outcomes)
+    map (λ p. record { op = p.0; outcome = p.1 })
+    (zip (ops_of (want_of laws item moved.before) moved.deeds) moved.outcomes)
 
 abbrev pub booked_in : Laws → Entry → List Booked
-booked_in laws e = flat_map (λ moved. flat_map (λ item. booked_by laws item moved) (flat_map machine_item (option_to_list e.item))) (moved_in e)
+booked_in laws e =
+    flat_map (λ moved. flat_map (λ item. booked_by laws item moved) (flat_map machine_item (option_to_list e.item)))
+    (moved_in e)
 
 -- the journal of the book: all that the log booked
 abbrev pub booked : Laws → List Entry → List Booked
@@ -82,7 +87,8 @@ quotes_for book want = by want.asked
 -- the event as which an item is handled: with the book's quote among its facts, where it asks for one
 abbrev pub event_with_quote : Book → Option Want → Event → Event
 event_with_quote book None event = event
-event_with_quote book (Some want) event = record { kind = event.kind; facts = quoted (quotes_for book want) event.facts }
+event_with_quote book (Some want) event =
+    record { kind = event.kind; facts = quoted (quotes_for book want) event.facts }
 
 -- the outcomes that the book allows to operations, one after the other
 abbrev pub outcomes_of : Book → List Op → List Outcome

@@ -1,7 +1,7 @@
--- A log of twenty entries on two shards: desk 0 tells the client's session `x` Begin, and desk 1 the session `y`. Each sends a request by
--- the peer's machine to a server's session of its name, which reserves units: 60 of account 100, on page 0, without a group; and 30 of
--- account 101, on page 1, for one of several services, of group 2.
-use Rattle.std.specs.Prelude.{ℕ, ◌++◌, List, [], ◌∷◌, Option, Some, None, codes, map, replicate, slice_set}
+-- A log of twenty entries on two shards: desk 0 tells the client's session `x` Begin, and desk 1 the session `y`. Each
+-- sends a request by the peer's machine to a server's session of its name, which reserves units: 60 of account 100, on
+-- page 0, without a group; and 30 of account 101, on page 1, for one of several services, of group 2.
+use Rattle.std.specs.Prelude.{ℕ, ◌++◌, List, [], ◌∷◌, Some, None, codes, map, replicate, slice_set}
 use Rattle.base_codes.specs.DeedCodes.{number_of}
 use Rattle.base_codes.specs.declared.deed_code.DeedCode.TheVariants as deeds
 use Rattle.acct_totals.specs.declared.op.Outcome.{Outcome}
@@ -34,12 +34,13 @@ use Rattle.bench_spec.specs.Settings.{Settings}
 abbrev pub facts_on : List ℕ → List Term
 facts_on places = map (λ place. Just (Fact place)) places
 
--- a request of class 1 and type 1 to the peer's machine, with account, units, and the group and units of a service; the same to the
--- server's session; and reservations of what is wanted, without a group and for that service
+-- a request of class 1 and type 1 to the peer's machine, with account, units, and the group and units of a service; the
+-- same to the server's session; and reservations of what is wanted, without a group and for that service
 abbrev pub ask_law : List Change
 ask_law =
     Emit (number_of deeds.ToPeer)
-    (map (λ n. Just (Constant n)) (4096 ∷ 0 ∷ 0 ∷ 0 ∷ 1 ∷ 1 ∷ 1 ∷ []) ++ facts_on (7 ∷ 8 ∷ 9 ∷ 10 ∷ 11 ∷ 12 ∷ 13 ∷ 14 ∷ 15 ∷ 16 ∷ 17 ∷ 18 ∷ 19 ∷ []))
+    (map (λ n. Just (Constant n)) (4096 ∷ 0 ∷ 0 ∷ 0 ∷ 1 ∷ 1 ∷ 1 ∷ [])
+    ++ facts_on (7 ∷ 8 ∷ 9 ∷ 10 ∷ 11 ∷ 12 ∷ 13 ∷ 14 ∷ 15 ∷ 16 ∷ 17 ∷ 18 ∷ 19 ∷ []))
     ∷ []
 
 abbrev pub loop_law : List Change
@@ -57,7 +58,8 @@ reserve_law =
 abbrev pub laws : Laws
 laws = record {
   kinds =
-      record { name = codes "Begin"; value = tt } ∷ record { name = codes "Send-Message"; value = tt } ∷ record { name = codes "Initial"; value = tt }
+      record { name = codes "Begin"; value = tt } ∷ record { name = codes "Send-Message"; value = tt }
+      ∷ record { name = codes "Initial"; value = tt }
       ∷ [];
   guards = [];
   acts =
@@ -109,7 +111,8 @@ of_y = record { name = codes "y"; account = 101; units = 0; services = 1; group 
 
 -- these as facts: from the desk, and in the request
 abbrev pub from_account : Asks → List ℕ
-from_account a = a.account ∷ 0 ∷ a.units ∷ 0 ∷ 0 ∷ 0 ∷ 0 ∷ 0 ∷ 0 ∷ a.services ∷ a.group ∷ 0 ∷ a.of_group ∷ replicate 44 0
+from_account a =
+    a.account ∷ 0 ∷ a.units ∷ 0 ∷ 0 ∷ 0 ∷ 0 ∷ 0 ∷ 0 ∷ a.services ∷ a.group ∷ 0 ∷ a.of_group ∷ replicate 44 0
 
 abbrev pub facts_told : Asks → List ℕ
 facts_told a = replicate 7 0 ++ from_account a
@@ -117,7 +120,8 @@ facts_told a = replicate 7 0 ++ from_account a
 abbrev pub requested : Asks → List ℕ
 requested a = 4096 ∷ 0 ∷ 0 ∷ 0 ∷ 1 ∷ 1 ∷ 1 ∷ from_account a
 
--- an item for a machine, and the three of a session: Begin for the client, the request for the peer, Initial for the server
+-- an item for a machine, and the three of a session: Begin for the client, the request for the peer, Initial for the
+-- server
 abbrev pub item_for : Key → ℕ → List ℕ → List ℕ → Item
 item_for key kind facts session =
     ToMachine (record { key = key; event = record { kind = kind; facts = facts }; condition = None; session = session })
@@ -162,10 +166,13 @@ abbrev pub offered_y : List ℕ
 offered_y = slice_set (slice_set (slice_set (requested of_y) 12 2001) 21 2001) 22 30
 
 abbrev pub reserved_x : Moved
-reserved_x = moved 1 2 offered_x 1 (record { code = number_of deeds.Reserve; a = 60 ∷ replicate 63 0 } ∷ []) (Done 60 0 ∷ [])
+reserved_x =
+    moved 1 2 offered_x 1 (record { code = number_of deeds.Reserve; a = 60 ∷ replicate 63 0 } ∷ []) (Done 60 0 ∷ [])
 
 abbrev pub reserved_y : Moved
-reserved_y = moved 4098 2 offered_y 1 (record { code = number_of deeds.Reserve; a = 30 ∷ 2 ∷ replicate 62 0 } ∷ []) (Done 30 0 ∷ [])
+reserved_y =
+    moved 4098 2 offered_y 1 (record { code = number_of deeds.Reserve; a = 30 ∷ 2 ∷ replicate 62 0 } ∷ [])
+    (Done 30 0 ∷ [])
 
 abbrev pub works : ℕ → Item → Moved → Entry
 works shard item move = record { step = Work shard; item = Some item; handled = Some (Move move) }

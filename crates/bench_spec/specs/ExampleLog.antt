@@ -1,5 +1,5 @@
 -- A small bench and a log of six entries: a desk tells a peer Start; the peer's machine arms its timer.
-use Rattle.std.specs.Prelude.{ℕ, ◌++◌, false, List, [], ◌∷◌, Option, Some, None, codes, replicate, slice_set}
+use Rattle.std.specs.Prelude.{ℕ, ◌++◌, List, [], ◌∷◌, Option, Some, None, codes, replicate, slice_set}
 use Rattle.base_codes.specs.DeedCodes.{number_of}
 use Rattle.base_codes.specs.declared.deed_code.DeedCode.TheVariants as deeds
 use Rattle.tab_law.specs.Books.{Laws}
@@ -9,7 +9,6 @@ use Rattle.tab_law.specs.declared.law.Term.TheVariants.{Just, Sum}
 use Rattle.tab_law.specs.declared.scene.Deed.{Deed}
 use Rattle.tab_text.specs.Contents.{Contents}
 use Rattle.tab_text.specs.declared.row.Row.{Row}
-use Rattle.acct_totals.specs.declared.op.Outcome.{Outcome}
 use Rattle.bench_item.specs.declared.entry.Entry.{Entry}
 use Rattle.bench_item.specs.declared.entry.Moved.{Moved}
 use Rattle.bench_item.specs.declared.entry.Handled.TheVariants.{Move}
@@ -17,25 +16,27 @@ use Rattle.bench_item.specs.Keys.{key_of}
 use Rattle.bench_item.specs.Posts.{no_facts}
 use Rattle.bench_item.specs.declared.item.Item.{Item}
 use Rattle.bench_item.specs.declared.item.Item.TheVariants.{Arm, ToMachine}
-use Rattle.bench_item.specs.declared.item.MachineItem.{MachineItem}
 use Rattle.bench_item.specs.declared.key.Key.{Key}
-use Rattle.bench_item.specs.declared.key.Role.TheVariants.{Peer, Server}
+use Rattle.bench_item.specs.declared.key.Role.TheVariants.{Peer}
 use Rattle.bench_item.specs.declared.source.Source.TheVariants.{Desk, Shard}
 use Rattle.bench_item.specs.declared.step.Step.{Step}
 use Rattle.bench_item.specs.declared.step.Step.TheVariants.{Drop, Lift, Told, Work}
 use Rattle.bench_spec.specs.Settings.{Settings}
 
--- the kinds Start, Timeout and Initial; one action that arms the timer anew for 30 ticks, and one that reserves 60 units
+-- the kinds Start, Timeout and Initial; one action that arms the timer anew for 30 ticks, and one that reserves 60
+-- units
 abbrev pub laws : Laws
 laws = record {
   kinds =
-      record { name = codes "Start"; value = tt } ∷ record { name = codes "Timeout"; value = tt } ∷ record { name = codes "Initial"; value = tt } ∷ [];
+      record { name = codes "Start"; value = tt } ∷ record { name = codes "Timeout"; value = tt }
+      ∷ record { name = codes "Initial"; value = tt } ∷ [];
   guards = [];
   acts =
       record {
         name = codes "Arm";
         value =
-            Set 15 (Sum (Register 15) (Constant 1)) ∷ Emit (number_of deeds.Arm) (Just (NewRegister 15) ∷ Just (Constant 30) ∷ []) ∷ [];
+            Set 15 (Sum (Register 15) (Constant 1))
+            ∷ Emit (number_of deeds.Arm) (Just (NewRegister 15) ∷ Just (Constant 30) ∷ []) ∷ [];
       }
       ∷ record { name = codes "Reserve"; value = Emit (number_of deeds.Reserve) (Just (Constant 60) ∷ []) ∷ [] }
       ∷ [];
@@ -89,7 +90,8 @@ abbrev pub peer_a : Key
 peer_a = key_of Peer (codes "a")
 
 abbrev pub told : Item
-told = ToMachine (record { key = peer_a; event = record { kind = 0; facts = no_facts }; condition = None; session = [] })
+told =
+    ToMachine (record { key = peer_a; event = record { kind = 0; facts = no_facts }; condition = None; session = [] })
 
 abbrev pub armed_with : ℕ → Item
 armed_with generation = Arm 0 generation 30

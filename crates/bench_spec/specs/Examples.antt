@@ -1,5 +1,7 @@
--- What the small log says, computed; and logs that differ in one value and are wrong. A wrong definition doesn't pass these lines.
-use Rattle.std.specs.Prelude.{◌≡◌, ◌≢◌, ℕ, ◌==◌, ◌++◌, ◌&&◌, Bool, true, false, List, [], ◌∷◌, Option, Some, None, map, slice_index, take, refl, option_map}
+-- What the small log says, computed; and logs that differ in one value and are wrong. A wrong definition doesn't pass
+-- these lines.
+use Rattle.std.specs.Prelude.{◌≡◌, ◌≢◌, ℕ, ◌==◌, ◌++◌, ◌&&◌, Bool, true, false, List, [], ◌∷◌, Option, Some, None, map}
+use Rattle.std.specs.Prelude.{slice_index, take, refl, option_map}
 use Rattle.std.proofs.Common.{ap, sym}
 use Rattle.std.proofs.Math.Nat.{le-suc}
 use Rattle.std.proofs.lemmas.Bool.{false≢true}
@@ -27,9 +29,10 @@ use Rattle.bench_item.specs.declared.step.StepFault.TheVariants.{Nothing, Paused
 use Rattle.bench_spec.specs.ChargeLog as charge
 use Rattle.bench_spec.specs.SessionLog as session
 use Rattle.bench_spec.specs.Booked.{book_at, event_with_quote, outcomes_for, want_of}
-use Rattle.bench_spec.specs.ExampleLog.{after_work, armed_with, before_work, carried, laws, log, move_by, peer_a, peer_table, regs_with, settings, told, worked_by}
+use Rattle.bench_spec.specs.ExampleLog.{after_work, armed_with, before_work, carried, laws, log, move_by, peer_a}
+use Rattle.bench_spec.specs.ExampleLog.{peer_table, regs_with, settings, told, worked_by}
 use Rattle.bench_spec.specs.Items.{IsCarried, IsFront, armed, dropped, hand, inbox, lifted, outbox, posts}
-use Rattle.bench_spec.specs.Legal.{BecomesOf, IsMove, MayFollow, is_met}
+use Rattle.bench_spec.specs.Legal.{IsMove, MayFollow, is_met}
 use Rattle.bench_spec.specs.Machines.{directory, state_of}
 use Rattle.bench_spec.specs.Refusal.{refusal}
 
@@ -148,7 +151,8 @@ pub dropped_twice : refusal settings log [] (Drop (Shard 0)) ≡ Some Nothing
 dropped_twice = refl
 
 -- the row: the first of two that match
-pub row_of_start : option_map (λ numbered. numbered.0) (row_taken peer_table laws (move_by 0 30).before (move_by 0 30).event) ≡ Some 0
+pub row_of_start : option_map (λ numbered. numbered.0)
+    (row_taken peer_table laws (move_by 0 30).before (move_by 0 30).event) ≡ Some 0
 row_of_start = refl
 
 -- the move that names the second one is none
@@ -226,11 +230,13 @@ pub no_other_item : MayFollow settings after_work (carried (Lift (Shard 0)) (Som
 no_other_item follows = other_item (follows.order.sources (Shard 0)).lifted_front
 
 -- or of that one, where the deed armed for 31 ticks,
-pub no_other_post : MayFollow settings (before_work ++ worked_by 31 ∷ []) (carried (Lift (Shard 0)) (Some (armed_with 1))) → ⊥
+pub no_other_post : MayFollow settings (before_work ++ worked_by 31 ∷ [])
+    (carried (Lift (Shard 0)) (Some (armed_with 1))) → ⊥
 no_other_post follows = other_post (follows.order.sources (Shard 0)).lifted_front
 
 -- a move by the second of two rows that match,
-pub no_second_row : MayFollow settings before_work (record { step = Work 0; item = Some told; handled = Some (Move (move_by 1 30)) }) → ⊥
+pub no_second_row : MayFollow settings before_work
+    (record { step = Work 0; item = Some told; handled = Some (Move (move_by 1 30)) }) → ⊥
 no_second_row follows = second_row follows.parts.2.move
 
 -- a timer that fires with a generation with which it isn't armed,
@@ -238,19 +244,29 @@ pub no_other_generation : MayFollow settings log (carried (Fired 0 2) (Some (ToM
 no_other_generation follows = false≢true (ap is_taken follows.could)
 
 -- a move of the session's machine for a timer that fires late, where another firing of its timer would move it so,
-pub no_late_move : MayFollow session.settings (take 13 session.log) (session.works (session.fired_with 1) (Move session.ending)) → ⊥
+pub no_late_move : MayFollow session.settings (take 13 session.log)
+    (session.works (session.fired_with 1) (Move session.ending)) → ⊥
 no_late_move follows = false≢true follows.parts.1
 
 -- or a Reserve of 60 units that is done where 40 are left
-pub no_second_reserve : MayFollow charge.settings charge.before_z (charge.works 1 (charge.initial charge.of_z) (charge.reserving_z (Done 60 0))) → ⊥
+pub no_second_reserve : MayFollow charge.settings charge.before_z
+    (charge.works 1 (charge.initial charge.of_z) (charge.reserving_z (Done 60 0))) → ⊥
 no_second_reserve follows = reserved_again (sym follows.parts.2.outcomes)
 
 -- several services of an account that is not there: each slot is answered 5030, and so is the request
 abbrev unknown_want : Want
-unknown_want = record { account = 7; session = 1; asked = Several (Some (record { group = 2; used = 0; want = 60 }) ∷ Some (record { group = 3; used = 5; want = 0 }) ∷ None ∷ None ∷ []) }
+unknown_want = record {
+  account = 7;
+  session = 1;
+  asked =
+      Several
+      (Some (record { group = 2; used = 0; want = 60 }) ∷ Some (record { group = 3; used = 5; want = 0 })
+      ∷ None ∷ None ∷ []);
+}
 
 abbrev unknown_facts : List ℕ
-unknown_facts = (event_with_quote (book_at settings []) (Some unknown_want) (record { kind = 0; facts = no_facts })).facts
+unknown_facts =
+    (event_with_quote (book_at settings []) (Some unknown_want) (record { kind = 0; facts = no_facts })).facts
 
 pub unknown_request : slice_index unknown_facts 12 ≡ 5030
 unknown_request = refl

@@ -1,5 +1,7 @@
--- The items of a log: what each source put out, what was lifted and dropped, what came to each shard and was handled there.
-use Rattle.std.specs.Prelude.{◌≡◌, ℕ, ◌+◌, ◌≤◌, ◌==◌, Bool, true, false, List, [], ◌∷◌, ◌++◌, drop, length, filter, flat_map, Option, Some, None, option_to_list, unwrap_or, codes, if◌then◌else◌}
+-- The items of a log: what each source put out, what was lifted and dropped, what came to each shard and was handled
+-- there.
+use Rattle.std.specs.Prelude.{◌≡◌, ℕ, ◌+◌, ◌≤◌, ◌==◌, Bool, true, false, List, [], ◌∷◌, ◌++◌, drop, length, filter}
+use Rattle.std.specs.Prelude.{flat_map, Option, Some, None, option_to_list, unwrap_or, codes, if◌then◌else◌}
 use Rattle.std.specs.List.{last_or}
 use Rattle.base_codes.specs.declared.session_register.TheConstants.{TIMER}
 use Rattle.tab_step.specs.declared.machine.Event.{Event}
@@ -50,7 +52,9 @@ handled_posts node (Stale state) item = []
 handled_posts node (Move moved) item = flat_map (posts_of node (doer_of item moved)) moved.deeds
 
 abbrev pub work_posts : Node → Entry → List Item
-work_posts node e = flat_map (λ handled. flat_map (handled_posts node handled) (flat_map machine_item (option_to_list e.item))) (option_to_list e.handled)
+work_posts node e =
+    flat_map (λ handled. flat_map (handled_posts node handled) (flat_map machine_item (option_to_list e.item)))
+    (option_to_list e.handled)
 
 -- what an entry has the desk put out
 abbrev pub desk_posts : ℕ → Step → List Item
@@ -91,10 +95,13 @@ dropped log source = flat_map (λ e. if is_drop_from source e.step then option_t
 -- what came to a shard, and what it handled
 abbrev pub arrived : Node → List Entry → ℕ → List MachineItem
 arrived node log shard =
-    flat_map (λ e. if is_drop e.step then filter (is_for node shard) (flat_map machine_item (option_to_list e.item)) else []) log
+    flat_map
+    (λ e. if is_drop e.step then filter (is_for node shard) (flat_map machine_item (option_to_list e.item)) else [])
+    log
 
 abbrev pub worked : List Entry → ℕ → List MachineItem
-worked log shard = flat_map (λ e. if is_work shard e.step then flat_map machine_item (option_to_list e.item) else []) log
+worked log shard =
+    flat_map (λ e. if is_work shard e.step then flat_map machine_item (option_to_list e.item) else []) log
 
 -- what was put out and not lifted, what was lifted and not dropped, what came to a shard and was not handled
 abbrev pub outbox : Settings → List Entry → Source → List Item

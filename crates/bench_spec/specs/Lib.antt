@@ -1,3 +1,4 @@
+-- What the running bench means; README.md says what each file has.
 pub mod Settings
 pub mod Rules
 pub mod SameLaws

@@ -20,10 +20,15 @@ use Rattle.bench_item.specs.declared.opening.Opening.TheVariants.{Accepted, Dial
 
 -- a Close for a line
 abbrev close : ℕ → Item
-close line = ToLine (record { line = line; deed = record { code = number_of Close; a = 0 ∷ line ∷ replicate 62 0 }; session = [] })
+close line =
+    ToLine (record {
+      line = line;
+      deed = record { code = number_of Close; a = 0 ∷ line ∷ replicate 62 0 };
+      session = [];
+    })
 
--- a Close for line 2, which isn't there yet; line 1 is accepted, line 2 dialled with generation 3 and acknowledged; line 1 is closed; a dial
--- that is no line's is given up
+-- a Close for line 2, which isn't there yet; line 1 is accepted, line 2 dialled with generation 3 and acknowledged;
+-- line 1 is closed; a dial that is no line's is given up
 abbrev lines : List Entry
 lines =
     carried (steps.Drop (Shard 0)) (Some (close 2))

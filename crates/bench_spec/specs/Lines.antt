@@ -1,5 +1,6 @@
 -- The lines of a log: which were opened, what happened to each, and where it stands.
-use Rattle.std.specs.Prelude.{ℕ, ◌-◌, ◌==◌, List, [], ◌∷◌, length, flat_map, Option, None, option_map, option_to_list, slice_get, if◌then◌else◌}
+use Rattle.std.specs.Prelude.{ℕ, ◌-◌, ◌==◌, List, [], ◌∷◌, length, flat_map, Option, None, option_map, option_to_list}
+use Rattle.std.specs.Prelude.{slice_get, if◌then◌else◌}
 use Rattle.std.specs.Option.{option_map_or}
 use Rattle.bench_item.specs.declared.entry.Entry.{Entry}
 use Rattle.bench_item.specs.declared.item.Item.{Item}
@@ -37,7 +38,8 @@ opening_of log line = if line == 0 then None else slice_get (openings log) (line
 -- the entries behind the one that opens a line
 abbrev pub since_opening : ℕ → List Entry → List Entry
 since_opening line [] = []
-since_opening line (e ∷ log) = if line == length (opened_in e) then log else since_opening (line - length (opened_in e)) log
+since_opening line (e ∷ log) =
+    if line == length (opened_in e) then log else since_opening (line - length (opened_in e)) log
 
 -- what a dropped item is to a line
 abbrev pub step_by : ℕ → Item → List LineStep

@@ -1,24 +1,26 @@
--- What the logs of sessions say, computed: own events, staleness, timers, totals, numbers, looks, and where breakpoints are met.
-use Rattle.std.specs.Prelude.{◌≡◌, ℕ, true, false, List, [], ◌∷◌, ◌++◌, length, map, Some, None, codes, take, refl}
+-- What the logs of sessions say, computed: own events, staleness, timers, totals, numbers, looks, and where breakpoints
+-- are met.
+use Rattle.std.specs.Prelude.{◌≡◌, true, false, List, [], ◌∷◌, length, map, Some, None, codes, take, refl}
 use Rattle.base_codes.specs.DeedCodes.{coded}
 use Rattle.acct_book.specs.Sums.{debited, left_where, own, unpaid}
 use Rattle.bench_item.specs.declared.entry.Handled.TheVariants.{Move, Stale}
 use Rattle.bench_item.specs.declared.key.Role.TheVariants.{Client, Peer, Server}
-use Rattle.bench_item.specs.declared.source.Source.TheVariants.{Clock, Desk, Shard}
+use Rattle.bench_item.specs.declared.source.Source.TheVariants.{Clock}
 use Rattle.bench_item.specs.declared.step.Step.{Step}
 use Rattle.bench_item.specs.declared.step.Step.TheVariants.{Drop}
 use Rattle.bench_item.specs.Keys.{key_of}
 use Rattle.bench_spec.specs.ExampleLog.{carried}
 use Rattle.bench_spec.specs.ChargeLog as charge
 use Rattle.bench_spec.specs.SessionLog as session
-use Rattle.bench_spec.specs.Items.{armed, hand, inbox, outbox}
-use Rattle.bench_spec.specs.Machines.{directory, moves_of, number_of, state_of}
+use Rattle.bench_spec.specs.Items.{armed, hand, inbox}
+use Rattle.bench_spec.specs.Machines.{directory, number_of}
 use Rattle.bench_spec.specs.Own.{own_events}
 use Rattle.bench_spec.specs.Played.{play}
 use Rattle.bench_spec.specs.World.{AtKind, AtMachine, AtRow, AtState, first_met, meets, names_of, world_at, world_of}
 
 -- the session's own events are Begin, More and the second Tx: the first was stale
-pub own_of_session : own_events session.settings session.log session.session ≡ session.event 0 ∷ session.event 1 ∷ session.event 2 ∷ []
+pub own_of_session : own_events session.settings session.log session.session
+    ≡ session.event 0 ∷ session.event 1 ∷ session.event 2 ∷ []
 own_of_session = refl
 
 -- a server's session has its event with what the book offered
@@ -53,7 +55,8 @@ clock_11 = refl
 pub shard_0 : directory charge.settings.node 0 charge.log ≡ key_of Client (codes "x") ∷ key_of Server (codes "x") ∷ []
 shard_0 = refl
 
-pub shard_1 : directory charge.settings.node 1 charge.log ≡ key_of Peer (codes "a") ∷ key_of Client (codes "y") ∷ key_of Server (codes "y") ∷ []
+pub shard_1 : directory charge.settings.node 1 charge.log
+    ≡ key_of Peer (codes "a") ∷ key_of Client (codes "y") ∷ key_of Server (codes "y") ∷ []
 shard_1 = refl
 
 pub number_of_y : number_of charge.settings.node charge.log (key_of Server (codes "y")) ≡ Some 4098
@@ -63,36 +66,44 @@ pub named_machines : map (λ m. m.1) (names_of charge.settings charge.log).machi
 named_machines = refl
 
 -- totals: at the end, and where the second request was refused
-pub totals_100 : (world_of charge.settings charge.log).totals_at 100 ≡ Some (record { given = 100; reserved = 60; debited = 0; unpaid = 0 })
+pub totals_100 : (world_of charge.settings charge.log).totals_at 100
+    ≡ Some (record { given = 100; reserved = 60; debited = 0; unpaid = 0 })
 unfolding coded own left_where debited unpaid
 totals_100 = refl
 
-pub totals_101 : (world_of charge.settings charge.log).totals_at 101 ≡ Some (record { given = 100; reserved = 30; debited = 0; unpaid = 0 })
+pub totals_101 : (world_of charge.settings charge.log).totals_at 101
+    ≡ Some (record { given = 100; reserved = 30; debited = 0; unpaid = 0 })
 unfolding coded own left_where debited unpaid
 totals_101 = refl
 
-pub totals_before : (world_at charge.settings charge.log 9).totals_at 100 ≡ Some (record { given = 100; reserved = 0; debited = 0; unpaid = 0 })
+pub totals_before : (world_at charge.settings charge.log 9).totals_at 100
+    ≡ Some (record { given = 100; reserved = 0; debited = 0; unpaid = 0 })
 unfolding coded own left_where debited unpaid
 totals_before = refl
 
-pub totals_refused : (world_of charge.settings charge.log_z).totals_at 100 ≡ Some (record { given = 100; reserved = 60; debited = 0; unpaid = 0 })
+pub totals_refused : (world_of charge.settings charge.log_z).totals_at 100
+    ≡ Some (record { given = 100; reserved = 60; debited = 0; unpaid = 0 })
 unfolding coded own left_where debited unpaid
 totals_refused = refl
 
--- breakpoints at a move: its row and its role, the state in which it leaves its machine, its kind, its machine; and others
+-- breakpoints at a move: its row and its role, the state in which it leaves its machine, its kind, its machine; and
+-- others
 pub at_row : meets (charge.works 0 (charge.begin charge.of_x) (charge.asked 0 charge.of_x)) (AtRow Client 0) ≡ true
 at_row = refl
 
-pub at_other_row : meets (charge.works 0 (charge.begin charge.of_x) (charge.asked 0 charge.of_x)) (AtRow Client 1) ≡ false
+pub at_other_row : meets (charge.works 0 (charge.begin charge.of_x) (charge.asked 0 charge.of_x)) (AtRow Client 1)
+    ≡ false
 at_other_row = refl
 
-pub at_other_role : meets (charge.works 0 (charge.begin charge.of_x) (charge.asked 0 charge.of_x)) (AtRow Server 0) ≡ false
+pub at_other_role : meets (charge.works 0 (charge.begin charge.of_x) (charge.asked 0 charge.of_x)) (AtRow Server 0)
+    ≡ false
 at_other_role = refl
 
 pub at_state : meets (session.works (session.told 0) (Move (session.arming 0 0 0))) (AtState session.session 1) ≡ true
 at_state = refl
 
-pub at_other_state : meets (session.works (session.told 0) (Move (session.arming 0 0 0))) (AtState session.session 0) ≡ false
+pub at_other_state : meets (session.works (session.told 0) (Move (session.arming 0 0 0))) (AtState session.session 0)
+    ≡ false
 at_other_state = refl
 
 -- a stale entry meets a kind and a machine, and neither a state nor a row
@@ -105,7 +116,8 @@ stale_other_kind = refl
 pub stale_machine : meets (session.works (session.fired_with 1) (Stale 1)) (AtMachine session.session) ≡ true
 stale_machine = refl
 
-pub stale_other_machine : meets (session.works (session.fired_with 1) (Stale 1)) (AtMachine (key_of Server (codes "x"))) ≡ false
+pub stale_other_machine : meets (session.works (session.fired_with 1) (Stale 1)) (AtMachine (key_of Server (codes "x")))
+    ≡ false
 stale_other_machine = refl
 
 pub stale_state : meets (session.works (session.fired_with 1) (Stale 1)) (AtState session.session 1) ≡ false
@@ -118,7 +130,8 @@ stale_row = refl
 pub carried_kind : meets (carried (Drop Clock) (Some (session.fired_with 1))) (AtKind 2) ≡ false
 carried_kind = refl
 
-pub least_met : first_met ((7, AtKind 2) ∷ (5, AtKind 1) ∷ (3, AtMachine session.session) ∷ (4, AtKind 2) ∷ []) (session.works (session.fired_with 1) (Stale 1)) ≡ Some 3
+pub least_met : first_met ((7, AtKind 2) ∷ (5, AtKind 1) ∷ (3, AtMachine session.session) ∷ (4, AtKind 2) ∷ [])
+    (session.works (session.fired_with 1) (Stale 1)) ≡ Some 3
 least_met = refl
 
 pub none_met : first_met ((7, AtKind 0) ∷ []) (session.works (session.fired_with 1) (Stale 1)) ≡ None

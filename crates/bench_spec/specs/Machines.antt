@@ -1,11 +1,12 @@
 -- The machines of a log: which are there, their numbers, their moves, and where each stands.
-use Rattle.std.specs.Prelude.{ℕ, ◌==◌, Bool, true, false, List, [], ◌∷◌, ◌++◌, map, filter, flat_map, position, Option, Some, None, option_map, option_to_list, slice_get, slice_index, slice_set, if◌then◌else◌}
+use Rattle.std.specs.Prelude.{ℕ, ◌==◌, Bool, true, false, List, [], ◌∷◌, ◌++◌, map, filter, flat_map, position, Option}
+use Rattle.std.specs.Prelude.{Some, None, option_map, option_to_list, slice_get, slice_index, slice_set, if◌then◌else◌}
 use Rattle.base_codes.specs.declared.session_register.TheConstants.{MACHINE}
 use Rattle.tab_step.specs.declared.machine.MachineState.{MachineState}
 use Rattle.bench_item.specs.declared.entry.Entry.{Entry}
 use Rattle.bench_item.specs.declared.entry.Handled.{Handled}
 use Rattle.bench_item.specs.declared.entry.Moved.{Moved}
-use Rattle.bench_item.specs.declared.entry.Handled.TheVariants.{TooBusy, Move}
+use Rattle.bench_item.specs.declared.entry.Handled.TheVariants.{TooBusy}
 use Rattle.std.specs.List.{position_or_len}
 use Rattle.bench_item.specs.Entries.{moved_in}
 use Rattle.bench_item.specs.Keys.{Node, home, is_same_key, key_of, number_at, peers_in, place_of, shard_of}
@@ -50,9 +51,11 @@ is_for node shard item = home node.shards item.key.name == shard
 abbrev pub keys_in : Node → ℕ → Entry → List Key
 keys_in node shard e = map (λ item. item.key) (filter (is_for node shard) (taken_in e))
 
--- the machines of a shard: its configured peers in their order, and then those whose items were handled, by the first of these
+-- the machines of a shard: its configured peers in their order, and then those whose items were handled, by the first
+-- of these
 abbrev pub directory : Node → ℕ → List Entry → List Key
-directory node shard log = distinct is_same_key (map (key_of Peer) (peers_in node shard) ++ flat_map (keys_in node shard) log)
+directory node shard log =
+    distinct is_same_key (map (key_of Peer) (peers_in node shard) ++ flat_map (keys_in node shard) log)
 
 -- the place of a machine in its shard's directory, if it is there
 abbrev pub place_in : Node → List Entry → Key → Option ℕ
@@ -65,7 +68,8 @@ number_of node log key = option_map (number_at (home node.shards key.name)) (pla
 -- the number that a machine has, or gets where it is the next: the first place of its key, or the one behind all
 abbrev pub number_for : Node → List Entry → Key → ℕ
 number_for node log key =
-    number_at (home node.shards key.name) (position_or_len (λ k. is_same_key k key) (directory node (home node.shards key.name) log))
+    number_at (home node.shards key.name)
+    (position_or_len (λ k. is_same_key k key) (directory node (home node.shards key.name) log))
 
 -- the machine of a number, if there is one
 abbrev pub key_numbered : Node → List Entry → ℕ → Option Key
@@ -73,7 +77,9 @@ key_numbered node log number = slice_get (directory node (shard_of number) log) 
 
 -- the moves of a machine: those that items with its key led to
 abbrev pub moves_in : Key → Entry → List Moved
-moves_in key e = flat_map (λ item. if is_same_key key item.key then moved_in e else []) (flat_map machine_item (option_to_list e.item))
+moves_in key e =
+    flat_map (λ item. if is_same_key key item.key then moved_in e else [])
+    (flat_map machine_item (option_to_list e.item))
 
 abbrev pub moves_of : List Entry → Key → List Moved
 moves_of log key = flat_map (moves_in key) log

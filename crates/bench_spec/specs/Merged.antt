@@ -1,5 +1,7 @@
 -- Parts that were kept side by side, merged to one log by their stamps.
-use Rattle.std.specs.Prelude.{◌≡◌, ◌≢◌, ◌≤◌, ◌+◌, ℕ, ◌==◌, ◌%◌, nat_lt, Bool, true, false, List, [], ◌∷◌, ◌++◌, slice_index_or, map, filter, flat_map, length, unwrap_or, Option, Some, None, option_to_list, All, AllPairs}
+use Rattle.std.specs.Prelude.{◌≡◌, ◌≢◌, ◌≤◌, ◌+◌, ℕ, ◌==◌, ◌%◌, nat_lt, Bool, true, false, List, [], ◌∷◌, ◌++◌}
+use Rattle.std.specs.Prelude.{slice_index_or, map, filter, flat_map, length, unwrap_or, Option, Some, None}
+use Rattle.std.specs.Prelude.{option_to_list, All, AllPairs}
 use Rattle.std.specs.List.{zip}
 use Rattle.std.specs.List.Sorted.{IsStrictlyIncreasing}
 use Rattle.acct_totals.specs.Amounts.{account_of}
@@ -28,8 +30,8 @@ pub record Stamped : Type 0 where
   pub stamp : ℕ
   pub entry : Entry
 
--- what a desk was told of a machine, when it looked: where it stands, and how many of the desk's items wait in the machine's shard and
--- were handled there
+-- what a desk was told of a machine, when it looked: where it stands, and how many of the desk's items wait in the
+-- machine's shard and were handled there
 pub record Look : Type 0 where
   pub stamp : ℕ
   pub key : Key
@@ -110,8 +112,8 @@ abbrev pub looks_kept : Kept → List Look
 looks_kept (Did stamped) = []
 looks_kept (Saw look) = look ∷ []
 
--- the parts of a bench that ran in threads: what each shard, the lines, the clock and each desk kept, the list of the steps that were
--- fed, and the journal of each page
+-- the parts of a bench that ran in threads: what each shard, the lines, the clock and each desk kept, the list of the
+-- steps that were fed, and the journal of each page
 pub record Parts : Type 0 where
   pub shards : ℕ → List Stamped
   pub lines : List Stamped
@@ -152,7 +154,8 @@ abbrev pub arrivals_in : Node → ℕ → Entry → List (Source × MachineItem)
 arrivals_in node shard e = by e.step
   where
     by : Step → List (Source × MachineItem)
-    by (Drop source) = map (λ item. (source, item)) (filter (is_for node shard) (flat_map machine_item (option_to_list e.item)))
+    by (Drop source) =
+        map (λ item. (source, item)) (filter (is_for node shard) (flat_map machine_item (option_to_list e.item)))
     by step = []
 
 -- what came to a shard, in order, each item with who dropped it
@@ -164,10 +167,11 @@ abbrev pub handled_of : Node → List Entry → ℕ → ℕ → List MachineItem
 handled_of node log shard desk =
     map (λ p. p.0) (filter (λ p. is_same_source (Desk desk) p.1.0) (zip (worked log shard) (arrivals node log shard)))
 
--- a look is right after these entries of the shard's part and these of its desk's: all that the desk had told the shard was dropped there;
--- so many of these items were worked, and the rest waits; and the machine stood so
+-- a look is right after these entries of the shard's part and these of its desk's: all that the desk had told the shard
+-- was dropped there; so many of these items were worked, and the rest waits; and the machine stood so
 pub record IsRight (settings : Settings) (desk shard : ℕ) (of_shard of_desk : List Entry) (look : Look) : Type 0 where
-  pub told : dropped of_shard (Desk desk) ≡ filter (is_item_for settings.node shard) (posts settings of_desk (Desk desk))
+  pub told : dropped of_shard (Desk desk)
+      ≡ filter (is_item_for settings.node shard) (posts settings of_desk (Desk desk))
   pub handled : look.handled ≡ length (handled_of settings.node of_shard shard desk)
   pub waiting : look.waiting + look.handled ≡ length (dropped of_shard (Desk desk))
   pub state : look.stands ≡ unwrap_or (state_of settings.node of_shard look.key) not_there
@@ -188,19 +192,22 @@ pub record AreTells (desk : ℕ) (entries : List Entry) : Type 0 where
   pub told : List (Key × Event)
   pub steps : map (λ e. e.step) entries ≡ flat_map (λ t. Told desk t.0 t.1 ∷ Lift (Desk desk) ∷ []) told
 
--- the log is the entries of all parts, each in just one, in the order of their stamps, which differ and rise along each part
+-- the log is the entries of all parts, each in just one, in the order of their stamps, which differ and rise along each
+-- part
 pub record IsMerged (settings : Settings) (parts : Parts) (log : List Entry) : Type 0 where
   pub stamped : List Stamped
   pub entries : map (λ s. s.entry) stamped ≡ log
   pub rising : IsStrictlyIncreasing (map (λ s. s.stamp) stamped)
-  pub each_part : (part : Part) → filter (λ s. is_same_part part (part_of settings.node.shards s.entry)) stamped ≡ entries_of parts part
+  pub each_part : (part : Part)
+      → filter (λ s. is_same_part part (part_of settings.node.shards s.entry)) stamped ≡ entries_of parts part
   -- the stamps of looks are others, and what a desk kept rises too
   pub others : AllPairs (λ one other. one ≢ other) (map (λ s. s.stamp) stamped ++ look_stamps parts)
   pub desks_rising : (desk : ℕ) → IsStrictlyIncreasing (map stamp_of (desk_kept parts desk))
   -- what was fed is in it once, in its order
   pub fed : filter is_fed (map (λ e. e.step) log) ≡ parts.fed
   -- each page has what was booked on its accounts
-  pub pages : (page : ℕ) → filter (λ b. account_of b.op % settings.pages == page) (booked settings.node.laws log) ≡ parts.journal page
+  pub pages : (page : ℕ)
+      → filter (λ b. account_of b.op % settings.pages == page) (booked settings.node.laws log) ≡ parts.journal page
   -- only desks that there are kept anything: each Told with its Lift, and nothing that one told is still on its way
   pub few_desks : length parts.desks ≤ settings.desks
   pub desks_tell : (desk : ℕ) → AreTells desk (map (λ s. s.entry) (entries_of parts (OfDesk desk)))

@@ -1,5 +1,5 @@
--- Parts of two shards and two desks, and the log as which they are merged: the one of two requests. Each desk looked once at the session
--- that it had told: the first when its item was handled, the second while it waited.
+-- Parts of two shards and two desks, and the log as which they are merged: the one of two requests. Each desk looked
+-- once at the session that it had told: the first when its item was handled, the second while it waited.
 use Rattle.std.specs.Prelude.{ℕ, ◌+◌, ◌%◌, ◌==◌, List, [], ◌∷◌, Some, None, filter, map}
 use Rattle.std.specs.List.{enumerate_from}
 use Rattle.acct_totals.specs.Amounts.{account_of}
@@ -11,7 +11,7 @@ use Rattle.bench_item.specs.Keys.{key_of}
 use Rattle.bench_spec.specs.Booked.{booked}
 use Rattle.bench_spec.specs.ChargeLog.{at, begin, log, of_x, of_y, settings, tells}
 use Rattle.bench_spec.specs.ExampleLog.{carried}
-use Rattle.bench_spec.specs.Merged.{Did, Kept, Look, OfShard, Part, Parts, Saw, Stamped, is_same_part, not_there, part_of}
+use Rattle.bench_spec.specs.Merged.{Did, Kept, Look, OfShard, Parts, Saw, Stamped, is_same_part, not_there, part_of}
 
 -- the entries with stamps that rise by 2
 abbrev pub stamped : List Stamped

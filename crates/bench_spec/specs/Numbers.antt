@@ -17,7 +17,8 @@ moves_number number e = list_any (λ moved. moved.machine == number) (moved_in e
 abbrev pub moves_key : Key → Entry → Bool
 moves_key key e = not (length (moves_in key e) == 0)
 
--- in a legal log both are the same entries: of a machine that is there, by its number, where the peers have room in their shards
+-- in a legal log both are the same entries: of a machine that is there, by its number, where the peers have room in
+-- their shards
 abbrev pub NumbersAgree : Type 0
 NumbersAgree =
     (settings : Settings) (log : List Entry) (key : Key) (number : ℕ)

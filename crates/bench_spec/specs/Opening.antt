@@ -1,5 +1,6 @@
 -- What a bench is opened with as it is handed in, and why it is not opened.
-use Rattle.std.specs.Prelude.{ℕ, ◌==◌, ◌%◌, ◌&&◌, ◌||◌, not, nat_le, nat_lt, Bool, true, false, List, [], ◌∷◌, ◌++◌, map, filter, find, flat_map, length, is_some, option_map, slice_index_or, unwrap_or, Option}
+use Rattle.std.specs.Prelude.{ℕ, ◌==◌, ◌%◌, ◌&&◌, ◌||◌, not, nat_le, nat_lt, Bool, true, List, [], ◌∷◌, ◌++◌, map}
+use Rattle.std.specs.Prelude.{filter, find, flat_map, length, is_some, option_map, slice_index_or, unwrap_or, Option}
 use Rattle.std.specs.List.{list_all, list_any}
 use Rattle.acct_book.specs.Book.{Opened, refusal_of}
 use Rattle.client_rules.specs.Kinds as client
@@ -18,10 +19,9 @@ use Rattle.bench_spec.specs.Settings.{Settings}
 use Rattle.bench_spec.specs.declared.opening.OpeningError.{OpeningError}
 use Rattle.bench_spec.specs.declared.opening.OpeningError.TheVariants as errors
 
-
--- what a bench is opened with, as it is handed in: who it is, its peers and accounts, how many shards, pages and desks, the octets that
--- a request for units without an amount asks for, the definitions that its dictionary has besides those of the standard, the table of
--- each role, and the laws of each registry
+-- what a bench is opened with, as it is handed in: who it is, its peers and accounts, how many shards, pages and desks,
+-- the octets that a request for units without an amount asks for, the definitions that its dictionary has besides those
+-- of the standard, the table of each role, and the laws of each registry
 pub record Config : Type 0 where
   pub identity : Identity
   pub peers : List (List ℕ)
@@ -79,7 +79,8 @@ is_repeated past host = list_any (is_same_host host) past
 
 abbrev pub has_bad_names : Config → Bool
 has_bad_names config =
-    not (list_all is_name (config.identity.host ∷ config.identity.realm ∷ config.peers)) || any_after is_repeated [] config.peers
+    not (list_all is_name (config.identity.host ∷ config.identity.realm ∷ config.peers))
+    || any_after is_repeated [] config.peers
 
 -- the kinds of events of all roles
 abbrev pub role_kinds : List (List ℕ)
@@ -99,7 +100,9 @@ unbound config = flat_map (missing (laws_of config)) (config.peer ∷ config.cli
 abbrev pub is_bad_account : ℕ → List Opened → Opened → Bool
 is_bad_account pages past account =
     (account.id == 0)
-    || is_some (refusal_of (record { accounts = filter (λ other. other.id % pages == account.id % pages) past; journal = [] }) account.id account.given)
+    || is_some (refusal_of
+    (record { accounts = filter (λ other. other.id % pages == account.id % pages) past; journal = [] }) account.id
+    account.given)
 
 -- what stands in the way of an opening, each thing with its error, in the order in which they are told
 abbrev pub opening_reasons : Config → List (Bool × OpeningError)

@@ -1,5 +1,6 @@
--- Openings with known answers: one that is taken, one that is refused for each reason, and which of several reasons is told.
-use Rattle.std.specs.Prelude.{◌≡◌, ℕ, ◌++◌, ◌+◌, ◌^◌, List, [], ◌∷◌, codes, replicate, Some, None, refl}
+-- Openings with known answers: one that is taken, one that is refused for each reason, and which of several reasons is
+-- told.
+use Rattle.std.specs.Prelude.{◌≡◌, ◌++◌, ◌+◌, ◌^◌, [], ◌∷◌, codes, replicate, Some, None, refl}
 use Rattle.client_rules.specs.Kinds as client
 use Rattle.peer_rules.specs.Kinds as peer
 use Rattle.server_rules.specs.Kinds as server
@@ -70,11 +71,13 @@ longest_name = refl
 pub no_ascii : opening_refusal (record good { peers = (99 ∷ 128 ∷ []) ∷ [] }) ≡ Some Names
 no_ascii = refl
 
-pub peer_twice : opening_refusal (record good { peers = codes "c.example" ∷ codes "d.example" ∷ codes "C.Example" ∷ [] }) ≡ Some Names
+pub peer_twice : opening_refusal
+    (record good { peers = codes "c.example" ∷ codes "d.example" ∷ codes "C.Example" ∷ [] }) ≡ Some Names
 peer_twice = refl
 
 -- laws: registries that differ in one action, and ones that lack kinds
-pub other_laws : opening_refusal (record good { registries = whole_laws ∷ record whole_laws { acts = [] } ∷ [] }) ≡ Some Lawless
+pub other_laws : opening_refusal (record good { registries = whole_laws ∷ record whole_laws { acts = [] } ∷ [] })
+    ≡ Some Lawless
 other_laws = refl
 
 pub few_kinds : opening_refusal (record good { registries = laws ∷ laws ∷ [] }) ≡ Some Lawless
@@ -91,7 +94,11 @@ unbound_name = refl
 pub no_number : opening_refusal (record good { accounts = record { id = 0; given = 1 } ∷ [] }) ≡ Some Account
 no_number = refl
 
-pub account_twice : opening_refusal (record good { accounts = record { id = 1; given = 1 } ∷ record { id = 2; given = 1 } ∷ record { id = 1; given = 2 } ∷ [] }) ≡ Some Account
+pub account_twice : opening_refusal
+    (record good {
+      accounts =
+          record { id = 1; given = 1 } ∷ record { id = 2; given = 1 } ∷ record { id = 1; given = 2 } ∷ [];
+    }) ≡ Some Account
 account_twice = refl
 
 pub much_given : opening_refusal (record good { accounts = record { id = 1; given = 2 ^ 62 + 1 } ∷ [] }) ≡ Some Account
@@ -101,5 +108,7 @@ pub most_given : opening_refusal (record good { accounts = record { id = 1; give
 most_given = refl
 
 -- the first of several reasons is told
-pub first_reason : opening_refusal (record good { peers = [] ∷ []; accounts = record { id = 0; given = 1 } ∷ []; registries = laws ∷ laws ∷ [] }) ≡ Some Names
+pub first_reason : opening_refusal
+    (record good { peers = [] ∷ []; accounts = record { id = 0; given = 1 } ∷ []; registries = laws ∷ laws ∷ [] })
+    ≡ Some Names
 first_reason = refl

@@ -17,8 +17,8 @@ use Rattle.bench_spec.specs.Settings.{Settings, table_of}
 abbrev pub before_works : ℕ → List Entry → List (List Entry)
 before_works shard log = flat_map_after (λ past e. if is_work shard e.step then past ∷ [] else []) [] log
 
--- the items that came to a shard, as far as they were handled, each with what stood before its work: the first that came has the
--- first work
+-- the items that came to a shard, as far as they were handled, each with what stood before its work: the first that
+-- came has the first work
 abbrev pub arrived_and_worked : Node → List Entry → ℕ → List (MachineItem × List Entry)
 arrived_and_worked node log shard = zip (arrived node log shard) (before_works shard log)
 

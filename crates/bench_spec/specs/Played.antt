@@ -1,6 +1,7 @@
--- A log played from a list of steps: each step with the entry that it makes where every action picks the greatest number that its law
--- allows. Examples are made so: a plain program, which looks at the whole log at each step.
-use Rattle.std.specs.Prelude.{ℕ, ◌++◌, List, [], ◌∷◌, filter_map, flat_map, map, Option, None, Some, option_map, option_to_list, slice_get, slice_index, if◌then◌else◌}
+-- A log played from a list of steps: each step with the entry that it makes where every action picks the greatest
+-- number that its law allows. Examples are made so: a plain program, which looks at the whole log at each step.
+use Rattle.std.specs.Prelude.{ℕ, ◌++◌, List, [], ◌∷◌, filter_map, flat_map, map, Option, None, Some, option_map}
+use Rattle.std.specs.Prelude.{option_to_list, slice_get, slice_index, if◌then◌else◌}
 use Rattle.std.specs.List.{range_with_len}
 use Rattle.std.specs.Option.{option_map_or}
 use Rattle.base_list.specs.Named.{entry_of}
@@ -37,7 +38,8 @@ highest_regs law scene = map (λ n. highest scene (last_of n law) (slice_index s
 -- the laws of a row's actions, in order
 abbrev pub laws_of_row : Laws → Contents → Row → List (List Change)
 laws_of_row laws table row =
-    filter_map (λ action. option_map (λ entry. entry.value) (entry_of (name_at table.actions action) laws.acts)) row.actions
+    filter_map (λ action. option_map (λ entry. entry.value) (entry_of (name_at table.actions action) laws.acts))
+    row.actions
 
 -- the registers after each action
 abbrev pub chain_of : List ℕ → List ℕ → List (List Change) → List (List ℕ)
@@ -95,7 +97,8 @@ move_from settings past item state event =
 abbrev pub move_of : Settings → List Entry → MachineItem → Moved
 move_of settings past item =
     move_from settings past item (state_at settings.node past item.key)
-    (event_with_quote (book_at settings past) (want_of settings.node.laws item (state_at settings.node past item.key)) item.event)
+    (event_with_quote (book_at settings past) (want_of settings.node.laws item (state_at settings.node past item.key))
+    item.event)
 
 -- what becomes of an item that is handled
 abbrev pub handled_as : Settings → List Entry → MachineItem → Handled
@@ -115,10 +118,13 @@ entry_from settings past step carried worked = record {
 abbrev pub entry_by : Settings → List Entry → Step → Entry
 entry_by settings past (Fired machine generation) =
     entry_from settings past (Fired machine generation)
-    (slice_get (flat_map (firing settings.node generation) (option_to_list (key_numbered settings.node past machine))) 0) None
-entry_by settings past (Lift source) = entry_from settings past (Lift source) (slice_get (outbox settings past source) 0) None
+    (slice_get (flat_map (firing settings.node generation) (option_to_list (key_numbered settings.node past machine)))
+    0) None
+entry_by settings past (Lift source) =
+    entry_from settings past (Lift source) (slice_get (outbox settings past source) 0) None
 entry_by settings past (Drop source) = entry_from settings past (Drop source) (slice_get (hand past source) 0) None
-entry_by settings past (Work shard) = entry_from settings past (Work shard) None (slice_get (inbox settings.node past shard) 0)
+entry_by settings past (Work shard) =
+    entry_from settings past (Work shard) None (slice_get (inbox settings.node past shard) 0)
 entry_by settings past step = entry_from settings past step None None
 
 -- the log of a list of steps

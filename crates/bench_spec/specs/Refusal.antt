@@ -1,5 +1,6 @@
 -- Which steps are refused, and why.
-use Rattle.std.specs.Prelude.{ℕ, ◌+◌, ◌==◌, ◌&&◌, ◌||◌, not, nat_le, nat_lt, Bool, true, false, List, [], ◌∷◌, find, length, unwrap_or, slice_get, Option, Some, option_map, codes}
+use Rattle.std.specs.Prelude.{ℕ, ◌+◌, ◌==◌, ◌&&◌, ◌||◌, not, nat_le, nat_lt, Bool, true, false, List, [], ◌∷◌, find}
+use Rattle.std.specs.Prelude.{length, unwrap_or, slice_get, Option, Some, option_map, codes}
 use Rattle.std.specs.List.{list_any}
 use Rattle.std.specs.Option.{option_map_or}
 use Rattle.std.specs.Str.{bytes_eq, is_utf8}
@@ -54,13 +55,14 @@ is_paused paused shard = unwrap_or (slice_get paused shard) false
 abbrev pub is_one_of : Settings → ℕ → List (List ℕ) → Bool
 is_one_of settings kind names = list_any (is_kind_of settings.node.laws kind) names
 
--- whether a desk may tell a machine an event: Start and Stop a configured peer; Begin, More, End and One a client's session, whose
--- name has 1 to 255 octets of UTF-8
+-- whether a desk may tell a machine an event: Start and Stop a configured peer; Begin, More, End and One a client's
+-- session, whose name has 1 to 255 octets of UTF-8
 abbrev pub may_tell : Settings → Key → ℕ → Bool
 may_tell settings key kind = by key.role
   where
     by : Role → Bool
-    by Peer = list_any (bytes_eq key.name) settings.node.peers && is_one_of settings kind (codes "Start" ∷ codes "Stop" ∷ [])
+    by Peer =
+        list_any (bytes_eq key.name) settings.node.peers && is_one_of settings kind (codes "Start" ∷ codes "Stop" ∷ [])
     by Client =
         nat_lt 0 (length key.name) && nat_le (length key.name) 255 && is_utf8 key.name
         && is_one_of settings kind (codes "Begin" ∷ codes "More" ∷ codes "End" ∷ codes "One" ∷ [])
@@ -86,7 +88,8 @@ has_all_lines log = nat_le MAX_LINES (length (openings log))
 
 -- whether there is no room where the item in a hand is for
 abbrev pub has_no_room : Settings → List Entry → List Item → Bool
-has_no_room settings log (ToMachine item ∷ items) = is_crowded (inbox settings.node log (home settings.node.shards item.key.name))
+has_no_room settings log (ToMachine item ∷ items) =
+    is_crowded (inbox settings.node log (home settings.node.shards item.key.name))
 has_no_room settings log (Dial peer generation ∷ items) = has_all_lines log
 has_no_room settings log items = false
 
@@ -171,4 +174,5 @@ reasons settings paused log (Work shard) = work_reasons settings paused log shar
 
 -- why a step is refused, memory aside: the first of the reasons that holds; none where it may be taken
 abbrev pub refusal : Settings → List Entry → List Bool → Step → Option StepFault
-refusal settings log paused step = option_map (λ reason. reason.1) (find (λ reason. reason.0) (reasons settings paused log step))
+refusal settings log paused step =
+    option_map (λ reason. reason.1) (find (λ reason. reason.0) (reasons settings paused log step))

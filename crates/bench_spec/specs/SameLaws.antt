@@ -1,5 +1,6 @@
--- Whether two books of laws are the same; a law of this crate (`same_laws`) says that it is so exactly where they are equal.
-use Rattle.std.specs.Prelude.{◌≡◌, ℕ, ◌==◌, ◌&&◌, Bool, true, false, List}
+-- Whether two books of laws are the same; a law of this crate (`same_laws`) says that it is so exactly where they are
+-- equal.
+use Rattle.std.specs.Prelude.{◌≡◌, ◌==◌, ◌&&◌, Bool, true, false}
 use Rattle.std.specs.Bool.{Decides}
 use Rattle.std.specs.Cmp.Lexicographic.{pointwise}
 use Rattle.std.specs.Str.{bytes_eq}

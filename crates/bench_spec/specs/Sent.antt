@@ -11,5 +11,6 @@ use Rattle.line_message.specs.Sent.{message_octets}
 -- all that a line has sent
 abbrev pub sent : Settings → List Entry → ℕ → List ℕ
 sent settings log line =
-    option_map_or (λ opening. sent_of (rules_at settings line) (message_octets settings.identity) opening (line_steps log line))
+    option_map_or (λ opening. sent_of (rules_at settings line) (message_octets settings.identity) opening
+    (line_steps log line))
     (opening_of log line) []

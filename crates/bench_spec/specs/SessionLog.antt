@@ -1,6 +1,6 @@
--- A log of twenty entries: a desk tells a client's session Begin and More, each of which arms its timer. The timer fires twice: the
--- first firing comes late and is stale, the second ends the session.
-use Rattle.std.specs.Prelude.{ℕ, ◌+◌, List, [], ◌∷◌, Option, Some, None, codes, replicate, slice_set}
+-- A log of twenty entries: a desk tells a client's session Begin and More, each of which arms its timer. The timer
+-- fires twice: the first firing comes late and is stale, the second ends the session.
+use Rattle.std.specs.Prelude.{ℕ, ◌+◌, List, [], ◌∷◌, Some, None, codes, replicate}
 use Rattle.base_codes.specs.DeedCodes.{number_of}
 use Rattle.base_codes.specs.declared.deed_code.DeedCode.TheVariants as deeds
 use Rattle.tab_law.specs.Books.{Laws}
@@ -29,11 +29,15 @@ use Rattle.bench_spec.specs.Settings.{Settings}
 
 -- an action that arms the timer anew for 30 ticks
 abbrev pub arm_law : List Change
-arm_law = Set 15 (Sum (Register 15) (Constant 1)) ∷ Emit (number_of deeds.Arm) (Just (NewRegister 15) ∷ Just (Constant 30) ∷ []) ∷ []
+arm_law =
+    Set 15 (Sum (Register 15) (Constant 1))
+    ∷ Emit (number_of deeds.Arm) (Just (NewRegister 15) ∷ Just (Constant 30) ∷ []) ∷ []
 
 abbrev pub laws : Laws
 laws = record {
-  kinds = record { name = codes "Begin"; value = tt } ∷ record { name = codes "More"; value = tt } ∷ record { name = codes "Tx"; value = tt } ∷ [];
+  kinds =
+      record { name = codes "Begin"; value = tt } ∷ record { name = codes "More"; value = tt }
+      ∷ record { name = codes "Tx"; value = tt } ∷ [];
   guards = [];
   acts = record { name = codes "Arm"; value = arm_law } ∷ [];
 }
@@ -85,7 +89,12 @@ armed_with generation = Arm 0 generation 30
 
 abbrev pub fired_with : ℕ → Item
 fired_with generation =
-    ToMachine (record { key = session; event = event 2; condition = Some (record { register = 15; value = generation }); session = [] })
+    ToMachine (record {
+      key = session;
+      event = event 2;
+      condition = Some (record { register = 15; value = generation });
+      session = [];
+    })
 
 -- where the session stands, by its state and the generation of its timer
 abbrev pub at : ℕ → ℕ → MachineState

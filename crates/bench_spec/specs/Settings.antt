@@ -8,9 +8,9 @@ use Rattle.bench_item.specs.Keys.{Node}
 use Rattle.bench_item.specs.declared.key.Role.{Role}
 use Rattle.bench_item.specs.declared.key.Role.TheVariants.{Peer, Client, Server}
 
--- what a bench is opened with: its laws, peers and shards, the table of each role, who it is, the definitions that its dictionary has
--- besides those of the standard, the octets that a request for units without an amount asks for, its accounts, and how many pages of
--- the account book and how many desks there are
+-- what a bench is opened with: its laws, peers and shards, the table of each role, who it is, the definitions that its
+-- dictionary has besides those of the standard, the octets that a request for units without an amount asks for, its
+-- accounts, and how many pages of the account book and how many desks there are
 pub record Settings : Type 0 where
   pub node : Node
   pub peer : Contents

@@ -1,5 +1,6 @@
 -- What the calls of a world promise: the clauses that their contracts cite.
-use Rattle.std.specs.Prelude.{◌≡◌, ℕ, Bool, false, List, [], ◌∷◌, ◌++◌, length, replicate, None, unwrap_or, Result, Ok, Err}
+use Rattle.std.specs.Prelude.{◌≡◌, ℕ, Bool, false, List, [], ◌∷◌, ◌++◌, length, replicate, None, unwrap_or, Result, Ok}
+use Rattle.std.specs.Prelude.{Err}
 use Rattle.bench_item.specs.declared.entry.Entry.{Entry}
 use Rattle.bench_item.specs.declared.step.Step.{Step}
 use Rattle.bench_item.specs.declared.step.StepFault.{StepFault}
@@ -9,7 +10,8 @@ use Rattle.bench_spec.specs.Refusal.{refusal}
 use Rattle.bench_spec.specs.Settings.{Settings}
 use Rattle.bench_spec.specs.World.{Shown, world_of}
 
--- what a world is to a contract: what it was opened with, its log, and which shards are paused; all else is what the log says
+-- what a world is to a contract: what it was opened with, its log, and which shards are paused; all else is what the
+-- log says
 pub record Run : Type 0 where
   pub settings : Settings
   pub log : List Entry
@@ -46,7 +48,8 @@ TakesAll old new (step ∷ steps) = (mid : Run) × Takes old mid step × TakesAl
 abbrev pub Runs : Run → Run → List Step → Result (Unit {0}) (ℕ × StepFault) → Type 0
 Runs old new steps (Ok done) = TakesAll old new steps
 Runs old new steps (Err refused) =
-    (before : List Step) × (step : Step) × (rest : List Step) × (steps ≡ before ++ step ∷ rest) × (length before ≡ refused.0)
+    (before : List Step) × (step : Step) × (rest : List Step) × (steps ≡ before ++ step ∷ rest)
+    × (length before ≡ refused.0)
     × TakesAll old new before × (refused.1 ≡ fault_of new step)
 
 -- an entry was added as it is: it may follow the others
@@ -71,4 +74,5 @@ StepThenBack =
 -- and so is an entry that was replayed and then back
 abbrev pub ReplayThenBack : Type 0
 ReplayThenBack =
-    (old mid new : Run) (entry : Entry) → Replays old mid entry → GoesBackTo mid new → (new ≡ old) × (shown new ≡ shown old)
+    (old mid new : Run) (entry : Entry) → Replays old mid entry → GoesBackTo mid new
+    → (new ≡ old) × (shown new ≡ shown old)

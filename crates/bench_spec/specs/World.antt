@@ -1,5 +1,6 @@
 -- The bench at a place of its log, and where a breakpoint is met.
-use Rattle.std.specs.Prelude.{ℕ, min, ◌==◌, ◌&&◌, ◌||◌, Bool, false, List, [], ◌∷◌, map, filter, flat_map, take, Option, None, Some, option_to_list}
+use Rattle.std.specs.Prelude.{ℕ, min, ◌==◌, ◌&&◌, ◌||◌, Bool, false, List, [], ◌∷◌, map, filter, flat_map, take, Option}
+use Rattle.std.specs.Prelude.{None, Some, option_to_list}
 use Rattle.std.specs.List.{enumerate_from, list_any, range_with_len}
 use Rattle.std.specs.Option.{option_map_or}
 use Rattle.acct_book.specs.Book.{totals_of}
@@ -24,9 +25,9 @@ use Rattle.bench_spec.specs.Machines.{directory, machine_item, state_of}
 use Rattle.bench_spec.specs.Sent.{sent}
 use Rattle.bench_spec.specs.Settings.{Settings, table_of}
 
--- all that a bench shows: its entries; of each shard the machines in order of number, and what waits; of each machine where it stands
--- and the generation of its timer, by number; of each source what it put out and what is on its way; of each line where it stands and
--- what it sent; of each account the totals
+-- all that a bench shows: its entries; of each shard the machines in order of number, and what waits; of each machine
+-- where it stands and the generation of its timer, by number; of each source what it put out and what is on its way; of
+-- each line where it stands and what it sent; of each account the totals
 pub record Shown : Type 0 where
   pub entries : List Entry
   pub machines : ℕ → List Key
@@ -58,7 +59,8 @@ world_of settings log = record {
 abbrev pub world_at : Settings → List Entry → ℕ → Shown
 world_at settings log place = world_of settings (take place log)
 
--- where a run is to stop: at a row of a role's table, where a machine comes to stand in a state, at a kind of events, at a machine
+-- where a run is to stop: at a row of a role's table, where a machine comes to stand in a state, at a kind of events,
+-- at a machine
 pub data Breakpoint : Type 0 where
   AtRow : Role → ℕ → Breakpoint
   AtState : Key → ℕ → Breakpoint
@@ -101,10 +103,11 @@ first_met set e = least (map (λ b. b.0) (filter (λ b. meets e b.1) set))
 
 -- the machines of all shards, each with its number, shard after shard
 abbrev pub machines_in : Node → List Entry → ℕ → List (Key × ℕ)
-machines_in node log shard = map (λ placed. (placed.1, number_at shard placed.0)) (enumerate_from 0 (directory node shard log))
+machines_in node log shard =
+    map (λ placed. (placed.1, number_at shard placed.0)) (enumerate_from 0 (directory node shard log))
 
--- the names that a bench shows: those of the kinds of events and of the states of each role's table, by their places, and the keys of
--- the machines with their numbers
+-- the names that a bench shows: those of the kinds of events and of the states of each role's table, by their places,
+-- and the keys of the machines with their numbers
 pub record Names : Type 0 where
   pub kinds : List (List ℕ)
   pub states : Role → List (List ℕ)

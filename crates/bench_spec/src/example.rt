@@ -11,18 +11,20 @@ pub fn example_is_legal()
     ensures { IsLegal example.settings example.log }
 {}
 
-/// A log of twenty entries is legal: a session's timer fires twice, late and stale the first time, and ends the session the second time.
+/// A log of twenty entries is legal: a session's timer fires twice, late and stale the first time, and ends the session
+/// the second time.
 pub fn session_log_is_legal()
     ensures { IsLegal session.settings session.log }
 {}
 
-/// A log of twenty entries on two shards, two pages and two desks is legal: two sessions reserve units, the second for one of several
-/// services.
+/// A log of twenty entries on two shards, two pages and two desks is legal: two sessions reserve units, the second for
+/// one of several services.
 pub fn charge_log_is_legal()
     ensures { IsLegal charge.settings charge.log }
 {}
 
-/// The same where the second session asks for 60 units of the account of which 60 are reserved and 40 are left: it is refused.
+/// The same where the second session asks for 60 units of the account of which 60 are reserved and 40 are left: it is
+/// refused.
 pub fn refused_log_is_legal()
     ensures { IsLegal charge.settings charge.log_z }
 {}

@@ -1,5 +1,6 @@
 //! Laws of legal logs, over all settings and logs.
-ghost use Rattle.bench_spec.specs.Legal.{BookIsAnswered, EachIsRun, FrontsAreLegal, GoesBack, GoesOn, NoneIsOver, PauseOnlyRefuses};
+ghost use Rattle.bench_spec.specs.Legal.{BookIsAnswered, EachIsRun, FrontsAreLegal, GoesBack, GoesOn, NoneIsOver};
+ghost use Rattle.bench_spec.specs.Legal.{PauseOnlyRefuses};
 ghost use Rattle.bench_spec.specs.Numbers.{NumbersAgree};
 ghost use Rattle.bench_spec.specs.Own.{EachIsOwnRun};
 ghost use Rattle.bench_spec.specs.SameLaws.{SameLaws};
@@ -30,16 +31,16 @@ pub fn legal_never_over()
     ensures { NoneIsOver }
 {}
 
-/// In a legal log the moves of each machine are a run of the table of its role, from state 0 with all registers 0 but its number:
-/// each begins where the one before ended, and is a move by the first row that takes its event (RFC 6733 section 5.6, RFC 8506
-/// section 7).
+/// In a legal log the moves of each machine are a run of the table of its role, from state 0 with all registers 0 but
+/// its number: each begins where the one before ended, and is a move by the first row that takes its event (RFC 6733
+/// section 5.6, RFC 8506 section 7).
 pub fn legal_is_run()
     ensures { EachIsRun }
 {}
 
-/// In a legal log, for every machine: the events of its moves are its own, those of the items that came to its shard as far as they were
-/// handled, for it and neither busy nor stale, each with what the account book says to it, in order; and its moves are a run of the
-/// table of its role, from its start.
+/// In a legal log, for every machine: the events of its moves are its own, those of the items that came to its shard as
+/// far as they were handled, for it and neither busy nor stale, each with what the account book says to it, in order;
+/// and its moves are a run of the table of its role, from its start.
 pub fn legal_is_own_run()
     ensures { EachIsOwnRun }
 {}
@@ -59,7 +60,8 @@ pub fn replay_then_back()
     ensures { ReplayThenBack }
 {}
 
-/// The test by which the registries of a bench are compared finds two books of laws the same exactly where they are equal.
+/// The test by which the registries of a bench are compared finds two books of laws the same exactly where they are
+/// equal.
 pub fn same_laws()
     ensures { SameLaws }
 {}

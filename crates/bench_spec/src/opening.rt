@@ -5,7 +5,8 @@ use base_list::Octets;
 /// Why a bench is not opened. Where several hold, the first in this order is told.
 #[derive(Drop)]
 pub enum OpeningError {
-    /// No shard or no page, or more shards, pages, desks or peers than there may be; or not one registry for each shard.
+    /// No shard or no page, or more shards, pages, desks or peers than there may be; or not one registry for each
+    /// shard.
     Limits,
     /// A host or the realm is empty, over 255 octets or not ASCII, or a peer is there twice.
     Names,

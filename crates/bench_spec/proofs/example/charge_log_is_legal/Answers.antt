@@ -1,3 +1,4 @@
+-- The example follows from the lemma that is cited.
 use Rattle.bench_spec.proofs.ChargeLemmas.{is_legal}
 use Rattle.bench_spec.proofs.example.charge_log_is_legal.Goals as goal
 

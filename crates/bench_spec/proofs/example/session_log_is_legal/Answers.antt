@@ -1,3 +1,4 @@
+-- The example follows from the lemma that is cited.
 use Rattle.bench_spec.proofs.SessionLemmas.{is_legal}
 use Rattle.bench_spec.proofs.example.session_log_is_legal.Goals as goal
 

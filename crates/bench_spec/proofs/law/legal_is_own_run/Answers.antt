@@ -1,3 +1,4 @@
+-- The law follows from the lemma that is cited.
 use Rattle.bench_spec.proofs.OwnLemmas.{IsLegal-own}
 use Rattle.bench_spec.proofs.law.legal_is_own_run.Goals as goal
 

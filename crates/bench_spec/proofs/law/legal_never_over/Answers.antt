@@ -1,3 +1,4 @@
+-- The law follows from the lemma that is cited.
 use Rattle.bench_spec.proofs.BookLemmas.{IsLegal-never_over}
 use Rattle.bench_spec.proofs.law.legal_never_over.Goals as goal
 

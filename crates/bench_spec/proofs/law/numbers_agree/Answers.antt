@@ -1,3 +1,4 @@
+-- The law follows from the lemma that is cited.
 use Rattle.bench_spec.proofs.NumberLemmas.{IsLegal-numbers}
 use Rattle.bench_spec.proofs.law.numbers_agree.Goals as goal
 

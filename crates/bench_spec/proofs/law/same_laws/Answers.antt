@@ -1,3 +1,4 @@
+-- The law follows from the lemma that is cited.
 use Rattle.bench_spec.proofs.SameLemmas.{is_same_book-Decides}
 use Rattle.bench_spec.proofs.law.same_laws.Goals as goal
 

@@ -1,3 +1,4 @@
+-- The law follows from the lemma that is cited.
 use Rattle.bench_spec.proofs.BackLemmas.{back_from_step}
 use Rattle.bench_spec.proofs.law.step_then_back.Goals as goal
 
