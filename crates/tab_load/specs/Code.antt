@@ -1,4 +1,4 @@
-use Rattle.std.specs.Prelude.{◌≡◌, ℕ, ◌+◌, ◌-◌, ◌*◌, ◌<◌, ◌≤◌, ◌==◌, ◌||◌, ◌&&◌, not, nat_lt, nat_le, Bool, true, false, List, [], ◌∷◌, ◌++◌, All, Option, Some, None, length, take, drop, replicate, option_map, is_some, map, ◌⊎◌, if◌then◌else◌}
+use Rattle.std.specs.Prelude.{◌≡◌, ℕ, ◌+◌, ◌-◌, ◌*◌, ◌<◌, ◌≤◌, ◌==◌, ◌||◌, ◌&&◌, not, nat_lt, nat_le, Bool, true, false, List, [], ◌∷◌, ◌++◌, All, Option, Some, None, length, take, drop, replicate, option_map, is_some, map, Result, Ok, Err, ◌⊎◌, if◌then◌else◌}
 use Rattle.std.specs.List.{flat_map, slice_index_or, list_any, list_all}
 use Rattle.tab_asm.specs.Formats.{Instruction, BeginRow, TestGuard, RunAction, GoTo, NoRow, octets_of, code_of}
 use Rattle.tab_load.specs.Faults.{format_of, width_of, code_limit, at_of}
@@ -112,6 +112,16 @@ landings format instructions =
 abbrev pub IsRefusal : (ℕ → ImageFault → Type 0) → LoadError → Type 0
 IsRefusal Wrong (Refused fault) = Wrong fault.at fault.code
 IsRefusal Wrong NoMemory = Unit {0}
+
+-- what holds where memory was wanting
+abbrev pub AtNoMemory : Type 0 → LoadError → Type 0
+AtNoMemory Holds NoMemory = Holds
+AtNoMemory Holds (Refused fault) = Unit {0}
+
+-- what holds unless an image is refused for a fault: it was read so far, or memory was wanting
+abbrev pub UnlessRefused : {T : Type 0} → Result T LoadError → Type 0 → Type 0
+UnlessRefused (Ok value) Holds = Holds
+UnlessRefused (Err error) Holds = AtNoMemory Holds error
 
 -- the instructions that steps stand for
 abbrev pub instructions_of : List Step → List Instruction
