@@ -1,5 +1,8 @@
 //! What the registers of a peer's machine hold.
 
+ghost use Rattle.std.specs.Prelude.{◌≡◌};
+ghost use Rattle.base_codes.specs.Places.{named, peer_registers};
+
 /// The line that this node opened, 0 for none.
 pub const I_LINE: usize = 0;
 
@@ -26,3 +29,20 @@ pub const MACHINE: usize = 14;
 
 /// The timer's generation.
 pub const TIMER: usize = 15;
+
+/// Each register of these, by number and name.
+pub fn places() -> [(usize, &'static str); 9]
+    ensures { named result ≡ peer_registers }
+{
+    [
+        (I_LINE, "line that this node opened"),
+        (R_LINE, "line that the peer opened"),
+        (DIAL, "generation of the dial"),
+        (WIN, "local host wins"),
+        (HOP_BY_HOP, "Hop-by-Hop Identifier of the CER"),
+        (END_TO_END, "End-to-End Identifier of the CER"),
+        (REQUESTS, "count of requests"),
+        (MACHINE, "machine"),
+        (TIMER, "generation of the timer"),
+    ]
+}

@@ -1,5 +1,8 @@
 //! What the facts of a session's events are, at a client and at a server. Facts that an event does not have are 0.
 
+ghost use Rattle.std.specs.Prelude.{◌≡◌};
+ghost use Rattle.base_codes.specs.Places.{named, session_facts};
+
 /// The peer's machine number.
 pub const PEER: usize = 0;
 
@@ -53,3 +56,32 @@ pub const PAY: usize = 15;
 
 /// How many services the message has (Multiple-Services-Credit-Control, RFC 8506 section 8.16), 0 for none.
 pub const SERVICES: usize = 16;
+
+/// Each fact of these, by number and name.
+pub fn places() -> [(usize, &'static str); 18]
+    ensures { named result ≡ session_facts }
+{
+    [
+        (PEER, "peer"),
+        (LINE, "line"),
+        (HOP_BY_HOP, "Hop-by-Hop Identifier"),
+        (END_TO_END, "End-to-End Identifier"),
+        (CLASS, "class"),
+        (REQUEST_TYPE, "CC-Request-Type"),
+        (REQUEST_NUMBER, "CC-Request-Number + 1"),
+        (ACCOUNT, "account"),
+        (USED, "used units"),
+        (WANT, "requested units"),
+        (UNIT, "unit"),
+        (
+            ACTION_OR_CHECK,
+            "Requested-Action + 1 or Check-Balance-Result + 1",
+        ),
+        (RESULT_CODE, "Result-Code"),
+        (FAILURE_HANDLING, "failure handling"),
+        (GRANTED, "granted units"),
+        (FINAL, "final"),
+        (PAY, "units that can be paid"),
+        (SERVICES, "count of services"),
+    ]
+}

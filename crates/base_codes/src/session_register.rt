@@ -1,5 +1,8 @@
 //! What the registers of a session's machine hold, at a client and at a server.
 
+ghost use Rattle.std.specs.Prelude.{◌≡◌};
+ghost use Rattle.base_codes.specs.Places.{named, session_registers};
+
 /// The account, 0 for none.
 pub const ACCOUNT: usize = 0;
 
@@ -41,3 +44,25 @@ pub const TIMER: usize = 15;
 
 /// How many services the answer has.
 pub const SERVICES: usize = 16;
+
+/// Each register of these, by number and name.
+pub fn places() -> [(usize, &'static str); 14]
+    ensures { named result ≡ session_registers }
+{
+    [
+        (ACCOUNT, "account"),
+        (REQUEST_NUMBER, "CC-Request-Number + 1"),
+        (RESULT_CODE, "Result-Code"),
+        (GRANTED, "granted units"),
+        (UNIT, "unit"),
+        (FINAL, "final"),
+        (CHECK, "Check-Balance-Result + 1"),
+        (FAILURE_HANDLING, "failure handling"),
+        (REQUEST_TYPE, "CC-Request-Type"),
+        (PEER, "peer"),
+        (SERVICE, "service"),
+        (MACHINE, "machine"),
+        (TIMER, "generation of the timer"),
+        (SERVICES, "count of services"),
+    ]
+}

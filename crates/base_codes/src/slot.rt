@@ -1,6 +1,9 @@
 //! Places of one service of several (Multiple-Services-Credit-Control, RFC 8506 section 8.16), in facts and in registers
 //! alike: slot `k` of 1 to 4 begins at `FIRST + (k - 1) * SIZE`, and the other numbers are counted from there.
 
+ghost use Rattle.std.specs.Prelude.{◌≡◌};
+ghost use Rattle.base_codes.specs.Places.{named, slot_begins, slot_places};
+
 /// Where slot 1 begins.
 pub const FIRST: usize = 17;
 
@@ -33,3 +36,26 @@ pub const FINAL: usize = 6;
 
 /// The used units that can be paid.
 pub const PAY: usize = 7;
+
+/// Each place of a slot, by number and name.
+pub fn places() -> [(usize, &'static str); 8]
+    ensures { named result ≡ slot_places }
+{
+    [
+        (GROUP, "Rating-Group + 2"),
+        (USED, "used units"),
+        (WANT, "requested units"),
+        (UNIT, "unit"),
+        (RESULT_CODE, "Result-Code"),
+        (GRANTED, "granted units"),
+        (FINAL, "final"),
+        (PAY, "units that can be paid"),
+    ]
+}
+
+/// Where each slot begins.
+pub fn begins() -> [usize; MAX_SLOTS]
+    ensures { result ≡ slot_begins }
+{
+    [FIRST, FIRST + SIZE, FIRST + 2 * SIZE, FIRST + 3 * SIZE]
+}

@@ -5,7 +5,7 @@ use Rattle.bench_device.specs.Devices.{Tells}
 use Rattle.bench_device.specs.Inputs.{IsInput}
 use Rattle.bench_device.specs.declared.status.Status.{Status}
 use Rattle.bench_device.specs.declared.status.Status.TheVariants as statuses
-use Rattle.image_list.specs.Listed.{IsListedOn}
+use Rattle.image_text.specs.Listed.{IsListedOn}
 use Rattle.image_text.specs.Assembled.{IsAssembledOn}
 use Rattle.law_text.specs.Sentences.{book_text}
 use Rattle.msg_text.specs.Inputs.{IsReport}

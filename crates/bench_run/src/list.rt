@@ -7,7 +7,7 @@ use crate::walk::tell_no_memory;
 use bench_device::{
     ByteSink, FileSource, MAX_IDLE_WRITES, MAX_READS, Status, read_input, tell_unread,
 };
-use image_list::list_on;
+use image_text::list_on;
 use role_tables::all_laws;
 use std::alloc::Global;
 

@@ -1,7 +1,7 @@
 -- The kinds of events of a client's machine (RFC 8506 section 7), in the order of their first appearance in the table.
 use Rattle.std.specs.Prelude.{ℕ, List, [], ◌∷◌, codes}
 use Rattle.base_list.specs.declared.named.Named.{Named}
-use Rattle.role_lines.specs.Lines.{kind}
+use Rattle.tab_role.specs.Lines.{kind}
 use Rattle.client_rules.specs.declared.kind.ClientKind.{ClientKind}
 use Rattle.client_rules.specs.declared.kind.ClientKind.TheVariants.{Begin, One, CcaI, CcaFault, SendFail, Tx, More, End, CcaU, CcaT, CcaE}
 

@@ -11,9 +11,9 @@ use Rattle.tab_law.specs.declared.law.Field.TheVariants as field
 use Rattle.tab_law.specs.declared.law.Test.{Test}
 use Rattle.tab_law.specs.declared.law.Test.TheVariants.{Equal, Among}
 use Rattle.tab_law.specs.declared.law.Change.{Change}
-use Rattle.role_lines.specs.declared.step.Services.{Services}
-use Rattle.role_lines.specs.declared.step.Services.TheVariants.{OfEvent, OfEventUnwanted}
-use Rattle.role_lines.specs.Lines.{set, next, deed, message, keep_services, guard, act}
+use Rattle.tab_role.specs.declared.step.Services.{Services}
+use Rattle.tab_role.specs.declared.step.Services.TheVariants.{OfEvent, OfEventUnwanted}
+use Rattle.tab_role.specs.Lines.{set, next, deed, message, keep_services, guard, act}
 use Rattle.client_rules.specs.Kinds.{kinds}
 
 -- a session of this type is opened: what its later requests need is kept, and the first goes to the peer, with the event's services

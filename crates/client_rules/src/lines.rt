@@ -5,8 +5,8 @@ use Check::{Either, Equal};
 use Services::{OfEvent, OfEventUnwanted};
 use Step::{Do, KeepServices, Next, Send, Set};
 use base_codes::DeedCode;
-use role_lines::{ActLine, Check, GuardLine, Services, Step, kept, told};
 use tab_law::{Atom, Field};
+use tab_role::{ActLine, Check, GuardLine, Services, Step, kept, told};
 
 /// The number of the request that is sent.
 const NEXT_NUMBER: Atom = NewRegister(kept::NUMBER);

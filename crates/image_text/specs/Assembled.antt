@@ -15,6 +15,7 @@ use Rattle.tab_step.specs.Bind.{missing}
 use Rattle.tab_text.specs.Contents.{Contents}
 use Rattle.tab_text.specs.Faults.{first_fault}
 use Rattle.tab_text.specs.Rows.{table_of}
+use Rattle.image_text.specs.Told.{told_status}
 
 -- an image in hexadecimal digits, and a newline
 abbrev pub image_text : Contents → List ℕ
@@ -29,11 +30,6 @@ refusal_of laws table =
 abbrev pub IsTold : Laws → (table text : List ℕ) → Bool → Type 0
 IsTold laws table text true = refusal_of laws table ≡ Some text
 IsTold laws table text false = (refusal_of laws table ≡ None) × (text ≡ image_text (table_of table))
-
--- and with which status
-abbrev pub told_status : Bool → Status
-told_status true = statuses.Refused
-told_status false = statuses.Done
 
 -- What is told was taken whole and its status is the answer, or a write fault came; or memory ran out.
 pub record IsAssembled {O : Type 0} (contents : O → Option (List ℕ)) (failures idle : O → ℕ) (laws : Laws) (table : List ℕ) (old new : O) (answer : Status) : Type 0 where

@@ -3,8 +3,9 @@ ghost use Rattle.std.specs.Prelude.{◌≡◌, ◌≢◌, ◌<◌, ◌≤◌, �
 ghost use Rattle.std.specs.List.{slice_get};
 ghost use Rattle.bench_device.specs.Devices.{HasWriteCause};
 ghost use Rattle.fault_text.specs.Faults.{table_fault};
-ghost use Rattle.image_text.specs.Assembled.{IsAssembledOn, IsTold, image_text, told_status};
+ghost use Rattle.image_text.specs.Assembled.{IsAssembledOn, IsTold, image_text};
 
+use crate::told::{Told, told_status};
 use bench_device::{ByteSink, MAX_IDLE_WRITES, Status, tell};
 use bench_text::put_hex;
 use fault_text::{table_fault, unbound_text};
@@ -13,13 +14,6 @@ use tab_asm::assemble;
 use tab_law::LawBook;
 use tab_step::{Bound, Unbound, bind};
 use tab_text::{ParseError, parse};
-
-/// What is told, and whether it is a refusal.
-#[derive(Drop)]
-struct Told {
-    text: Vec<u8>,
-    refused: bool,
-}
 
 /// The image of a bound table, in digits.
 fn image_text(alloc: Global, bound: &Bound) -> Result<Vec<u8>, AllocError>
@@ -56,16 +50,6 @@ fn text_of(alloc: Global, table: &[u8], book: &LawBook) -> Result<Told, AllocErr
             text: unbound_text(alloc, name.as_slice())?,
             refused: true,
         }),
-    }
-}
-
-fn told_status(refused: bool) -> Status
-    ensures { result ≡ told_status refused }
-{
-    if refused {
-        Status::Refused
-    } else {
-        Status::Done
     }
 }
 

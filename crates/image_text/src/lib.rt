@@ -1,6 +1,20 @@
-//! Images of tables as text: a table's text assembled, and told in hexadecimal.
+//! Images of tables as text: a table's text assembled, and told in hexadecimal; an image read from hexadecimal, and listed
+//! in words.
+//!
+//! | Module | What it has |
+//! |---|---|
+//! | `assembled` | a table's image in hexadecimal |
+//! | `reading` | an image read from hexadecimal |
+//! | `listing`, `listed` | a program in words; an image's text listed |
+//! | `told` | what is printed of a text, and with which status |
 #![tactic(auto)]
 
 mod assembled;
+mod listed;
+mod listing;
+mod reading;
+mod told;
 
 pub use assembled::assemble_on;
+pub use listed::list_on;
+pub use reading::{ImageError, read_image, refusal_text};

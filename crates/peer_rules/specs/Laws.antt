@@ -12,7 +12,7 @@ use Rattle.tab_law.specs.Books.{Laws}
 use Rattle.tab_law.specs.declared.law.Atom.{Atom}
 use Rattle.tab_law.specs.declared.law.Atom.TheVariants.{Constant, Register, Fact, NewRegister}
 use Rattle.tab_law.specs.declared.law.Change.{Change}
-use Rattle.role_lines.specs.Lines.{set, next, deed, act}
+use Rattle.tab_role.specs.Lines.{set, next, deed, act}
 use Rattle.peer_rules.specs.Kinds.{kinds}
 
 -- the timer fires after 30 ticks, or is stopped: either way with a new generation

@@ -2,15 +2,14 @@
 
 ghost use Rattle.std.specs.Prelude.{◌≡◌, IfOk, OnOk, OnErr};
 ghost use Rattle.tab_role.specs.Roles.{joined};
-ghost use Rattle.role_lines.specs.Registering.{IsToldOf};
+ghost use Rattle.tab_role.specs.Registering.{IsToldOf};
 ghost use Rattle.peer_rules.specs.Laws.{peer_laws};
 
 use crate::kind::NAMES;
 use crate::lines::ACTS;
-use role_lines::laws_of;
 use std::alloc::{AllocError, Global};
 use tab_law::LawBook;
-use tab_role::{RegisterError, TakesRoles};
+use tab_role::{RegisterError, TakesRoles, laws_of};
 
 /// The kinds of events of a peer's machine and the laws of its actions, in the order of their first appearance in the table
 /// (RFC 6733 section 5.6). It has no guards.

@@ -2,8 +2,8 @@
 
 use Step::{Do, Next, Send, Set};
 use base_codes::{DeedCode, ResultCode, peer_fact, peer_register};
-use role_lines::{ActLine, Services, Step};
 use tab_law::Atom;
+use tab_role::{ActLine, Services, Step};
 
 const I_LINE: u8 = peer_register::I_LINE as u8;
 

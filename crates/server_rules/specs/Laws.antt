@@ -12,8 +12,8 @@ use Rattle.tab_law.specs.declared.law.Field.TheVariants as field
 use Rattle.tab_law.specs.declared.law.Test.{Test}
 use Rattle.tab_law.specs.declared.law.Test.TheVariants.{Equal, Differing, Below, AtLeast}
 use Rattle.tab_law.specs.declared.law.Change.{Change}
-use Rattle.role_lines.specs.declared.step.Services.TheVariants.{OfMachine}
-use Rattle.role_lines.specs.Lines.{set, next, pick, deed, deed_where, message, kept, guard, act}
+use Rattle.tab_role.specs.declared.step.Services.TheVariants.{OfMachine}
+use Rattle.tab_role.specs.Lines.{set, next, pick, deed, deed_where, message, kept, guard, act}
 use Rattle.server_rules.specs.Kinds.{kinds}
 
 -- the request's number and type are kept with this result, and what was granted, checked and served before is cleared

@@ -2,15 +2,14 @@
 
 ghost use Rattle.std.specs.Prelude.{◌≡◌, IfOk, OnOk, OnErr};
 ghost use Rattle.tab_role.specs.Roles.{joined};
-ghost use Rattle.role_lines.specs.Registering.{IsToldOf};
+ghost use Rattle.tab_role.specs.Registering.{IsToldOf};
 ghost use Rattle.server_rules.specs.Laws.{server_laws};
 
 use crate::kind::NAMES;
 use crate::lines::{ACTS, GUARDS};
-use role_lines::laws_of;
 use std::alloc::{AllocError, Global};
 use tab_law::LawBook;
-use tab_role::{RegisterError, TakesRoles};
+use tab_role::{RegisterError, TakesRoles, laws_of};
 
 /// The kinds of events of a server's machine and the laws of its guards and actions, in the order of their first appearance in
 /// the table (RFC 8506 section 7).

@@ -4,8 +4,8 @@ use Atom::{Constant, Fact, NewRegister, Register};
 use Check::{AtLeast, Below, Differing, Equal};
 use Step::{Do, DoWhere, Next, Pick, Send, Set};
 use base_codes::{DeedCode, slot};
-use role_lines::{ActLine, Check, GuardLine, Services, Step, kept, told};
 use tab_law::{Atom, Field};
+use tab_role::{ActLine, Check, GuardLine, Services, Step, kept, told};
 
 /// Result-Codes: success, limit reached, unknown session, unable to comply, rating failed.
 const SUCCESS: Atom = Constant(2001);

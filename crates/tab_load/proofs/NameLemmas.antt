@@ -1,8 +1,9 @@
-use Rattle.std.proofs.Common.{◌≡◌, ℕ, suc, ◌+◌, ◌-◌, ◌≤◌, ◌||◌, nat_lt, Bool, true, false, not, cond, is_none, List, [], ◌∷◌, ◌++◌, Some, None, length, map, take, drop, arith, refl, sym, ap, ◌∙◌}
-use Rattle.std.specs.List.{list_any, slice_index_or}
+use Rattle.std.proofs.Common.{◌≡◌, ℕ, suc, ◌+◌, ◌-◌, ◌≤◌, ◌||◌, nat_lt, Bool, true, false, not, cond, is_none, List, [], ◌∷◌, ◌++◌, Some, None, length, map, take, drop, arith, refl, sym, ap, subst, ◌∙◌, ◌<◌, ◌⊎◌, inl, inr}
+use Rattle.std.specs.List.{flat_map, list_any, slice_index_or}
+use Rattle.std.proofs.Math.Seq.{drop-append_seam, take-append_seam}
 use Rattle.std.proofs.lemmas.Bool.Decides.{nat_tests}
 use Rattle.std.specs.Str.{bytes_eq}
-use Rattle.std.proofs.lemmas.List.{length-append, flat_map_more, length-take-le, take-append-drop}
+use Rattle.std.proofs.lemmas.List.{length-append, flat_map_more, length-take-le, take-append-drop, append_assoc, append-nil}
 use Rattle.base_list.specs.declared.named.Named.{Named}
 use Rattle.tab_text.specs.Names.{is_name}
 use Rattle.tab_asm.specs.Images.{name_octets}
@@ -52,3 +53,26 @@ name-wrong bound entries before octets size fault is inside wrong =
     let same : (1 + size) - 1 ≡ slice_index_or octets 0 0 = omega (arith, is) in
     let long : nat_lt (length octets) (1 + slice_index_or octets 0 0) ≡ false = grind (arith, nat_tests, is, inside) in
     rw long (rw same at wrong)
+
+-- the first of names has no fault
+first-name : {T : Type 0} (bound : Bool) (entries : List (Named T)) (octets : List ℕ) (begin end : ℕ) (name : List ℕ) (more : List (List ℕ)) → take end octets ≡ take begin octets ++ flat_map name_octets (name ∷ more) → begin ≤ length octets → name_fault bound entries [] name ≡ None → next_fault bound entries [] (drop begin octets) ≡ None
+first-name bound entries octets begin end name more front inside none =
+    let rest = flat_map name_octets more ++ drop end octets in
+    let long = length-take-le begin octets inside in
+    let all : octets ≡ take begin octets ++ (name_octets name ++ rest) =
+    sym (take-append-drop end octets) ∙ ap (λ (r : List ℕ). r ++ drop end octets) front ∙ append_assoc (take begin octets) (name_octets name ++ flat_map name_octets more) (drop end octets)
+    ∙ ap (λ (r : List ℕ). take begin octets ++ r) (append_assoc (name_octets name) (flat_map name_octets more) (drop end octets)) in
+    let stands : drop begin octets ≡ name_octets name ++ rest =
+    ap (λ (n : ℕ). drop n octets) (sym long) ∙ ap (drop (length (take begin octets))) all ∙ drop-append_seam (take begin octets) (name_octets name ++ rest) in
+    let whole : nat_lt (length (name_octets name ++ rest)) (1 + length name) ≡ false = grind (arith, nat_tests, length-append (name_octets name) rest) in
+    rw stands (rw (whole, take-append_seam name rest) none)
+
+-- where the next name has no fault, nor has the first
+pub first-fine : {T : Type 0} (bound : Bool) (entries : List (Named T)) (octets : List ℕ) (begin count end : ℕ) (names : List (List ℕ)) (places : List ℕ) → NamesOf bound entries octets begin count end names places → begin ≤ length octets → (0 < count) ⊎ (next_fault bound entries names (drop end octets) ≡ None) → next_fault bound entries [] (drop begin octets) ≡ None
+first-fine bound entries octets begin count end [] places is inside (inl some) = absurd (omega (arith, is.many, some))
+first-fine bound entries octets begin count end [] places is inside (inr next) =
+    let same : end ≡ begin =
+    sym (length-take-le end octets is.inside) ∙ ap length is.front ∙ ap length (append-nil (take begin octets)) ∙ length-take-le begin octets inside in
+    subst (λ (n : ℕ). next_fault bound entries [] (drop n octets) ≡ None) same next
+first-fine bound entries octets begin count end (name ∷ more) places is inside either =
+    first-name bound entries octets begin end name more is.front inside is.fine.0

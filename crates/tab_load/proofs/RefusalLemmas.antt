@@ -1,5 +1,5 @@
 use Rattle.std.proofs.Common.{ℕ, Result, Ok, Err, IfErr}
-use Rattle.tab_load.specs.Code.{IsRefusal}
+use Rattle.tab_load.specs.Code.{IsRefusal, AtNoMemory}
 use Rattle.tab_load.specs.declared.fault.ImageFault.{ImageFault}
 use Rattle.tab_load.specs.declared.fault.LoadError.{LoadError}
 use Rattle.tab_load.specs.declared.fault.LoadError.TheVariants.{Refused, NoMemory}
@@ -13,3 +13,8 @@ refusal-weaker P Q weaker NoMemory is = tt
 pub err-weaker : {T : Type 0} (P Q : ℕ → ImageFault → Type 0) → ((at : ℕ) (fault : ImageFault) → P at fault → Q at fault) → (result : Result T LoadError) → IfErr result (IsRefusal P) → IfErr result (IsRefusal Q)
 err-weaker P Q weaker (Ok value) is = tt
 err-weaker P Q weaker (Err error) is = refusal-weaker P Q weaker error is
+
+-- what holds where memory was wanting in a part
+pub at_none-weaker : (P Q : Type 0) → (P → Q) → (error : LoadError) → AtNoMemory P error → AtNoMemory Q error
+at_none-weaker P Q weaker (Refused fault) is = tt
+at_none-weaker P Q weaker NoMemory is = weaker is

@@ -1,4 +1,4 @@
-use Rattle.std.specs.Prelude.{◌≡◌, ℕ, ◌+◌, ◌-◌, ◌*◌, ◌<◌, ◌≤◌, ◌==◌, ◌||◌, ◌&&◌, not, nat_lt, nat_le, Bool, true, false, List, [], ◌∷◌, ◌++◌, All, Option, Some, None, length, take, drop, replicate, option_map, is_some, map, ◌⊎◌, if◌then◌else◌}
+use Rattle.std.specs.Prelude.{◌≡◌, ℕ, ◌+◌, ◌-◌, ◌*◌, ◌<◌, ◌≤◌, ◌==◌, ◌||◌, ◌&&◌, not, nat_lt, nat_le, Bool, true, false, List, [], ◌∷◌, ◌++◌, All, Option, Some, None, length, take, drop, replicate, option_map, is_some, map, Result, Ok, Err, ◌⊎◌, if◌then◌else◌}
 use Rattle.std.specs.List.{flat_map, slice_index_or, list_any, list_all}
 use Rattle.tab_asm.specs.Formats.{Instruction, BeginRow, TestGuard, RunAction, GoTo, NoRow, octets_of, code_of}
 use Rattle.tab_load.specs.Faults.{format_of, width_of, code_limit, at_of}
@@ -24,12 +24,12 @@ instruction_of step.End = NoRow
 abbrev pub size_of : Format → ℕ → ℕ
 size_of format op = if op == 1 then 3 else if op == 2 then 2 + width_of format else if op == 5 then 1 else 2
 
--- the operands of an instruction are numbers that its octets can hold
+-- an instruction fits a format: its operands are numbers that its octets can hold
 abbrev pub Fits : Format → Instruction → Type 0
 Fits format (BeginRow row) = row < 65536
-Fits format (TestGuard guard otherwise) = otherwise < code_limit format
-Fits format (RunAction action) = Unit {0}
-Fits format (GoTo state) = Unit {0}
+Fits format (TestGuard guard otherwise) = (guard < 256) × (otherwise < code_limit format)
+Fits format (RunAction action) = action < 256
+Fits format (GoTo state) = state < 256
 Fits format NoRow = Unit {0}
 
 -- what is wrong with octets that are to begin with an instruction: none begins with the first of them, or it is cut off
@@ -113,6 +113,16 @@ abbrev pub IsRefusal : (ℕ → ImageFault → Type 0) → LoadError → Type 0
 IsRefusal Wrong (Refused fault) = Wrong fault.at fault.code
 IsRefusal Wrong NoMemory = Unit {0}
 
+-- what holds where memory was wanting
+abbrev pub AtNoMemory : Type 0 → LoadError → Type 0
+AtNoMemory Holds NoMemory = Holds
+AtNoMemory Holds (Refused fault) = Unit {0}
+
+-- what holds unless an image is refused for a fault: it was read so far, or memory was wanting
+abbrev pub UnlessRefused : {T : Type 0} → Result T LoadError → Type 0 → Type 0
+UnlessRefused (Ok value) Holds = Holds
+UnlessRefused (Err error) Holds = AtNoMemory Holds error
+
 -- the instructions that steps stand for
 abbrev pub instructions_of : List Step → List Instruction
 instructions_of steps = map instruction_of steps
@@ -133,9 +143,11 @@ NextWrong format counts before rest fault =
     ⊎ ((instruction : Instruction) × (more : List ℕ) × (octets_fault format rest ≡ None) × (rest ≡ octets_of (format_of format) instruction ++ more) × Fits format instruction
     × (instruction_fault counts (count_behind None before) (length (code_of (format_of format) (before ++ instruction ∷ []))) instruction ≡ Some fault))
 
--- the first fault of the instructions of the code; `begin` is the code's place in the image, `whole` the image's length
+-- the first fault of the instructions of the code: the instructions before it fit the format, are spelled by exactly the octets that
+-- stand there, and nothing is wrong with them; `begin` is the code's place in the image, `whole` the image's length
 pub record ScanWrong (format : Format) (counts : Counts) (code : List ℕ) (begin whole at : ℕ) (fault : ImageFault) : Type 0 where
   pub before : List Instruction
+  pub fits : All (Fits format) before
   pub fine : AreFine format counts before
   pub part : ℕ
   pub front : take part code ≡ code_of (format_of format) before

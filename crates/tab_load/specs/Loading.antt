@@ -1,12 +1,12 @@
-use Rattle.std.specs.Prelude.{◌≡◌, ℕ, ◌+◌, ◌*◌, ◌<◌, ◌≤◌, ◌⊎◌, true, false, List, ◌++◌, All, Option, Some, None, length, take, drop, map}
+use Rattle.std.specs.Prelude.{◌≡◌, ℕ, ◌+◌, ◌*◌, ◌<◌, ◌≤◌, ◌⊎◌, true, false, List, [], ◌++◌, All, Option, Some, None, length, take, drop, map}
 use Rattle.std.specs.List.{flat_map, list_all, slice_index_or}
 use Rattle.std.specs.Int.{to_be_bytes}
 use Rattle.base_list.specs.Named.{place_of}
 use Rattle.tab_law.specs.Books.{Laws}
 use Rattle.tab_asm.specs.Formats.{Instruction}
 use Rattle.tab_asm.specs.Images.{Image, offset_octets}
-use Rattle.tab_load.specs.Faults.{format_of, width_of, code_limit, BeginsWith, MagicWrong, CountsWrong, CountsOf}
-use Rattle.tab_load.specs.Names.{NamesWrong, NamesOf}
+use Rattle.tab_load.specs.Faults.{format_of, width_of, code_limit, BeginsWith, MagicWrong, count_fault, CountsWrong, CountsOf}
+use Rattle.tab_load.specs.Names.{next_fault, NamesWrong, NamesOf}
 use Rattle.tab_load.specs.Code.{ScanWrong, IsCode, EndWrong, IsEnded, GuardWrong, EntryWrong, landings, leads, is_entry}
 use Rattle.tab_load.specs.declared.counts.Counts.{Counts}
 use Rattle.tab_load.specs.declared.counts.Format.{Format}
@@ -42,6 +42,13 @@ lists names = record {
 -- where the names begin: behind magic and counts
 abbrev pub names_begin : ℕ
 names_begin = 14
+
+-- memory is taken from the first name on: the format, the counts and that name have no fault
+pub record TakesMemory (laws : Laws) (octets : List ℕ) : Type 0 where
+  pub format : Format
+  pub begins : BeginsWith format octets
+  pub counts : (number : ℕ) → number < 5 → count_fault format octets number ≡ None
+  pub first : next_fault false laws.kinds [] (drop names_begin octets) ≡ None
 
 -- these are the names: those of kinds, guards and actions are in the book
 pub record NamesAre (laws : Laws) (octets : List ℕ) (counts : Counts) (names : Lists) : Type 0 where

@@ -12,7 +12,7 @@ ghost use Rattle.tab_load.specs.declared.fault.ImageFault.TheVariants.{Cut};
 
 use crate::checks::{check_end, check_entries, check_guards};
 use crate::counts::{Counts, Format, width_of};
-use crate::fault::{ImageFault, LoadError, LoadFault};
+use crate::fault::{ImageFault, LoadError, fault_at};
 use crate::instruction::offset_in;
 use crate::scan::read_code;
 use std::alloc::{AllocError, Global};
@@ -60,15 +60,6 @@ fn read_entries(
     Ok(entries)
 }
 
-/// The refusal of an image that is cut off.
-fn cut(octets: &[u8]) -> LoadError
-    ensures { result ≡ Refused (record { at = length octets.now; code = Cut }) }
-{
-    let at = octets.len();
-    let code = ImageFault::Cut;
-    LoadError::Refused(LoadFault { at, code })
-}
-
 /// The entries, which begin there in the image, and how long the code is, all of which is there.
 pub(crate) fn read_body(
     alloc: Global,
@@ -87,12 +78,14 @@ pub(crate) fn read_body(
     let width = width_of(format);
     let table = width * count;
     if octets.len() - begin < table + width {
-        return Err(cut(octets));
+        let cut = fault_at(ImageFault::Cut, begin, octets.len());
+        return Err(LoadError::Refused(cut));
     }
     let entries = read_entries(alloc, format, octets, begin, count)?;
     let size = offset_in(format, &octets[begin + table..]) as usize;
     if octets.len() - begin - table - width < size {
-        return Err(cut(octets));
+        let cut = fault_at(ImageFault::Cut, begin, octets.len());
+        return Err(LoadError::Refused(cut));
     }
     Ok(Body { entries, size })
 }

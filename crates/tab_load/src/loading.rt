@@ -1,9 +1,9 @@
 ghost use Rattle.std.specs.Prelude.{◌≡◌, ◌+◌, ◌*◌, ◌<◌, ◌≤◌, length, IfOk, IfErr, OnOk, List};
 ghost use Rattle.tab_asm.specs.Formats.{Instruction};
 ghost use Rattle.tab_load.specs.Faults.{format_of, width_of, code_limit};
-ghost use Rattle.tab_load.specs.Code.{IsRefusal};
+ghost use Rattle.tab_load.specs.Code.{IsRefusal, UnlessRefused};
 ghost use Rattle.tab_load.specs.Promise.{EachEnds};
-ghost use Rattle.tab_load.specs.Loading.{lists, IsHead, HasBody, HasFault, IsLoaded, IsReadFrom, IsSound, entry_count, code_begin, code_in};
+ghost use Rattle.tab_load.specs.Loading.{lists, IsHead, HasBody, HasFault, TakesMemory, IsLoaded, IsReadFrom, IsSound, entry_count, code_begin, code_in};
 
 use crate::body::{Body, check_code, read_body};
 use crate::counts::{Counts, Format, read_counts, read_format, width_of};
@@ -25,6 +25,7 @@ struct Head {
 fn read_head(alloc: Global, octets: &[u8], book: &LawBook) -> Result<Head, LoadError>
     ensures ok { IfOk result (λ head. IsHead book.now octets.now head.format head.counts (lists head.names)) }
     ensures err { IfErr result (IsRefusal (HasFault book.now octets.now)) }
+    ensures memory { UnlessRefused result (TakesMemory book.now octets.now) }
     ensures few { IfOk result (λ head. entry_count head.counts ≤ 65536) }
 {
     let format = read_format(octets)?;
@@ -65,23 +66,16 @@ fn check_rest(
     ensures end { IfOk result (λ begin. begin + body.now.size ≡ length octets.now) }
     ensures err { IfErr result (IsRefusal (HasFault book.now octets.now)) }
 {
-    let width = width_of(head.format);
+    let format = head.format;
+    let counts = &head.counts;
+    let width = width_of(format);
     let table = head.names.actions.end;
-    let begin = table + width * (head.counts.states * head.counts.kinds) + width;
+    let begin = table + width * (counts.states * counts.kinds) + width;
     let end = begin + body.size;
     let whole = octets.len();
     let code = &octets[begin..end];
     let entries = body.entries.as_slice();
-    check_code(
-        alloc,
-        head.format,
-        &head.counts,
-        code,
-        entries,
-        begin,
-        table,
-        whole,
-    )?;
+    check_code(alloc, format, counts, code, entries, begin, table, whole)?;
     if end < whole {
         let code = ImageFault::Trailing;
         return Err(LoadError::Refused(LoadFault { at: end, code }));
@@ -94,6 +88,7 @@ fn read_program(alloc: Global, octets: &[u8], book: &LawBook) -> Result<Program,
     ensures read { IfOk result (IsReadFrom book.now octets.now) }
     ensures loaded { IfOk result (IsLoaded book.now) }
     ensures err { IfErr result (IsRefusal (HasFault book.now octets.now)) }
+    ensures memory { UnlessRefused result (TakesMemory book.now octets.now) }
 {
     let head = read_head(alloc, octets, book)?;
     let body = read_rest(alloc, octets, book, &head)?;
@@ -127,6 +122,7 @@ pub fn load(alloc: Global, octets: &[u8], book: &LawBook) -> Result<Program, Loa
     ensures loaded { IfOk result (IsLoaded book.now) }
     ensures ends { IfOk result EachEnds }
     ensures err { IfErr result (IsRefusal (HasFault book.now octets.now)) }
+    ensures memory { UnlessRefused result (TakesMemory book.now octets.now) }
 {
     read_program(alloc, octets, book)
 }

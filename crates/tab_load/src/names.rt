@@ -4,7 +4,7 @@ ghost use Rattle.std.specs.Prelude.{◌≡◌, ◌++◌, ◌∷◌, [], ◌+◌,
 ghost use Rattle.std.specs.List.{flat_map, list_any};
 ghost use Rattle.std.specs.Str.{bytes_eq};
 ghost use Rattle.tab_asm.specs.Images.{name_octets};
-ghost use Rattle.tab_load.specs.Code.{IsRefusal};
+ghost use Rattle.tab_load.specs.Code.{IsRefusal, UnlessRefused};
 ghost use Rattle.tab_load.specs.Names.{place_in, name_fault, next_fault, AreNames, NamesWrong, NamesOf};
 ghost use Rattle.tab_load.specs.Loading.{lists, NamesAre, AnyNameWrong};
 
@@ -84,10 +84,7 @@ fn place_of<T: Drop>(bound: bool, entries: &NamedList<T>, name: &[u8]) -> u8
 fn first_number(octets: &[u8]) -> usize
     ensures { result ≡ slice_index_or octets.now 0 0 }
 {
-    match octets {
-        [] => 0,
-        [first, ..] => *first as usize,
-    }
+    octets.get(0).copied().unwrap_or(0) as usize
 }
 
 /// The name at a place of the image, behind others.
@@ -102,6 +99,7 @@ fn read_name<'a, T: Drop>(
     ensures stands { IfOk result (λ name. drop at octets.now ≡ name_octets name.now ++ drop (1 + length name.now) (drop at octets.now)) }
     ensures whole { IfOk result (λ name. at + 1 + length name.now ≤ length octets.now) }
     ensures fine { IfOk result (λ name. name_fault bound entries.now before.now name.now ≡ None) }
+    ensures next { OnOk result (next_fault bound entries.now before.now (drop at octets.now) ≡ None) }
     ensures err { IfErr result (λ fault. next_fault bound entries.now before.now (drop at octets.now) ≡ Some fault) }
 {
     let rest = &octets[at..];
@@ -131,6 +129,7 @@ fn put_name<T: Drop>(
     requires few { length names.old.names.items < count }
     ensures ok { OnOk result (NamesOf bound entries.now octets.now begin (length names.old.names.items + 1) names.new.end names.new.names.items names.new.places.items) }
     ensures err { IfErr result (IsRefusal (NamesWrong bound entries.now octets.now begin count)) }
+    ensures next { UnlessRefused result (next_fault bound entries.now names.old.names.items (drop names.old.end octets.now) ≡ None) }
 {
     let name = match read_name(bound, entries, names.names.as_slice(), octets, names.end) {
         Ok(name) => name,
@@ -156,6 +155,7 @@ pub(crate) fn read_names<T: Drop>(
     requires small { length entries.now ≤ 256 }
     ensures ok { IfOk result (λ names. NamesOf bound entries.now octets.now begin count names.end names.names.items names.places.items) }
     ensures err { IfErr result (IsRefusal (NamesWrong bound entries.now octets.now begin count)) }
+    ensures first { UnlessRefused result (0 < count → next_fault bound entries.now [] (drop begin octets.now) ≡ None) }
 {
     let mut names = Names {
         names: Vec::new(alloc),
@@ -194,9 +194,11 @@ pub(crate) fn read_image_names(
     octets: &[u8],
     counts: &Counts,
 ) -> Result<ImageNames, LoadError>
-    requires { 14 ≤ length octets.now }
+    requires counts { 14 ≤ length octets.now }
+    requires some { 0 < counts.now.states }
     ensures ok { IfOk result (λ names. NamesAre book.now octets.now counts.now (lists names)) }
     ensures err { IfErr result (IsRefusal (AnyNameWrong book.now octets.now counts.now)) }
+    ensures first { UnlessRefused result (next_fault false book.now.kinds [] (drop 14 octets.now) ≡ None) }
 {
     book.known();
     let states = read_names(alloc, false, book.kinds(), octets, 14, counts.states)?;

@@ -1,1 +1,3 @@
 pub mod Roles
+pub mod Lines
+pub mod Registering

@@ -23,7 +23,7 @@ use Rattle.tab_step.specs.declared.machine.MachineState.{MachineState}
 use Rattle.tab_step.specs.declared.machine.MachineState.{MachineState}
 use Rattle.tab_step.specs.declared.machine.Stepped.{Stepped}
 use Rattle.tab_load.specs.Loading.{Loaded}
-use Rattle.image_list.specs.Images.{IsImageOf}
+use Rattle.image_text.specs.Images.{IsImageOf}
 use Rattle.tab_walk.specs.Walks.{AreSteps, IsImageWalked, is_image, IsRefused, IsRunOver, IsWalked, RunText, StepByImage, StepByRows, at_start, bind_text, parse_text, refusal_of, step_text, steps_text}
 
 -- there is one step for each event

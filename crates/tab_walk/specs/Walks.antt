@@ -18,8 +18,8 @@ use Rattle.tab_step.specs.declared.machine.MachineState.{MachineState}
 use Rattle.tab_step.specs.declared.machine.Stepped.{Stepped}
 use Rattle.tab_load.specs.Loading.{IsLoaded, Loaded}
 use Rattle.tab_image.specs.RunBy.{IsRunBy}
-use Rattle.image_list.specs.Images.{IsImageOf, IsNoImage, refusal_text}
-use Rattle.image_list.specs.declared.reading.ImageError.{ImageError}
+use Rattle.image_text.specs.Images.{IsImageOf, IsNoImage, refusal_text}
+use Rattle.image_text.specs.declared.reading.ImageError.{ImageError}
 use Rattle.hex.specs.Hex.{is_hex_digit}
 use Rattle.bench_text.specs.Digits.{is_blank}
 use Rattle.tab_walk.specs.declared.steps.Rules.{Rules}

@@ -9,7 +9,7 @@ use crate::steps::{Rules, names_of, put_step, step_by};
 use bench_device::{ByteSink, MAX_IDLE_WRITES, Status, tell};
 use event_text::{LinesError, read_events};
 use fault_text::{bad_line, table_fault, unbound_text};
-use image_list::{read_image, refusal_text};
+use image_text::{read_image, refusal_text};
 use std::alloc::{AllocError, Global};
 use tab_call::Registry;
 use tab_step::{Event, Stepped, Unbound, bind};

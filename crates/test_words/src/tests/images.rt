@@ -1,7 +1,6 @@
 //! What assembling a table's text prints, and listing an image's.
 use bench_device::{Counting, Status};
-use image_list::list_on;
-use image_text::assemble_on;
+use image_text::{assemble_on, list_on};
 use role_tables::all_laws;
 use std::test::Fail;
 use tab_law::LawBook;

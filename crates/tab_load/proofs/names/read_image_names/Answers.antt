@@ -28,3 +28,11 @@ returns-in_err-actions-clause-err c =
     let guards = rw c.guards.ensures at c.in_ok-guards.ensures.ok in
     let wrong = rw c.acts.ensures at c.in_err-actions.ensures.err in
     rw (p.1, p.2) (refusal-weaker (NamesWrong true c.args.book.now.acts c.args.octets.now c.in_ok-guards.guards.end c.args.counts.now.actions) (AnyNameWrong c.args.book.now c.args.octets.now c.args.counts.now) (λ at fault is. AtAction (listed c.in_ok-states.states) (listed c.in_ok-kinds.kinds) (listed c.in_ok-guards.guards) states kinds guards is) _ wrong)
+
+pub returns-clause-ok : goal.returns-clause-ok
+returns-clause-ok c = record {
+  states = rw c.kinds.ensures at c.in_ok-states.ensures.ok;
+  kinds = rw c.kinds-2.ensures at c.in_ok-kinds.ensures.ok;
+  guards = rw c.guards.ensures at c.in_ok-guards.ensures.ok;
+  actions = rw c.acts.ensures at c.in_ok-actions.ensures.ok;
+}

@@ -8,6 +8,7 @@ returns-in-Err-clause-err c =
     let before = c.requires.scanned in
     record {
       before = instructions_of c.args.scan.now.steps.items;
+      fits = before.fits;
       fine = before.fine;
       part = c.args.scan.now.at;
       front = before.front;

@@ -1,3 +1,0 @@
-pub mod Images
-pub mod Listings
-pub mod Listed

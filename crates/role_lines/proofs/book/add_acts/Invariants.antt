@@ -1,6 +1,0 @@
-use Rattle.std.proofs.Common.{◌≡◌, ◌++◌, map, take}
-use Rattle.role_lines.specs.Lines.{act_of}
-use Rattle.role_lines.proofs.book.add_acts.Given as goal
-
-abbrev pub invariant-loop-name : goal.invariant-loop-name
-invariant-loop-name l = l.book ≡ record l.initial.book { acts = l.initial.book.acts ++ map act_of (take l.name-index l.lines) }

@@ -1,6 +1,0 @@
-use Rattle.std.proofs.Common.{◌≡◌, ◌++◌, map, take}
-use Rattle.role_lines.specs.Lines.{guard_of}
-use Rattle.role_lines.proofs.book.add_guards.Given as goal
-
-abbrev pub invariant-loop-name : goal.invariant-loop-name
-invariant-loop-name l = l.book ≡ record l.initial.book { guards = l.initial.book.guards ++ map guard_of (take l.name-index l.lines) }

@@ -1,6 +1,0 @@
-use Rattle.std.proofs.Common.{◌≡◌, ◌++◌, map, take}
-use Rattle.role_lines.specs.Lines.{kind_of}
-use Rattle.role_lines.proofs.book.add_kinds.Given as goal
-
-abbrev pub invariant-loop-name : goal.invariant-loop-name
-invariant-loop-name l = l.book ≡ record l.initial.book { kinds = l.initial.book.kinds ++ map kind_of (take l.name-index l.names) }
