@@ -10,7 +10,7 @@ use Rattle.image_text.specs.Assembled.{IsAssembledOn}
 use Rattle.law_text.specs.Sentences.{book_text}
 use Rattle.msg_text.specs.Inputs.{IsReport}
 use Rattle.msg_text.specs.Styles.{end_in, printed_in}
-use Rattle.msg_text.specs.declared.manner.Style.{Style}
+use Rattle.msg_input.specs.declared.style.Style.{Style}
 use Rattle.role_tables.specs.Roles.{all_laws, table_named}
 use Rattle.tab_draw.specs.Runs.{graph_status, graph_text}
 use Rattle.tab_text.specs.Faults.{first_fault}

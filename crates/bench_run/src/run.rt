@@ -17,7 +17,8 @@ use bench_device::{
     ByteSink, ByteSource, FileSource, MAX_IDLE_WRITES, MAX_READS, Status, tell, tell_not_opened,
 };
 use bench_words::{Asked, NoWords, Task, WordsError, parse_words};
-use msg_text::{Style, read_lines, read_on};
+use msg_input::Style;
+use msg_text::{read_lines, read_on};
 use std::alloc::Global;
 use std::convert::AsStr;
 

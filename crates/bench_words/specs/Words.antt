@@ -7,8 +7,8 @@ use Rattle.clap.specs.Simple.{on_top}
 use Rattle.clap.specs.declared.builder.action.ArgAction.TheVariants.{SetTrue}
 use Rattle.clap.specs.declared.error.kind.ErrorKind.{ErrorKind}
 use Rattle.clap.specs.declared.error.kind.ErrorKind.TheVariants.{DisplayHelp, DisplayVersion}
-use Rattle.msg_text.specs.declared.manner.Style.{Style}
-use Rattle.msg_text.specs.declared.manner.Style.TheVariants.{Plain, Explained, Json}
+use Rattle.msg_input.specs.declared.style.Style.{Style}
+use Rattle.msg_input.specs.declared.style.Style.TheVariants.{Plain, Explained, Json}
 
 -- a flag, whose name is also its identifier
 abbrev pub flag_rule : Text → Rule

@@ -9,7 +9,7 @@ use crate::commands::command;
 use crate::texts::{READ_USAGE, WALK_USAGE};
 use clap::error::ErrorKind;
 use clap::{ArgMatches, Error};
-use msg_text::Style;
+use msg_input::Style;
 use std::alloc::{AllocError, AllocFailed, AllocGlobal, Global};
 use std::convert::AsStr;
 use std::env::Env;

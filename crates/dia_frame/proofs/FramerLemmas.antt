@@ -1,5 +1,5 @@
 -- A feed goes on from a stream to the longer one.
-use Rattle.std.proofs.Common.{◌≡◌, ℕ, true, false, inl, inr, List, [], ◌∷◌, ◌++◌, Option, Some, None, Result, Ok, Err, refl, sym, ap, subst, ◌∙◌, append_assoc}
+use Rattle.std.proofs.Common.{◌≡◌, ◌⊎◌, ℕ, ◌<◌, ◌≤◌, true, false, inl, inr, List, [], ◌∷◌, ◌++◌, length, Option, Some, None, Result, Ok, Err, refl, sym, ap, subst, ◌∙◌, append_assoc, arith}
 use Rattle.std.proofs.lemmas.List.Elements.{All-nil}
 use Rattle.std.proofs.lemmas.List.{append-nil}
 use Rattle.dia_frame.specs.Frames.{IsMessage, Frames, fault_of}
@@ -8,8 +8,9 @@ use Rattle.dia_frame.specs.declared.fault.FrameFault.TheVariants.{Version, Lengt
 use Rattle.dia_frame.specs.declared.fault.FeedError.{FeedError}
 use Rattle.dia_frame.specs.declared.fault.FeedError.TheVariants.{NoMemory, Fault}
 use Rattle.dia_frame.specs.Framer.{FramerState, Takes, Feeds, Shows, Holds, HoldsNext, MayNeedMemory}
-use Rattle.dia_frame.proofs.FrameLemmas.{frames-append}
-use Rattle.dia_frame.proofs.WholeLemmas.{none_whole, no_len, shows_version_or_length}
+use Rattle.dia_frame.specs.Whole.{whole_len, room_of}
+use Rattle.dia_frame.proofs.FrameLemmas.{frames-append, whole_len-rest}
+use Rattle.dia_frame.proofs.WholeLemmas.{none_whole, no_len, room_fits, shows_version_or_length}
 
 took : (old new : FramerState) (piece : List ℕ) (fault : Option FrameFault) (limit : ℕ) (handed : List (List ℕ)) (stream : List ℕ) → old.broken ≡ false → Takes old piece new fault → Holds old limit handed stream
     → Shows new limit handed (stream ++ piece) fault
@@ -28,10 +29,31 @@ took old new piece fault limit handed stream whole t (None, h) =
     }
 took old new piece fault limit handed stream whole t (Some f, h) = let b = h.broken in absurd cc
 
--- where the octets that are there show no fault, a fault comes behind a message
-pub may_need : (old : FramerState) (piece : List ℕ) → fault_of old.limit (old.rest ++ piece) ≡ None → MayNeedMemory old piece
-may_need old piece none [] left f = inr (subst (λ (x : List ℕ). fault_of old.limit x ≡ None) f.parts none)
-may_need old piece none (m ∷ came) left f = inl (λ e. absurd cc)
+-- memory may be needed where the octets hold a message, or lack room that the old rest had
+pub may_need : (old : FramerState) (piece : List ℕ) → (whole_len old.limit (old.rest ++ piece) ≡ None → ⊥) ⊎ (room_of old.limit old.rest < room_of old.limit (old.rest ++ piece)) → MayNeedMemory old piece
+may_need old piece (inl some) [] left f = absurd (some (subst (λ (x : List ℕ). whole_len old.limit x ≡ None) (sym f.parts) (whole_len-rest old.limit (old.rest ++ piece) left [] f)))
+may_need old piece (inr lacks) [] left f = inr (subst (λ (x : List ℕ). room_of old.limit old.rest < room_of old.limit x) f.parts lacks)
+may_need old piece need (m ∷ came) left f = inl (λ e. absurd cc)
+
+le_lt : (a b c d : ℕ) → a ≤ b → b ≤ c → c < d → a < d
+le_lt a b c d p q r = omega arith
+
+-- where the octets have no room to wait in
+pub may_need-extend : (old : FramerState) (piece : List ℕ) (cap : ℕ) → fault_of old.limit (old.rest ++ piece) ≡ None → room_of old.limit old.rest ≤ cap → cap < length (old.rest ++ piece) → MayNeedMemory old piece
+may_need-extend old piece cap none had lacks [] left f =
+    let whole = whole_len-rest old.limit (old.rest ++ piece) left [] f in
+    let shown = subst (λ (x : List ℕ). fault_of old.limit x ≡ None) f.parts none in
+    let least : cap < length left = subst (λ (x : List ℕ). cap < length x) f.parts lacks in
+    inr (omega (arith, room_fits old.limit left shown whole))
+may_need-extend old piece cap none had lacks (m ∷ came) left f = inl (λ e. absurd cc)
+
+-- where cutting them up is refused
+pub may_need-cut : (old : FramerState) (piece octets : List ℕ) (cap grown : ℕ) → octets ≡ old.rest ++ piece → room_of old.limit old.rest ≤ cap → cap ≤ grown
+    → (whole_len old.limit octets ≡ None → ⊥) ⊎ (grown < room_of old.limit octets) → MayNeedMemory old piece
+may_need-cut old piece octets cap grown same had grows (inl some) = may_need old piece (inl (subst (λ (x : List ℕ). whole_len old.limit x ≡ None → ⊥) same some))
+may_need-cut old piece octets cap grown same had grows (inr lacks) =
+    let more : room_of old.limit old.rest < room_of old.limit octets = le_lt (room_of old.limit old.rest) cap grown (room_of old.limit octets) had grows lacks in
+    may_need old piece (inr (subst (λ (x : List ℕ). room_of old.limit old.rest < room_of old.limit x) same more))
 
 -- where the octets that are there show a fault, no message stands before it
 pub breaks : (limit : ℕ) (octets : List ℕ) (fault : FrameFault) → fault_of limit octets ≡ Some fault → Frames octets limit [] octets

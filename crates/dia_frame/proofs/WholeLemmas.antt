@@ -1,13 +1,14 @@
 -- `whole_len` finds a message at the front, and each message that is there.
 use Rattle.std.proofs.Common.{◌≡◌, ℕ, suc, ◌+◌, ◌≤◌, ◌%◌, Bool, true, false, ltb, eqb, not, List, [], ◌∷◌, ◌++◌, length, take, drop, get_or, Option, Some, None, cond, refl, sym, ap, subst, ◌∙◌, arith}
-use Rattle.std.specs.Prelude.{is_some, ◌||◌}
-use Rattle.std.proofs.lemmas.Bool.{le-ltb, ltb-false, not-false, eq-eqb, eqb-true}
+use Rattle.std.specs.Prelude.{is_some, ◌||◌, ◌==◌}
+use Rattle.std.proofs.lemmas.Bool.Decides.{nat_tests}
+use Rattle.std.proofs.lemmas.Bool.{le-ltb, ltb-false, ltb-true, not-false, eq-eqb, eqb-true}
 use Rattle.std.proofs.lemmas.List.{length-append, length-take-le, get_or-take, get_or-drop, get_or_append_left, take_at, drop_at}
 use Rattle.byteorder.specs.Endian.{big_number}
 use Rattle.dia_frame.specs.declared.fault.FrameFault.{FrameFault}
 use Rattle.dia_frame.specs.declared.fault.FrameFault.TheVariants.{Version, Length, Broken}
 use Rattle.dia_frame.specs.Frames.{IsMessage, message_length, is_bad_length, fault_of}
-use Rattle.dia_frame.specs.Whole.{whole_len}
+use Rattle.dia_frame.specs.Whole.{whole_len, room_of}
 
 both_false : (a b : Bool) → (a || b) ≡ false → (a ≡ false) × (b ≡ false)
 both_false true b e = absurd cc
@@ -111,6 +112,20 @@ none_whole limit octets e m after h q =
     let a = whole_again limit m after h in
     let b : whole_len limit (m ++ after) ≡ None = ap (whole_len limit) (sym q) ∙ e in
     cc
+
+room_cases : (a b : Bool) (len n : ℕ) → (a ≡ true → len ≤ 4) → (b ≡ true → len ≤ n) → cond (a || false) None (cond b None (Some n)) ≡ None → len ≤ cond a 4 n
+room_cases true b len n f g e = f refl
+room_cases false true len n f g e = g refl
+room_cases false false len n f g e = absurd cc
+
+-- octets without a fault that are no whole message fit into the room that they are given
+pub room_fits : (limit : ℕ) (octets : List ℕ) → fault_of limit octets ≡ None → whole_len limit octets ≡ None → length octets ≤ room_of limit octets
+room_fits limit [] f e = omega arith
+room_fits limit (v ∷ octets) f e =
+    let n = message_length (v ∷ octets) in
+    let whole = rw f at e in
+    let some : (length (v ∷ octets) == 0) ≡ false = grind (arith, nat_tests) in
+    rw (some, f) (room_cases (ltb (length (v ∷ octets)) 4) (ltb (length (v ∷ octets)) n) (length (v ∷ octets)) n (λ h. omega (arith, ltb-true _ _ h)) (λ h. omega (arith, ltb-true _ _ h)) whole)
 
 second_true : (a : Bool) (o : Option ℕ) → cond (a || true) None o ≡ None
 second_true true o = refl

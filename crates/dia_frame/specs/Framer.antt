@@ -1,10 +1,11 @@
 -- What a Framer holds, and what a feed does to it.
-use Rattle.std.specs.Prelude.{◌≡◌, ◌⊎◌, ℕ, Bool, true, false, List, [], ◌++◌, length, Option, Some, None, is_some, Result, Ok, Err}
+use Rattle.std.specs.Prelude.{◌≡◌, ◌<◌, ◌⊎◌, ℕ, Bool, true, false, List, [], ◌++◌, length, Option, Some, None, is_some, Result, Ok, Err}
 use Rattle.dia_frame.specs.declared.fault.FrameFault.{FrameFault}
 use Rattle.dia_frame.specs.declared.fault.FrameFault.TheVariants.{Version, Length, Broken}
 use Rattle.dia_frame.specs.declared.fault.FeedError.{FeedError}
 use Rattle.dia_frame.specs.declared.fault.FeedError.TheVariants.{NoMemory, Fault}
 use Rattle.dia_frame.specs.Frames.{Frames, fault_of}
+use Rattle.dia_frame.specs.Whole.{room_of}
 
 -- the longest message's length, the frames that wait, oldest first, the octets behind them, and whether a fault was found
 pub record FramerState : Type 0 where
@@ -37,11 +38,11 @@ Feeds old piece (Err (Fault Length)) new = (old.broken ≡ false) × Takes old p
 Feeds old piece (Err (Fault Broken)) new = (old.broken ≡ true) × (new ≡ old)
 Feeds old piece (Err NoMemory) new = (old.broken ≡ false) × (new ≡ old)
 
--- a feed may need memory only where the piece completes a message or no fault shows
+-- a feed may need memory only where the piece completes a message, or brings the rest to where it is given more room
 abbrev pub MayNeedMemory : FramerState → List ℕ → Type 0
 MayNeedMemory old piece =
     (came : List (List ℕ)) (left : List ℕ) → Frames (old.rest ++ piece) old.limit came left
-    → (came ≡ [] → ⊥) ⊎ (fault_of old.limit left ≡ None)
+    → (came ≡ [] → ⊥) ⊎ (room_of old.limit old.rest < room_of old.limit left)
 
 -- What was handed out and what waits are the stream's messages, and the octets behind them show this fault or none.
 pub record Shows (state : FramerState) (limit : ℕ) (handed : List (List ℕ)) (stream : List ℕ) (fault : Option FrameFault) : Type 0 where

@@ -1,8 +1,8 @@
 //! The whole messages at the front of octets.
 
-ghost use Rattle.std.specs.Prelude.{◌≡◌, ◌≤◌, [], ◌∷◌, ◌++◌, drop, vec_len, Option, Some, None, slice_get, IfOk, OnOk, OnErr};
+ghost use Rattle.std.specs.Prelude.{◌≡◌, ◌≤◌, ◌<◌, ◌+◌, ◌⊎◌, [], ◌∷◌, ◌++◌, drop, length, vec_len, vec_capacity, Option, Some, None, slice_get, IfOk, OnOk, OnErr};
 ghost use Rattle.dia_frame.specs.Frames.{fault_of, is_bad_length};
-ghost use Rattle.dia_frame.specs.Whole.{whole_len, Cuts};
+ghost use Rattle.dia_frame.specs.Whole.{whole_len, room_of, Cuts, CutsUpTo};
 
 use crate::fault::FrameFault;
 use base_codes::{HEADER_LEN, VERSION};
@@ -93,16 +93,17 @@ fn push_frame(
     Ok(())
 }
 
-/// Puts a frame for each whole message at the front of `octets` behind those that wait, and says
-/// where the rest begins.
-pub(crate) fn cut_frames(
+// Puts a frame for each whole message at the front of `octets` behind those that wait, and says
+// where the rest begins.
+fn push_frames(
     alloc: Global,
     limit: usize,
     octets: &[u8],
     waiting: &mut VecDeque<Octets>,
 ) -> Result<usize, AllocError>
-    ensures ok { IfOk result (Cuts octets.now limit waiting.old.items waiting.new.items) }
+    ensures ok { IfOk result (CutsUpTo octets.now limit waiting.old.items waiting.new.items) }
     ensures err { OnErr result (waiting.new.items ≡ waiting.old.items) }
+    ensures need { OnErr result (whole_len limit octets.now ≡ None → ⊥) }
 {
     let waited = waiting.len();
     let mut end = 0;
@@ -118,10 +119,24 @@ pub(crate) fn cut_frames(
     Ok(end)
 }
 
+/// How many octets a rest is given room for.
+pub(crate) fn room_of(limit: usize, rest: &[u8]) -> usize
+    ensures { result ≡ room_of limit rest.now }
+{
+    if rest.is_empty() || fault_of(limit, rest).is_some() {
+        return 0;
+    }
+    if rest.len() < 4 {
+        return 4;
+    }
+    BigEndian::read_u24(&rest[1..]) as usize
+}
+
 /// Drops the first `end` octets. Only those behind them are moved.
-pub(crate) fn drop_front(octets: &mut Vec<u8>, end: usize)
+fn drop_front(octets: &mut Vec<u8>, end: usize)
     requires { end ≤ vec_len octets.old }
-    ensures { octets.new.items ≡ drop end octets.old.items }
+    ensures items { octets.new.items ≡ drop end octets.old.items }
+    ensures capacity { vec_capacity octets.new ≡ vec_capacity octets.old }
 {
     if end == 0 {
         return;
@@ -129,4 +144,45 @@ pub(crate) fn drop_front(octets: &mut Vec<u8>, end: usize)
     let left = octets.len() - end;
     octets.copy_within(end.., 0);
     octets.truncate(left);
+}
+
+// Drops the first `end` octets, once there is room for what the others begin.
+fn keep_from(limit: usize, octets: &mut Vec<u8>, end: usize) -> Result<(), AllocError>
+    requires { end ≤ vec_len octets.old }
+    ensures ok { OnOk result (octets.new.items ≡ drop end octets.old.items) }
+    ensures err { OnErr result (octets.new.items ≡ octets.old.items) }
+    ensures room { OnOk result (room_of limit (drop end octets.old.items) ≤ vec_capacity octets.new) }
+    ensures capacity { vec_capacity octets.old ≤ vec_capacity octets.new }
+    ensures need { OnErr result (vec_capacity octets.old < room_of limit (drop end octets.old.items)) }
+{
+    let room = room_of(limit, &octets[end..]);
+    if octets.capacity() < room {
+        octets.reserve_exact(room.saturating_sub(octets.len()))?;
+    }
+    drop_front(octets, end);
+    Ok(())
+}
+
+/// Cuts the whole messages off the front of `octets`: a frame for each waits behind the others, and
+/// there is room for the message that the rest begins.
+pub(crate) fn cut_frames(
+    alloc: Global,
+    limit: usize,
+    octets: &mut Vec<u8>,
+    waiting: &mut VecDeque<Octets>,
+) -> Result<(), AllocError>
+    ensures ok { OnOk result (Cuts octets.old.items limit waiting.old.items waiting.new.items octets.new.items) }
+    ensures room { OnOk result (room_of limit octets.new.items ≤ vec_capacity octets.new) }
+    ensures err { OnErr result ((waiting.new.items ≡ waiting.old.items) × (octets.new.items ≡ octets.old.items)) }
+    ensures capacity { vec_capacity octets.old ≤ vec_capacity octets.new }
+    ensures need { OnErr result ((whole_len limit octets.old.items ≡ None → ⊥)
+        ⊎ (vec_capacity octets.old < room_of limit octets.old.items)) }
+{
+    let waited = waiting.len();
+    let end = push_frames(alloc, limit, octets, waiting)?;
+    if let Err(refused) = keep_from(limit, octets, end) {
+        waiting.truncate(waited);
+        return Err(refused);
+    }
+    Ok(())
 }

@@ -2,7 +2,7 @@
 
 ghost use Rattle.std.specs.Prelude.{◌≡◌, ◌∷◌, [], ◌++◌, length, List, ℕ, MatchOption, IfOk, IfSome, IsErrOf, None, true, false};
 
-use crate::cut::{cut_frames, drop_front, fault_across, fault_of};
+use crate::cut::{cut_frames, fault_across, fault_of, room_of};
 use crate::fault::{FeedError, FrameFault};
 use base_list::Octets;
 use std::alloc::{AllocError, Global};
@@ -35,11 +35,15 @@ impl Drop for Framer {
 }
 
 impl Model for Framer {
+    ghost use Rattle.std.specs.Prelude.{◌≤◌, vec_capacity};
     ghost use Rattle.dia_frame.specs.Framer.{FramerState};
+    ghost use Rattle.dia_frame.specs.Whole.{room_of};
 
     ghost Value = { FramerState };
 
     ghost view = { λ f. record { limit = f.limit; waiting = f.waiting.items; rest = f.rest.items; broken = f.broken } };
+
+    ghost invariant = { λ f. room_of f.limit f.rest.items ≤ vec_capacity f.rest };
 }
 
 impl Framer {
@@ -62,8 +66,10 @@ impl Framer {
 
     /// Takes the next piece of the stream, and says how many frames wait. A faulty header is found
     /// with the octet that shows it: the first for the version, the fourth for the length. No octet
-    /// from that header on is kept, and where the piece completes no message before it no memory is
-    /// asked for.
+    /// from that header on is kept.
+    ///
+    /// Memory is asked for only where the piece completes a message, or brings the first octet of one
+    /// or the fourth, with which there is room for the whole message.
     ///
     /// The time of all feeds together is in proportion to the octets fed, however small the pieces.
     pub fn feed(&mut self, piece: &[u8]) -> Result<usize, FeedError>
@@ -74,7 +80,7 @@ impl Framer {
         ensures joined { (limit : ℕ) (handed : List (List ℕ)) (stream : List ℕ) → Holds self.old limit handed stream
             → HoldsNext self.new limit handed (stream ++ piece.now) result }
 
-        // A fault is told whatever the memory, unless there are frames to keep.
+        // A fault is told whatever the memory, unless there are frames to keep, and a message goes on in its room.
         ensures memory { IsErrOf result FeedError.NoMemory → MayNeedMemory self.old piece.now }
     {
         self.take(piece)
@@ -102,12 +108,14 @@ impl Framer {
         }
         let held = self.rest.len();
         self.rest.extend_from_slice(piece)?;
-        match cut_frames(self.alloc, self.limit, &self.rest, &mut self.waiting) {
-            Ok(end) => drop_front(&mut self.rest, end),
-            Err(refused) => {
-                self.rest.truncate(held);
-                return Err(FeedError::from(refused));
-            }
+        if let Err(refused) = cut_frames(
+            self.alloc,
+            self.limit,
+            &mut self.rest,
+            &mut self.waiting,
+        ) {
+            self.rest.truncate(held);
+            return Err(FeedError::from(refused));
         }
         match fault_of(self.limit, &self.rest) {
             None => Ok(self.waiting.len()),
@@ -149,11 +157,13 @@ impl Framer {
             let frame = &self.waiting[i];
             waiting.push_back(frame.copy(self.alloc)?)?;
         }
+        let mut rest = Vec::with_capacity(self.alloc, room_of(self.limit, &self.rest))?;
+        rest.extend_from_slice(&self.rest)?;
         Ok(Framer {
             alloc: self.alloc,
             limit: self.limit,
             waiting,
-            rest: Vec::from_slice(self.alloc, &self.rest)?,
+            rest,
             broken: self.broken,
         })
     }

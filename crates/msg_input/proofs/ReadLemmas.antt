@@ -5,7 +5,8 @@ use Rattle.std.proofs.lemmas.List.{append-nil, length-append}
 use Rattle.std.proofs.lemmas.Bool.{eqb-true}
 use Rattle.std.specs.Io.KnownBytes.{IsAtEnd}
 use Rattle.std.proofs.KnownBytes.{Appends-trans, Consumes-nil}
-use Rattle.dia_frame.specs.Frames.{Frames, joined}
+use Rattle.std.proofs.lemmas.List.Elements.{All-nil}
+use Rattle.dia_frame.specs.Frames.{Frames, IsMessage, joined}
 use Rattle.dia_frame.specs.Framer.{Feeds, FramerState, HoldsNext, Shows}
 use Rattle.dia_frame.specs.declared.fault.FrameFault.{FrameFault}
 use Rattle.dia_frame.specs.declared.fault.FrameFault.TheVariants.{Version, Length, Broken}
@@ -264,6 +265,11 @@ PrintsFront-stays says f g h p q r m s next stays = record {
   };
 }
 
+-- no message of the octets that were taken waits
+Stands-frames : (says : Saying) (first : ℕ) {M : Type 0} (f : FramerState) (r : Report M) (octets written : List ℕ) (fault : Option FrameFault) (s : Stands says first f r octets written fault)
+    → Frames octets 4096 s.messages s.frames.left
+Stands-frames says first f r octets written fault s = rw (s.none_waits, append-nil) at s.frames.frames
+
 -- more text was decoded, and its octets were taken
 pub SoFar-more : (says : Saying) (first : ℕ) {M : Type 0} (old new : Reading M) (before used more made written : List ℕ) (half : Option ℕ) (fault : Option FrameFault)
     → (s : SoFar says first old (before ++ used) written None) → Means old.half more made half → new.half ≡ half → new.characters ≡ old.characters + length more
@@ -291,22 +297,27 @@ pub TakesText-refused : (says : Saying) (first : ℕ) {M : Type 0} (old new : Re
     → answer ≡ Err same_error → same_error ≡ error → text ≡ (used ++ more) ++ back
     → (s : SoFar says first old (before ++ used) written None) → Means old.half more made half → new.half ≡ half → new.characters ≡ old.characters + length more
     → TakesPiece (Err error) (Stands says first new.framer new.report (s.octets ++ made) written) (Halts says first s.stands.messages new.report (s.octets ++ made) written)
-    → TakesText says first answer new before text written
-TakesText-refused says first old new before used more back made written text half answer refusals.BadHex y is same same_text s meaning kept count taken = absurd taken
-TakesText-refused says first old new before used more back made written text half answer (refusals.Frame fault) y is same same_text s meaning kept count taken =
+    → length made ≤ 4096 → TakesText says first answer new before text written
+TakesText-refused says first old new before used more back made written text half answer refusals.BadHex y is same same_text s meaning kept count taken few = absurd taken
+TakesText-refused says first old new before used more back made written text half answer (refusals.Frame fault) y is same same_text s meaning kept count taken few =
     rw (is, same) (used ++ more, back, same_text, SoFar-more says first old new before used more made written half (Some fault) s meaning kept count taken)
-TakesText-refused says first old new before used more back made written text half answer refusals.NoMemory y is same same_text s meaning kept count taken =
+TakesText-refused says first old new before used more back made written text half answer refusals.NoMemory y is same same_text s meaning kept count taken few =
     rw (is, same) (
       used ++ more,
       back,
       same_text,
       record {
         half = half;
-        octets = s.octets ++ made;
-        messages = s.stands.messages ++ taken.more;
+        early = s.octets;
+        late = made;
+        due = s.stands.messages;
+        more = taken.more;
         others = taken.others;
+        waits = s.stands.frames.left;
         rest = taken.rest;
         meaning = rw (← append_assoc before used more) (Means-append None old.half half (before ++ used) more s.octets made s.meaning meaning);
+        few = few;
+        before = Stands-frames says first old.framer old.report s.octets written None s.stands;
         frames = taken.frames;
         printed = taken.printed;
       },
@@ -357,7 +368,7 @@ FrontText-so_far says first reading text written fault so_far =
       rest = s.frames.left;
       refused = reading.report.refused;
       meaning = so_far.meaning;
-      frames = rw (s.none_waits, append-nil) at s.frames.frames;
+      frames = Stands-frames says first reading.framer reading.report so_far.octets written fault s;
       shown = s.frames.shown;
       printed = s.printed;
       octets_before = s.placed;
@@ -371,13 +382,18 @@ ShortText-stays says first reading report text written so_far stays =
     let s = so_far.stands in
     record {
       half = reading.half;
-      octets = so_far.octets;
-      messages = s.messages;
+      early = so_far.octets;
+      late = [];
+      due = s.messages;
+      more = [];
       others = [];
+      waits = s.frames.left;
       rest = s.frames.left;
-      meaning = so_far.meaning;
-      frames = rw (s.none_waits) at s.frames.frames;
-      printed = rw (stays.out, stays.marked) s.printed;
+      meaning = rw append-nil so_far.meaning;
+      few = omega arith;
+      before = Stands-frames says first reading.framer reading.report so_far.octets written None s;
+      frames = simp append-nil (Stands-frames says first reading.framer reading.report so_far.octets written None s);
+      printed = rw (append-nil, stays.out, stays.marked) s.printed;
     }
 
 -- by an answer that is want of memory
@@ -433,10 +449,17 @@ IsPrintedOf-at_end says first P text lines (Refused refusals.NoMemory) refused p
 IsPrintedOf-at_end says first P text lines ReadFailed refused place at_end printed = printed
 IsPrintedOf-at_end says first P text lines TooManyReads refused place at_end printed = printed
 
+starts_none : (m after : List ℕ) → 20 ≤ length m → [] ≡ m ++ after → ⊥
+starts_none [] after least e = omega arith
+starts_none (x ∷ m) after least e = absurd cc
+
+-- no octets hold no message
+frames_of_none : Frames [] 4096 [] []
+frames_of_none = record { parts = refl; each = All-nil (IsMessage 4096); no_more = λ m after h e. starts_none m after h.least e }
+
 -- nothing is printed of no text
 pub HaltedText-none : (says : Saying) (first : ℕ) → HaltedText says first [] [] false
 HaltedText-none says first =
-    let frames = some_frames [] 4096 in
     record {
       front = [];
       back = [];
@@ -444,12 +467,17 @@ HaltedText-none says first =
       near = omega arith;
       before = record {
         half = None;
-        octets = [];
-        messages = [];
-        others = frames.messages;
-        rest = frames.rest;
+        early = [];
+        late = [];
+        due = [];
+        more = [];
+        others = [];
+        waits = [];
+        rest = [];
         meaning = Means-nothing None (λ x e. absurd cc);
-        frames = frames.frames;
+        few = omega arith;
+        before = frames_of_none;
+        frames = frames_of_none;
         printed = (refl, refl);
       };
     }

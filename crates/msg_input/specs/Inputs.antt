@@ -69,18 +69,24 @@ pub record BrokenText (says : Saying) (first : ℕ) (text lines : List ℕ) (pla
   pub half : Option ℕ
   pub before : FrontText says first text half None lines place
 
--- The text means some octets, whose messages begin with these, which are printed.
+-- The text means some octets. Of their messages those in front are printed, among them each that ends before the last 4,096 octets.
 pub record ShortText (says : Saying) (first : ℕ) (text lines : List ℕ) (refused : Bool) : Type 0 where
   pub half : Option ℕ
-  pub octets : List ℕ
-  pub messages : List (List ℕ)
+  pub early : List ℕ
+  pub late : List ℕ
+  pub due : List (List ℕ)
+  pub more : List (List ℕ)
   pub others : List (List ℕ)
+  pub waits : List ℕ
   pub rest : List ℕ
-  pub meaning : Means None text octets half
-  pub frames : Frames octets 4096 (messages ++ others) rest
-  pub printed : PrintsAll says first 0 messages lines refused
+  pub meaning : Means None text (early ++ late) half
+  pub few : length late ≤ 4096
+  pub before : Frames early 4096 due waits
+  pub frames : Frames (early ++ late) 4096 ((due ++ more) ++ others) rest
+  pub printed : PrintsAll says first 0 (due ++ more) lines refused
 
--- Memory ran out: what is printed are the first messages of a front of the text, without which it has at most 65,536 characters.
+-- Memory ran out: what is printed are the first messages of a front of the text, all but those that its last 4,096 octets end, and
+-- behind the front are at most 65,536 characters.
 pub record HaltedText (says : Saying) (first : ℕ) (text lines : List ℕ) (refused : Bool) : Type 0 where
   pub front : List ℕ
   pub back : List ℕ

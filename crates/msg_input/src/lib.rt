@@ -8,9 +8,11 @@ mod manner;
 mod read;
 mod reading;
 mod report;
+mod style;
 
 pub use ends::{End, EndWords, Place, Refusal, placed, unplaced};
 pub use line_read::read_lines_in;
 pub use manner::Manner;
 pub use read::read_in;
 pub use report::Report;
+pub use style::Style;

@@ -14,8 +14,8 @@ use Rattle.msg_input.specs.declared.ends.Refusal.TheVariants as refusals
 use Rattle.msg_input.specs.declared.ends.End.{End}
 use Rattle.msg_input.specs.declared.ends.End.TheVariants.{Whole, Refused, ReadFailed, TooManyReads}
 use Rattle.msg_input.specs.declared.ends.Place.{Place}
-use Rattle.msg_text.specs.declared.manner.Style.{Style}
-use Rattle.msg_text.specs.declared.manner.Style.TheVariants.{Plain, Explained, Json}
+use Rattle.msg_input.specs.declared.style.Style.{Style}
+use Rattle.msg_input.specs.declared.style.Style.TheVariants.{Plain, Explained, Json}
 
 -- plainly: header, AVPs and encoding, or a fault, wherever the message stands
 abbrev pub IsPlain : Saying

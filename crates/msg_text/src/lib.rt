@@ -4,15 +4,13 @@
 mod explaining;
 mod json;
 mod line_ends;
-mod manner;
 mod plain;
 mod read;
 mod show;
 
 pub use explaining::Explaining;
 pub use json::Json;
-pub use manner::Style;
-pub use msg_input::{End, EndWords, Manner, Place, Refusal, Report};
+pub use msg_input::{End, EndWords, Manner, Place, Refusal, Report, Style};
 pub use plain::Plain;
 pub use read::{read_lines, read_on};
 pub use show::{put_fault, put_message};

@@ -7,10 +7,9 @@ ghost use Rattle.msg_text.specs.Styles.{end_in, printed_in};
 
 use crate::explaining::Explaining;
 use crate::json::Json;
-use crate::manner::Style;
 use crate::plain::Plain;
 use bench_device::{ByteSink, ByteSource, MAX_IDLE_WRITES, MAX_READS, Status};
-use msg_input::{read_in, read_lines_in};
+use msg_input::{Style, read_in, read_lines_in};
 use std::alloc::Global;
 
 /// Reads messages in hexadecimal to the end of `source`, and prints them to `sink` in a style.

@@ -1,6 +1,6 @@
 //! From a deed of a peer's machine to the message that it sends.
 
-ghost use Rattle.std.specs.Prelude.{◌≡◌, ◌∷◌, [], Some, IfOk, slice_index};
+ghost use Rattle.std.specs.Prelude.{◌≡◌, ◌∷◌, [], true, Some, is_some, IfOk, OnErr, slice_index};
 ghost use Rattle.base_codes.specs.declared.deed_code.DeedCode.TheVariants.{SndCer, SndCea, SndDwa, SndDpr, SndDpa};
 ghost use Rattle.deed_message.specs.Headers.{lowest};
 ghost use Rattle.dia_write.specs.Answer.{made};
@@ -157,7 +157,10 @@ pub fn peer_message(
     deed: &Deed,
     names: &Names<'_>,
 ) -> Result<Option<Command>, AllocError>
-    ensures { IfOk result (λ message. message ≡ message_of names.now.identity.now deed.now) }
+    ensures message { IfOk result (λ message. message ≡ message_of names.now.identity.now deed.now) }
+
+    // Memory can be wanting only for a message.
+    ensures memory { OnErr result (is_some (message_of names.now.identity.now deed.now) ≡ true) }
 {
     let identity = names.identity;
     Ok(match DeedCode::coded(deed.code) {

@@ -1,14 +1,11 @@
-use Rattle.std.proofs.Common.{◌≡◌, ◌+◌, ◌-◌, drop, Some, sym, ap, ◌∙◌, arith}
-use Rattle.std.proofs.lemmas.List.{take_rest}
-use Rattle.dia_frame.specs.Whole.{whole_len}
-use Rattle.dia_frame.proofs.FrameLemmas.{begins, goes_on}
+use Rattle.std.proofs.Common.{◌<◌, drop, vec_capacity}
+use Rattle.dia_frame.specs.Whole.{room_of, CutsUpTo}
+use Rattle.dia_frame.proofs.FrameLemmas.{room_lacks}
 use Rattle.dia_frame.proofs.cut.cut_frames.Goals as goal
 
-pub loop-len-init : goal.loop-len-init
-loop-len-init c = begins c.args.limit c.args.octets.now c.args.waiting.now.items
-
-pub loop-len-preserved : goal.loop-len-preserved
-loop-len-preserved c =
-    let found : whole_len c.args.limit (drop c.loop-len.end c.args.octets.now) ≡ Some c.in-Some.len = ap (whole_len c.args.limit) (sym (take_rest c.args.octets.now c.loop-len.end)) ∙ sym c.in-Some.ensures in
-    let size : c.loop-len.end + c.in-Some.len - c.loop-len.end ≡ c.in-Some.len = omega arith in
-    rw (c.in-Ok.ensures.ok, size) (goes_on c.args.limit c.args.octets.now c.args.waiting.now.items c.loop-len.waiting.items c.loop-len.end c.in-Some.len c.loop-len.invariant found)
+pub returns-in-Err-clause-need : goal.returns-in-Err-clause-need
+returns-in-Err-clause-need c =
+    let octets = c.args.octets.now.items in
+    let cuts : CutsUpTo octets c.args.limit c.args.waiting.now.items c.push_frames.new.waiting.items c.in_ok-end.end = rw c.deref.ensures.value at c.in_ok-end.ensures.ok in
+    let lacks : vec_capacity c.args.octets.now < room_of c.args.limit (drop c.in_ok-end.end octets) = c.in-Err.ensures.need in
+    room_lacks (vec_capacity c.args.octets.now) c.args.limit octets (drop c.in_ok-end.end octets) cuts.1.came cuts.1.frames lacks

@@ -1,11 +1,11 @@
-use Rattle.std.proofs.Common.{◌≡◌, ◌++◌, ◌+◌, ◌-◌, length, take, drop, get_or, sym, ap, subst, ◌∙◌, arith}
+use Rattle.std.proofs.Common.{◌≡◌, ◌++◌, ◌+◌, ◌-◌, ◌≤◌, length, take, drop, get_or, sym, ap, subst, ◌∙◌, arith}
 use Rattle.std.proofs.lemmas.List.{length-take-le, take_rest}
 use Rattle.std.proofs.lemmas.Result.{err_from_is_err_and}
 use Rattle.bench_text.specs.Stops.{StopsBy}
 use Rattle.bench_text.specs.declared.digits.Stop.{Stop}
 use Rattle.bench_text.specs.declared.digits.Stop.TheVariants.{BadCharacter}
 use Rattle.bench_text.proofs.Meaning.{cut_at, front_more}
-use Rattle.msg_input.proofs.ReadLemmas.{SoFar-more, SoFar-whole, TakesText-refused}
+use Rattle.msg_input.proofs.ReadLemmas.{SoFar-more, SoFar-whole, TakesText-refused, front_is_no_longer}
 use Rattle.msg_input.proofs.reading.Reading.take_text.Goals as goal
 
 -- a piece was refused
@@ -20,9 +20,10 @@ returns-in_err-take_piece-clause-taken g c = λ first before written so_far.
     let within = length-take-le decoded.used rest c.decode-decoded.ensures.used in
     let count : c.take_piece.new.self.characters ≡ c.pieces.self.characters + length (take decoded.used rest) = omega arith in
     let taken = c.in_err-take_piece.ensures.stands first so.octets written so.stands in
+    let few : length (take decoded.made c.decode-decoded.new.piece) ≤ 4096 = let shorter = front_is_no_longer decoded.made c.decode-decoded.new.piece in omega arith in
     TakesText-refused g.M.Manner.Says first c.pieces.self c.take_piece.new.self before used (take decoded.used rest) (drop decoded.used rest) _ written c.args.text.now decoded.half
     c.from_residual.result c.in_err-take_piece.field-0.0 answer.0 answer.1 answer.2
-    (c.pieces.invariant.1 ∙ front_more used rest decoded.used) so c.decode-decoded.ensures.meaning c.take_piece.ensures.kept.0 count taken
+    (c.pieces.invariant.1 ∙ front_more used rest decoded.used) so c.decode-decoded.ensures.meaning c.take_piece.ensures.kept.0 count taken few
 
 -- the character where decoding stopped
 pub returns-in-BadCharacter-clause-taken : goal.returns-in-BadCharacter-clause-taken

@@ -1,6 +1,8 @@
-//! The styles of what is printed.
+//! The names of the manners in which the program prints messages.
 
-/// The styles of what is printed.
+/// In which of the program's manners messages are printed.
+///
+/// A style is a name that words on a command line ask for. A [`crate::Manner`] does the printing: `msg_text` has one for each style.
 #[derive(Clone, Copy, PartialEq, Eq)]
 pub enum Style {
     /// Numbers and hexadecimal: a line for the header, for each AVP and for the encoding; `fault` with its Result-Code.
