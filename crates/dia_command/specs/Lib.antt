@@ -2,5 +2,6 @@ pub mod Header
 pub mod Value
 pub mod Format
 pub mod Field
+pub mod Forms
 pub mod Command
 pub mod Laws

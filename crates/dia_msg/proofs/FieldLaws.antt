@@ -10,6 +10,8 @@ use Rattle.dia_command.specs.declared.kind.CommandKind.TheVariants as kinds
 use Rattle.dia_command.specs.declared.typed.TypedAvp.{TypedAvp}
 use Rattle.dia_command.specs.Field.{Field, Octets, Numbers, Types, Actions, Groups, IsOctets, IsNumber, IsType, IsAction, IsGroup, IsTypedOf, AreTypedOf, IsFieldOf}
 use Rattle.dia_command.specs.Command.{kind_of, fields}
+use Rattle.dia_command.specs.Forms.{form_of, forms}
+use Rattle.dia_command.proofs.SameLaws.{forms_are}
 use Rattle.dia_msg.specs.Reading.{AreFields}
 
 some_is : {T : Type 0} (x y : T) → Some x ≡ Some y → x ≡ y
@@ -53,15 +55,7 @@ same_values Is (x ∷ xs) [] (a ∷ list) one h k = absurd k
 same_values Is (x ∷ xs) (y ∷ ys) [] one h k = absurd h
 same_values Is (x ∷ xs) (y ∷ ys) (a ∷ list) one h k = rw (same_value Is x y a one h.0 k.0, same_values Is xs ys list one h.1 k.1) refl
 
--- which form of values a field has
-abbrev shape : Field → ℕ
-shape (Octets values) = 0
-shape (Numbers values) = 1
-shape (Types values) = 2
-shape (Actions values) = 3
-shape (Groups values) = 4
-
-one_field : (d : List Definition) (x y : Field) (list : List Avp) → IsFieldOf d x list → IsFieldOf d y list → shape x ≡ shape y → x ≡ y
+one_field : (d : List Definition) (x y : Field) (list : List Avp) → IsFieldOf d x list → IsFieldOf d y list → form_of x ≡ form_of y → x ≡ y
 one_field d (Octets v) (Octets w) list h k e = ap (λ l. Octets l) (same_values IsOctets v w list one_octets h k)
 one_field d (Octets v) (Numbers w) list h k e = absurd cc
 one_field d (Octets v) (Types w) list h k e = absurd cc
@@ -91,43 +85,16 @@ one_field d (Groups v) (Groups w) list h k e = ap (λ l. Groups l) (same_values 
 both : (x y : Field) (xs ys : List Field) → x ≡ y → xs ≡ ys → x ∷ xs ≡ y ∷ ys
 both x y xs ys e f = rw (e, f) refl
 
-one_list : (d : List Definition) (xs ys : List Field) (groups : List (List Avp)) → AreFields d xs groups → AreFields d ys groups → map shape xs ≡ map shape ys → xs ≡ ys
+one_list : (d : List Definition) (xs ys : List Field) (groups : List (List Avp)) → AreFields d xs groups → AreFields d ys groups → map form_of xs ≡ map form_of ys → xs ≡ ys
 one_list d [] [] groups h k e = refl
 one_list d [] (y ∷ ys) groups h k e = absurd cc
 one_list d (x ∷ xs) [] groups h k e = absurd cc
 one_list d (x ∷ xs) (y ∷ ys) [] h k e = absurd h
 one_list d (x ∷ xs) (y ∷ ys) (g ∷ groups) h k e =
-    let first : shape x ≡ shape y = cc in
-    let later : map shape xs ≡ map shape ys = cc in
+    let first : form_of x ≡ form_of y = cc in
+    let later : map form_of xs ≡ map form_of ys = cc in
     both x y xs ys (one_field d x y g h.0 k.0 first) (one_list d xs ys groups h.1 k.1 later)
-
--- the forms of a kind of command
-abbrev shapes : CommandKind → List ℕ
-shapes kinds.CapabilitiesExchangeRequest = 0 ∷ 0 ∷ 0 ∷ 1 ∷ 0 ∷ 1 ∷ []
-shapes kinds.CapabilitiesExchangeAnswer = 1 ∷ 0 ∷ 0 ∷ 0 ∷ 1 ∷ 0 ∷ 1 ∷ []
-shapes kinds.DeviceWatchdogRequest = 0 ∷ 0 ∷ []
-shapes kinds.DeviceWatchdogAnswer = 1 ∷ 0 ∷ 0 ∷ []
-shapes kinds.DisconnectPeerRequest = 0 ∷ 0 ∷ 1 ∷ []
-shapes kinds.DisconnectPeerAnswer = 1 ∷ 0 ∷ 0 ∷ []
-shapes kinds.ReAuthRequest = 0 ∷ 0 ∷ 0 ∷ 0 ∷ 0 ∷ 1 ∷ 1 ∷ []
-shapes kinds.ReAuthAnswer = 0 ∷ 1 ∷ 0 ∷ 0 ∷ []
-shapes kinds.CreditControlRequest = 0 ∷ 0 ∷ 0 ∷ 0 ∷ 1 ∷ 0 ∷ 2 ∷ 1 ∷ 4 ∷ 3 ∷ 4 ∷ 4 ∷ 1 ∷ 4 ∷ []
-shapes kinds.CreditControlAnswer = 0 ∷ 1 ∷ 0 ∷ 0 ∷ 1 ∷ 2 ∷ 1 ∷ 4 ∷ 4 ∷ 1 ∷ 4 ∷ []
-shapes kinds.ErrorAnswer = 0 ∷ 0 ∷ 0 ∷ 1 ∷ 0 ∷ []
-
-shapes_are : (c : Command) → map shape (fields c) ≡ shapes (kind_of c)
-shapes_are (Cer c) = refl
-shapes_are (Cea c) = refl
-shapes_are (Dwr c) = refl
-shapes_are (Dwa c) = refl
-shapes_are (Dpr c) = refl
-shapes_are (Dpa c) = refl
-shapes_are (Rar c) = refl
-shapes_are (Raa c) = refl
-shapes_are (Ccr c) = refl
-shapes_are (Cca c) = refl
-shapes_are (ErrorAnswer c) = refl
 
 -- two commands of one kind whose fields are read from the same AVPs have the same fields
 pub same_fields : (d : List Definition) (c b : Command) (groups : List (List Avp)) → AreFields d (fields c) groups → AreFields d (fields b) groups → kind_of c ≡ kind_of b → fields c ≡ fields b
-same_fields d c b groups h k e = one_list d (fields c) (fields b) groups h k (shapes_are c ∙ ap shapes e ∙ sym (shapes_are b))
+same_fields d c b groups h k e = one_list d (fields c) (fields b) groups h k (forms_are c ∙ ap forms e ∙ sym (forms_are b))

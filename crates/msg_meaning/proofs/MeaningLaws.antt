@@ -19,7 +19,9 @@ use Rattle.dia_command.specs.declared.value.RequestType.TheVariants.{Initial}
 use Rattle.dia_command.specs.declared.value.RequestedAction.TheVariants.{DirectDebiting}
 use Rattle.dia_command.specs.Command.{kind_of, header_of, rest_of, fields}
 use Rattle.dia_command.specs.Field.{Field, Octets, Numbers, Types, Actions, Groups, number_in, type_in, action_in, IsOctets, IsNumber, IsType, IsAction, IsGroup, IsTypedOf, AreTypedOf, IsFieldOf}
+use Rattle.dia_command.specs.Forms.{Form, form_of, forms, command_of}
 use Rattle.dia_command.specs.Header.{header_in}
+use Rattle.dia_command.proofs.SameLaws.{command_again, forms_are}
 use Rattle.dia_msg.specs.Faults.{kind_read, format_read}
 use Rattle.dia_msg.specs.declared.fault.MsgError.{MsgError}
 use Rattle.dia_msg.specs.declared.fault.MsgError.TheVariants as msg_errors
@@ -28,7 +30,7 @@ use Rattle.dia_msg.specs.Taken.{groups, untaken}
 use Rattle.dia_msg.specs.Walk.{whole_avps, faults}
 use Rattle.dia_msg.proofs.ReadingLaws.{AreEach-again}
 use Rattle.dia_msg.proofs.RelationLaws.{HasFaults-again, first_again}
-use Rattle.msg_meaning.specs.Meaning.{Form, OfOctets, OfNumbers, OfTypes, OfActions, OfGroups, forms, typed_by, group_in, field_of, fields_of, command_of, command_by, command_in, answer_by, meaning}
+use Rattle.msg_meaning.specs.Meaning.{typed_by, group_in, field_of, fields_of, command_by, command_in, answer_by, meaning}
 
 -- data have one value
 abbrev Gives : {T : Type 0} → (List ℕ → T → Type 0) → (List ℕ → T) → Type 0
@@ -64,13 +66,6 @@ values_are Is value [] (a ∷ list) gives h = absurd h
 values_are Is value (v ∷ vs) [] gives h = absurd h
 values_are Is value (v ∷ vs) (a ∷ list) gives h = rw (value_is Is value v a gives h.0, values_are Is value vs list gives h.1) refl
 
-abbrev form_of : Field → Form
-form_of (Octets values) = OfOctets
-form_of (Numbers values) = OfNumbers
-form_of (Types values) = OfTypes
-form_of (Actions values) = OfActions
-form_of (Groups values) = OfGroups
-
 field_is : (d : List Definition) (field : Field) (list : List Avp) → IsFieldOf d field list → field ≡ field_of d (form_of field) list
 field_is d (Octets vs) list h = ap (λ l. Octets l) (values_are IsOctets (λ octets. octets) vs list gives_octets h)
 field_is d (Numbers vs) list h = ap (λ l. Numbers l) (values_are IsNumber (λ octets. unwrap_or (number_in octets) 0) vs list gives_number h)
@@ -86,38 +81,6 @@ fields_are d [] [] h = refl
 fields_are d [] (a ∷ lists) h = absurd h
 fields_are d (x ∷ xs) [] h = absurd h
 fields_are d (x ∷ xs) (a ∷ lists) h = both x _ xs _ (field_is d x a h.0) (fields_are d xs lists h.1)
-
-forms_are : (c : Command) → map form_of (fields c) ≡ forms (kind_of c)
-forms_are (Cer c) = refl
-forms_are (Cea c) = refl
-forms_are (Dwr c) = refl
-forms_are (Dwa c) = refl
-forms_are (Dpr c) = refl
-forms_are (Dpa c) = refl
-forms_are (Rar c) = refl
-forms_are (Raa c) = refl
-forms_are (Ccr c) = refl
-forms_are (Cca c) = refl
-forms_are (ErrorAnswer c) = refl
-
-first_is : {T : Type 0} → (x : Option T) → slice_get (option_to_list x) 0 ≡ x
-first_is None = refl
-first_is (Some x) = refl
-
--- kind, header, fields and rest give the command again
-command_again : (c : Command) → command_of (kind_of c) (header_of c) (fields c) (rest_of c) ≡ Some c
-unfolding command_of
-command_again (Cer c) = refl
-command_again (Cea c) = refl
-command_again (Dwr c) = refl
-command_again (Dwa c) = refl
-command_again (Dpr c) = refl
-command_again (Dpa c) = refl
-command_again (Rar c) = refl
-command_again (Raa c) = refl
-command_again (Ccr c) = rw (first_is c.requested_action, first_is c.requested_service_unit, first_is c.multiple_services_indicator) refl
-command_again (Cca c) = rw (first_is c.granted_service_unit, first_is c.final_unit_indication, first_is c.check_balance_result) refl
-command_again (ErrorAnswer c) = rw (first_is c.session_id, first_is c.failed_avp) refl
 
 -- the command that AVPs mean as a kind
 command_is : (d : List Definition) (header : Header) (list : List Avp) (c : Command) → header_of c ≡ header → AreFields d (fields c) (groups (format_read header list) list) → rest_of c ≡ map (canonical d 4) (untaken (format_read header list) list)
