@@ -1,0 +1,22 @@
+# What bench/run and bench/check share. `top` is the repository.
+
+# Makes a benchmark a crate of the workspace `work`: its program, and the files of other crates that it takes in as its own. Each line of
+# bench/NAME/taken names a crate and some of its files and folders; what bench/NAME/more/FILE.txt has stands below the text of FILE, so
+# that a benchmark can measure apart what is private there.
+add_program() {
+    local name=$1 work=$2 src=$top/bench/$1 own=$2/crates/bench_of_$1 crate paths path
+    mkdir -p "$own/src"
+    cp "$src/main.rt.txt" "$own/src/main.rt"
+    echo "bench_of_$name: $(cat "$src/deps")" >>"$work/crates.txt"
+    [ -f "$src/taken" ] || return 0
+    while read -r crate paths; do
+        for path in $paths; do
+            mkdir -p "$(dirname "$own/$path")"
+            cp -r "$top/crates/$crate/$path" "$own/$path"
+            find "$own/$path" -type f -exec sed -i "s/Rattle\.$crate\./Rattle.bench_of_$name./g" {} +
+        done
+    done <"$src/taken"
+    for path in "$src"/more/src/*.rt.txt; do
+        [ ! -f "$path" ] || cat "$path" >>"$own/src/$(basename "$path" .txt)"
+    done
+}
