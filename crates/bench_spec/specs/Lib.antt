@@ -24,3 +24,5 @@ pub mod Examples
 pub mod OpeningExamples
 pub mod LogExamples
 pub mod Taken
+pub mod Debug
+pub mod Desks
