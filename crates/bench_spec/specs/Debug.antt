@@ -16,7 +16,8 @@ use Rattle.bench_spec.specs.Settings.{table_of}
 use Rattle.bench_spec.specs.Taken.{GoesBackTo, Run, Takes, shown}
 use Rattle.bench_spec.specs.World.{Breakpoint, first_met}
 
--- a debugger: its world; its script and the place in it of the next step; of each step that it took and did not take back the place in
+-- a debugger: its world; its script and the place in it of the next step; of each step that it took and did not take
+-- back the place in
 -- the script; and the breakpoints that are set, with how many ever were
 pub record Debugging : Type 0 where
   pub world : Run
@@ -38,7 +39,8 @@ pub data Command : Type 0 where
   TotalsOf : ℕ → Command
   Where : Command
 
--- what is replied: an entry; the end of the script; a place; a place where a breakpoint was met, or the script's end; the number of a
+-- what is replied: an entry; the end of the script; a place; a place where a breakpoint was met, or the script's end;
+-- the number of a
 -- breakpoint that was set or cleared; a machine; a row; totals; the place, and the places in the script and at its end
 pub data Reply : Type 0 where
   Did : Entry → Reply
@@ -154,7 +156,8 @@ Replies old new Where (IsAt place next last) =
     (place ≡ place_of old) × (next ≡ old.next) × (last ≡ length old.script) × (new ≡ old)
 Replies old new command reply = ⊥
 
--- a command that takes no step: replied to where no reason stands in its way, else refused by the first; or memory was wanting
+-- a command that takes no step: replied to where no reason stands in its way, else refused by the first; or memory was
+-- wanting
 abbrev pub Answers : Debugging → Debugging → Command → Result Reply CommandFault → Type 0
 Answers old new command (Ok reply) = (command_refusal old command ≡ None) × Replies old new command reply
 Answers old new command (Err fault) = (unwrap_or (command_refusal old command) NoMemory ≡ fault) × (new ≡ old)

@@ -16,7 +16,8 @@ use Rattle.bench_spec.specs.Refusal.{is_crowded, may_tell}
 use Rattle.bench_spec.specs.Settings.{Settings}
 use Rattle.bench_spec.specs.Taken.{Run, opened, with_log}
 
--- why a tell or a look is refused: there is no such machine or event, the inbox has as many items as may wait, or the shard's counts
+-- why a tell or a look is refused: there is no such machine or event, the inbox has as many items as may wait, or the
+-- shard's counts
 -- contradict the desk's own
 pub data DeskFault : Type 0 where
   Unknown : DeskFault
@@ -32,11 +33,16 @@ abbrev pub tell_fault : Settings → List MachineItem → Key → ℕ → DeskFa
 tell_fault settings waiting key kind =
     unwrap_or (option_map (λ r. r.1) (find (λ r. r.0) (tell_reasons settings waiting key kind))) NoMemory
 
--- what a desk keeps of a tell that was taken: Told and Lift, with their stamps; the third stamp is that of the shard's Drop
+-- what a desk keeps of a tell that was taken: Told and Lift, with their stamps; the third stamp is that of the shard's
+-- Drop
 abbrev pub tell_kept : ℕ → List ℕ → Key → Event → List Kept
 tell_kept desk (told ∷ lifted ∷ stamps) key event =
     Did (record { stamp = told; entry = record { step = Told desk key event; item = None; handled = None } })
-    ∷ Did (record { stamp = lifted; entry = record { step = Lift (Desk desk); item = Some (told_item key event); handled = None } })
+    ∷ Did (record {
+      stamp = lifted;
+      entry =
+          record { step = Lift (Desk desk); item = Some (told_item key event); handled = None };
+    })
     ∷ []
 tell_kept desk stamps key event = []
 
@@ -44,7 +50,8 @@ tell_kept desk stamps key event = []
 abbrev pub told_count : Settings → ℕ → List Kept → ℕ → ℕ
 told_count settings desk kept shard =
     length
-    (filter (is_item_for settings.node shard) (posts settings (map (λ s. s.entry) (flat_map entries_kept kept)) (Desk desk)))
+    (filter (is_item_for settings.node shard)
+    (posts settings (map (λ s. s.entry) (flat_map entries_kept kept)) (Desk desk)))
 
 abbrev pub seen_count : Settings → List Kept → ℕ → ℕ
 seen_count settings kept shard =
@@ -53,7 +60,8 @@ seen_count settings kept shard =
     (last_or None (filter (λ l. home settings.node.shards l.key.name == shard) (flat_map looks_kept kept))))
     0
 
--- a look agrees with what its desk kept: all that it told the shard waits there or was handled, and no less was handled than before
+-- a look agrees with what its desk kept: all that it told the shard waits there or was handled, and no less was handled
+-- than before
 abbrev pub agrees : Settings → ℕ → List Kept → Look → Bool
 agrees settings desk kept look =
     (look.waiting + look.handled == told_count settings desk kept (home settings.node.shards look.key.name))
@@ -65,7 +73,8 @@ pub record IsLongest (settings : Settings) (log : List Entry) (n : ℕ) : Type 0
   pub legal : IsLegal settings (take n log)
   pub longest : n < length log → IsLegal settings (take (n + 1) log) → ⊥
 
--- what parts are gathered to: the world of the log as which they are merged, where that is legal; else the length of its longest front
+-- what parts are gathered to: the world of the log as which they are merged, where that is legal; else the length of
+-- its longest front
 -- that is, or 0 where the stamps give no such log
 abbrev pub Gathers : Settings → Parts → Result Run ℕ → Type 0
 Gathers settings parts (Ok world) =

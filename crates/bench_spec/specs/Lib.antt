@@ -19,6 +19,7 @@ pub mod ExampleLog
 pub mod SessionLog
 pub mod ChargeLog
 pub mod MergedLog
+pub mod BusyLog
 pub mod LineExamples
 pub mod Examples
 pub mod OpeningExamples
