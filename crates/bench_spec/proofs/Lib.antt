@@ -14,6 +14,7 @@ pub mod TextLemmas
 pub mod SessionLemmas
 pub mod ChargeLemmas
 pub mod MergedLemmas
+pub mod BusyLemmas
 pub mod PauseLemmas
 pub mod LineLemmas
 pub mod ExampleLemmas

@@ -98,7 +98,7 @@ place_if_any p (x ∷ xs) any = by (place_if_any p xs) (p x) refl
     by later true is = rw is (omega arith)
     by later false is = rw is (let below = later (sym (ap (λ b. b || list_any p xs) is) ∙ any) in omega (arith, below))
 
-none_if_no : {X : Type 0} (p : X → Bool) (xs : List X) (d : X) → list_any p xs ≡ false
+pub none_if_no : {X : Type 0} (p : X → Bool) (xs : List X) (d : X) → list_any p xs ≡ false
     → nat_lt (position_or_len p xs) (length xs) ≡ false
 none_if_no p xs d fails = by (nat_lt (position_or_len p xs) (length xs)) refl
   where

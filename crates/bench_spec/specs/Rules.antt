@@ -2,7 +2,7 @@
 use Rattle.std.specs.Prelude.{ℕ}
 use Rattle.bench_item.specs.Keys.{peers_of}
 use Rattle.bench_item.specs.Lines.{LineRules}
-use Rattle.bench_line.specs.Talk.{meaning, rules_of}
+use Rattle.bench_line.specs.Talk.{Meaning, meaning, rules_of}
 use Rattle.line_message.specs.Heard.{heard}
 use Rattle.line_message.specs.Hearing.{Hearing, hearing}
 use Rattle.line_message.specs.Sent.{message_octets}
@@ -14,7 +14,10 @@ abbrev pub listening : Settings → Hearing
 listening settings =
     hearing settings.identity settings.dictionary (peers_of settings.node) settings.default_units settings.node.laws
 
--- the rules of the line of that number: the messages of its stream, by what they mean to who listens
+-- what messages, events and deeds mean on them
+abbrev pub meaning_of : Settings → Meaning
+meaning_of settings = meaning heard turned (λ who item. message_octets who.identity item) (listening settings)
+
+-- the rules of the line of that number: the messages of its stream, by what they mean
 abbrev pub rules_at : Settings → ℕ → LineRules
-rules_at settings line =
-    rules_of (meaning heard turned (λ who item. message_octets who.identity item) (listening settings)) line
+rules_at settings line = rules_of (meaning_of settings) line

@@ -1,4 +1,5 @@
 //! Logs that are legal, whole.
+ghost use Rattle.bench_spec.specs.BusyLog as busy;
 ghost use Rattle.bench_spec.specs.ChargeLog as charge;
 ghost use Rattle.bench_spec.specs.ExampleLog as example;
 ghost use Rattle.bench_spec.specs.Legal.{IsLegal};
@@ -32,4 +33,9 @@ pub fn refused_log_is_legal()
 /// The parts of two shards and two desks, each of which looked once, are merged as that log.
 pub fn charge_log_is_merged()
     ensures { IsMerged charge.settings merged.parts charge.log }
+{}
+
+/// A log of four entries is legal in which a session finds no room: its shard has the machines of 4,096 peers.
+pub fn busy_log_is_legal()
+    ensures { IsLegal (busy.settings_with busy.full) busy.log }
 {}

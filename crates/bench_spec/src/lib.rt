@@ -2,12 +2,12 @@
 //!
 //! | File of `specs/` | What it has |
 //! |---|---|
-//! | `Settings` | what a bench is opened with, and what octets mean to a line |
-//! | `Lines`, `Machines`, `Items`, `Booked`, `Sent` | views of a log: each is what one entry gives, joined |
+//! | `Settings`, `Rules`, `Opening` | what a bench is opened with, what octets mean to its lines, why it is not opened |
+//! | `Lines`, `Machines`, `Items`, `Booked`, `Sent`, `Own` | views of a log: each is what one entry gives, joined |
 //! | `Refusal` | why a step is refused |
 //! | `Legal` | which logs are right |
-//! | `World` | the bench at a place of its log, and breakpoints |
-//! | `Merged` | parts that were kept side by side, merged to one log |
+//! | `World`, `Merged` | the bench at a place of its log, and breakpoints; parts merged to one log |
+//! | `Taken`, `Debug`, `Desks` | what the calls of a world, a debugger and a bench in threads promise |
 //!
 //! `docs/WHOLE.md` has each of them in plain words.
 #![tactic(auto)]
@@ -17,8 +17,8 @@ mod law;
 mod opening;
 
 pub use example::{
-    charge_log_is_legal, charge_log_is_merged, example_is_legal, refused_log_is_legal,
-    session_log_is_legal,
+    busy_log_is_legal, charge_log_is_legal, charge_log_is_merged, example_is_legal,
+    refused_log_is_legal, session_log_is_legal,
 };
 pub use law::{
     fronts_are_legal, legal_book_is_answered, legal_goes_back, legal_goes_on, legal_is_own_run,
