@@ -12,6 +12,7 @@ use Rattle.bench_item.specs.declared.opening.Opening.{Opening}
 use Rattle.bench_item.specs.Lines.{LineStep, Acknowledged, Received, Gone, Delivered}
 use Rattle.bench_line.specs.declared.fault.LineFault.{LineFault}
 use Rattle.bench_line.specs.declared.line.Before.{Before}
+use Rattle.bench_line.specs.declared.line.FramerBefore.TheVariants.{Same}
 use Rattle.bench_line.specs.Before.{before_of, restored}
 use Rattle.bench_line.specs.Line.{LineView, Stands, acknowledged, lost, delivered}
 use Rattle.bench_line.specs.Lines.{IsPlace, Past, StandFor, StandFrom, fault_at, line_at, put_out, with_line, with_step, refusal_by, dialled_refused, came_refused, lost_refused, dialled_refusal, came_refusal, lost_refusal}
@@ -68,13 +69,13 @@ delivered-stands m ls line place item l new p e n =
 pub undone : (ls : List LineView) (line place : ℕ) (l new : LineView) (before : Before) → IsPlace ls line place → l ≡ get_or ls place l → restored before new ≡ l → with_line line (restored before) (set ls place new) ≡ ls
 undone ls line place l new before p e r = (changed ls line place l new p (at_place ls line place l p e)).back (restored before) r
 
-pub dialled-undone : (m : Meaning) (line : ℕ) (l new : LineView) (before : Before) → new ≡ acknowledged m line l → before ≡ before_of None l → restored before new ≡ l
+pub dialled-undone : (m : Meaning) (line : ℕ) (l new : LineView) (before : Before) → new ≡ acknowledged m line l → before ≡ before_of Same l → restored before new ≡ l
 dialled-undone m line l new before n b = rw (n, b) (restored-acknowledged m line l)
 
-pub lost-undone : (m : Meaning) (line : ℕ) (l new : LineView) (before : Before) → new ≡ lost m line l → before ≡ before_of None l → restored before new ≡ l
+pub lost-undone : (m : Meaning) (line : ℕ) (l new : LineView) (before : Before) → new ≡ lost m line l → before ≡ before_of Same l → restored before new ≡ l
 lost-undone m line l new before n b = rw (n, b) (restored-lost m line l)
 
-pub delivered-undone : (m : Meaning) (item : LineItem) (l new : LineView) (before : Before) → new ≡ delivered m item l → before ≡ before_of None l → restored before new ≡ l
+pub delivered-undone : (m : Meaning) (item : LineItem) (l new : LineView) (before : Before) → new ≡ delivered m item l → before ≡ before_of Same l → restored before new ≡ l
 delivered-undone m item l new before n b = rw (n, b) (restored-delivered m item l)
 
 -- how many items were put out

@@ -1,11 +1,12 @@
 -- A change of one line: what was put out, and how it is taken back.
-use Rattle.std.proofs.Common.{◌≡◌, ℕ, zero, suc, ◌+◌, ◌-◌, Bool, true, false, List, [], ◌∷◌, ◌++◌, length, take, set, Some, None, refl, sym, ap, ◌∙◌, arith}
+use Rattle.std.proofs.Common.{◌≡◌, ℕ, zero, suc, ◌+◌, ◌-◌, Bool, true, false, List, [], ◌∷◌, ◌++◌, length, take, set, Some, refl, sym, ap, ◌∙◌, arith}
 use Rattle.std.specs.Prelude.{slice_get, ◌==◌, if◌then◌else◌}
 use Rattle.std.proofs.lemmas.List.{take_at, length-take, take_all}
 use Rattle.bench_item.specs.declared.item.Item.{Item}
 use Rattle.bench_item.specs.declared.item.LineItem.{LineItem}
 use Rattle.bench_item.specs.declared.line_state.LineState.{LineState}
 use Rattle.bench_line.specs.declared.line.Before.{Before}
+use Rattle.bench_line.specs.declared.line.FramerBefore.TheVariants.{Same}
 use Rattle.bench_line.specs.Before.{before_of, restored}
 use Rattle.bench_line.specs.Line.{LineView, acknowledged, lost, delivered, is_shut, state_behind}
 use Rattle.bench_line.specs.Lines.{IsPlace, line_at, put_out, with_line, with_line_at}
@@ -41,21 +42,21 @@ changed ls line place l new p e = record {
 
 -- What is behind a line's first items and octets is taken back.
 restored-more : (l : LineView) (x : LineState) (outbox : List Item) (sent : List ℕ) → take (length l.outbox) outbox ≡ l.outbox → take (length l.sent) sent ≡ l.sent
-    → restored (before_of None l) (record l { state = x; outbox = outbox; sent = sent }) ≡ l
+    → restored (before_of Same l) (record l { state = x; outbox = outbox; sent = sent }) ≡ l
 restored-more l x outbox sent o s =
     let P : List Item → List ℕ → LineView = λ xs ys. record l { outbox = xs; sent = ys } in
     ap (λ (xs : List Item). P xs (take (length l.sent) sent)) o ∙ ap (P l.outbox) s
 
-pub restored-acknowledged : (m : Meaning) (line : ℕ) (l : LineView) → restored (before_of None l) (acknowledged m line l) ≡ l
+pub restored-acknowledged : (m : Meaning) (line : ℕ) (l : LineView) → restored (before_of Same l) (acknowledged m line l) ≡ l
 restored-acknowledged m line l = restored-more l (acknowledged m line l).state (acknowledged m line l).outbox l.sent (take_at l.outbox _ (length l.outbox) refl) (take_all (length l.sent) l.sent (omega arith))
 
-pub restored-lost : (m : Meaning) (line : ℕ) (l : LineView) → restored (before_of None l) (lost m line l) ≡ l
+pub restored-lost : (m : Meaning) (line : ℕ) (l : LineView) → restored (before_of Same l) (lost m line l) ≡ l
 restored-lost m line l = restored-more l (lost m line l).state (lost m line l).outbox l.sent (take_at l.outbox _ (length l.outbox) refl) (take_all (length l.sent) l.sent (omega arith))
 
-pub restored-delivered : (m : Meaning) (item : LineItem) (l : LineView) → restored (before_of None l) (delivered m item l) ≡ l
+pub restored-delivered : (m : Meaning) (item : LineItem) (l : LineView) → restored (before_of Same l) (delivered m item l) ≡ l
 restored-delivered m item l = by (is_shut l.state)
   where
-    by : (b : Bool) → restored (before_of None l) (if b then l else record l { state = state_behind item l.state; sent = l.sent ++ m.octets_of item }) ≡ l
+    by : (b : Bool) → restored (before_of Same l) (if b then l else record l { state = state_behind item l.state; sent = l.sent ++ m.octets_of item }) ≡ l
     by true = restored-more l l.state l.outbox l.sent (take_all (length l.outbox) l.outbox (omega arith)) (take_all (length l.sent) l.sent (omega arith))
     by false = restored-more l (state_behind item l.state) l.outbox (l.sent ++ m.octets_of item) (take_all (length l.outbox) l.outbox (omega arith)) (take_at l.sent (m.octets_of item) (length l.sent) refl)
 

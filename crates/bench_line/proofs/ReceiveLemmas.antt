@@ -17,10 +17,9 @@ use Rattle.bench_item.specs.declared.opening.Opening.{Opening}
 use Rattle.bench_item.specs.declared.opening.Opening.TheVariants.{Accepted, Dialled}
 use Rattle.bench_item.specs.Lines.{LineStep, Received, is_acknowledgement, standing, sent_of}
 use Rattle.bench_line.specs.declared.limit.TheConstants.{MAX_MESSAGE}
-use Rattle.bench_line.specs.declared.round.Round.{Round}
 use Rattle.bench_line.specs.Line.{LineView, IsAlive, Keeps, Stands, found}
 use Rattle.bench_line.specs.Messages.{messages, fault_in}
-use Rattle.bench_line.specs.Rounds.{IsRound, IsEnded, IsHeard, Receives, fault_posts, kept}
+use Rattle.bench_line.specs.Rounds.{RoundView, IsRound, IsEnded, IsHeard, IsHolding, Receives, fault_posts, kept, no_round}
 use Rattle.bench_line.specs.Talk.{Meaning, after_turns, at_first, turns, turns_by, posts_in, answers_in, answers_to, does_close, dial_posts, end_posts, posts_by, posts_of, end_event, fault_met, is_cut, is_loss, rules_of, stream_of}
 use Rattle.bench_line.proofs.MessageLemmas.{messages-of_frames}
 use Rattle.bench_line.proofs.TurnLemmas.{turns_by-append, after_turns-append, after_turns-line, after_turns-opening, posts_in-append}
@@ -46,7 +45,7 @@ none_of false None r e n = (refl, refl)
 none_of false (Some f) r e n = let a = sym e ∙ n in absurd cc
 
 -- What was fed and heard is what the piece comes to.
-pub heard : (m : Meaning) (line : ℕ) (l : LineView) (opening : Opening) (happened : List LineStep) (piece : List ℕ) (fed after : FramerState) (fault : Option FrameFault) (first last : Round) (ended : Option FrameFault)
+pub heard : (m : Meaning) (line : ℕ) (l : LineView) (opening : Opening) (happened : List LineStep) (piece : List ℕ) (fed after : FramerState) (fault : Option FrameFault) (first last : RoundView) (ended : Option FrameFault)
     → IsAlive m line l opening happened
     → Shows fed MAX_MESSAGE (messages (stream_of happened)) (stream_of happened ++ piece) fault
     → IsRound m (found line l) fed.waiting first
@@ -160,7 +159,7 @@ as_found at line opening e o =
     ap P (sym e) ∙ ap Q (sym o)
 
 -- what is kept of a line behind the piece
-alive_on : (m : Meaning) (line : ℕ) (l : LineView) (opening : Opening) (happened : List LineStep) (piece : List ℕ) (framer : FramerState) (round : Round) (ended : Option FrameFault)
+alive_on : (m : Meaning) (line : ℕ) (l : LineView) (opening : Opening) (happened : List LineStep) (piece : List ℕ) (framer : FramerState) (round : RoundView) (ended : Option FrameFault)
     → IsAlive m line l opening happened → l.opening ≡ opening → IsHeard m line l opening (stream_of happened) piece framer round ended → round.closed ≡ false
     → IsAlive m line (kept framer round l) opening (happened ++ Received piece ∷ [])
 alive_on m line l opening happened piece framer round ended a o h going =
@@ -179,7 +178,7 @@ alive_on m line l opening happened piece framer round ended a o h going =
     }
 
 -- A line that was going stands for the piece too.
-pub received : (m : Meaning) (line : ℕ) (l : LineView) (opening : Opening) (happened : List LineStep) (piece : List ℕ) (framer : FramerState) (round : Round) (ended : Option FrameFault)
+pub received : (m : Meaning) (line : ℕ) (l : LineView) (opening : Opening) (happened : List LineStep) (piece : List ℕ) (framer : FramerState) (round : RoundView) (ended : Option FrameFault)
     → Stands m line l opening happened → l.state ≡ state.Open → IsAlive m line l opening happened → IsHeard m line l opening (stream_of happened) piece framer round ended
     → Receives m line opening happened piece (kept framer round l) ended
 received m line l opening happened piece framer round ended s going a h =
@@ -193,13 +192,13 @@ received m line l opening happened piece framer round ended s going a h =
     let joined : stream_of (happened ++ step ∷ []) ≡ stream ++ piece = stream_of-snoc happened step in
     let ack = list_any is_acknowledgement happened in
     let cut : is_cut m line opening (stream ++ piece) ≡ round.closed = cut_is m line opening stream piece h.new a.unclosed h.turned ∙ sym h.closed in
-    let posts : posts_of m line opening (happened ++ step ∷ []) ≡ posts_of m line opening happened ++ round.posts.items =
+    let posts : posts_of m line opening (happened ++ step ∷ []) ≡ posts_of m line opening happened ++ round.posts =
     ap (λ (b : Bool). posts_by m line opening b (list_any is_loss (happened ++ step ∷ [])) (stream_of (happened ++ step ∷ []))) acked
     ∙ ap (λ (b : Bool). posts_by m line opening ack b (stream_of (happened ++ step ∷ []))) gone
     ∙ ap (posts_by m line opening ack false) joined
     ∙ more_posts m line opening ack stream piece h.new (found line l) (open_end opening happened stands) a.unclosed (alive-fault m line l opening happened a) a.greeted h.turned
     ∙ ap (λ (xs : List Item). posts_by m line opening ack false stream ++ xs) (sym h.posts)
-    ∙ ap (λ (b : Bool). posts_by m line opening ack b stream ++ round.posts.items) (sym a.there) in
+    ∙ ap (λ (b : Bool). posts_by m line opening ack b stream ++ round.posts) (sym a.there) in
     record {
       stands = record {
         can_come = each_can_come-snoc rules opening [] happened step s.can_come (sym s.state ∙ going);
@@ -207,9 +206,9 @@ received m line l opening happened piece framer round ended s going a h =
         state = ap (λ (x : LineState). if round.closed then state.Closed else x) (going ∙ sym stands) ∙ ap (λ (b : Bool). if b then state.Closed else standing opening happened) (sym cut)
             ∙ ap (λ (x : LineState). if is_cut m line opening (stream ++ piece) then state.Closed else x) (sym (standing-snoc opening happened step refl))
             ∙ sym (state_behind rules opening happened step standing_now.unclosed);
-        outbox = ap (λ (xs : List Item). xs ++ round.posts.items) s.outbox ∙ sym posts;
-        lifted = omega (arith, s.lifted, length-append l.outbox round.posts.items);
-        sent = ap (λ (xs : List ℕ). xs ++ round.answers.items) s.sent ∙ ap (λ (xs : List ℕ). sent_of rules m.octets_of opening happened ++ xs) (h.answers ∙ sym (more_answers m line opening stream piece h.new h.turned))
+        outbox = ap (λ (xs : List Item). xs ++ round.posts) s.outbox ∙ sym posts;
+        lifted = omega (arith, s.lifted, length-append l.outbox round.posts);
+        sent = ap (λ (xs : List ℕ). xs ++ round.answers) s.sent ∙ ap (λ (xs : List ℕ). sent_of rules m.octets_of opening happened ++ xs) (h.answers ∙ sym (more_answers m line opening stream piece h.new h.turned))
             ∙ sym (sent_open-snoc rules m.octets_of opening happened step standing_now.unclosed);
         keeps = by round.closed refl;
       };
@@ -225,7 +224,7 @@ pub alive_open : (m : Meaning) (line : ℕ) (l : LineView) (opening : Opening) (
 alive_open m line l opening happened s e = subst (Keeps m line l opening happened) e s.keeps
 
 -- the same of what is kept of it
-pub received_by : (m : Meaning) (line : ℕ) (l new : LineView) (piece : List ℕ) (framer : FramerState) (round : Round) (ended : Option FrameFault)
+pub received_by : (m : Meaning) (line : ℕ) (l new : LineView) (piece : List ℕ) (framer : FramerState) (round : RoundView) (ended : Option FrameFault)
     → ((opening : Opening) (happened : List LineStep) → IsAlive m line l opening happened → IsHeard m line l opening (stream_of happened) piece framer round ended)
     → new ≡ kept framer round l
     → (opening : Opening) (happened : List LineStep) → Stands m line l opening happened → l.state ≡ state.Open → Receives m line opening happened piece new ended
@@ -234,7 +233,7 @@ received_by m line l new piece framer round ended h k opening happened s going =
     subst (λ (x : LineView). Receives m line opening happened piece x ended) (sym k) (received m line l opening happened piece framer round ended s going a (h opening happened a))
 
 -- What was copied, fed and heard is what the piece comes to.
-pub heard_by : (m : Meaning) (line : ℕ) (l : LineView) (piece : List ℕ) (copy fed after : FramerState) (fault : Option FrameFault) (first last : Round) (ended : Option FrameFault)
+pub heard_by : (m : Meaning) (line : ℕ) (l : LineView) (piece : List ℕ) (copy fed after : FramerState) (fault : Option FrameFault) (first last : RoundView) (ended : Option FrameFault)
     → copy ≡ l.framer
     → ((limit : ℕ) (handed : List (List ℕ)) (stream : List ℕ) → Shows copy limit handed stream None → Shows fed limit handed (stream ++ piece) fault)
     → IsRound m (found line l) fed.waiting first
@@ -245,3 +244,31 @@ heard_by m line l piece copy fed after fault first last ended c f r w e opening 
     let stream = stream_of happened in
     let shows = subst (λ (x : FramerState). Shows x MAX_MESSAGE (messages stream) stream None) (sym c) a.shows in
     heard m line l opening happened piece fed after fault first last ended a (f MAX_MESSAGE (messages stream) stream shows) r w e
+
+-- Behind a piece that is held a line is as if a round without messages were kept.
+kept_none : (l new : LineView) (line : ℕ) (piece : List ℕ) → IsHolding piece l new → new ≡ kept new.framer (no_round (found line l)) l
+kept_none l new line piece h =
+    let K : FramerState → List Item → List ℕ → LineView = λ f xs ys. record l { framer = f; outbox = xs; sent = ys } in
+    h.is
+    ∙ ap (λ (f : FramerState). K f l.outbox l.sent) (sym (ap (λ (x : LineView). x.framer) h.is))
+    ∙ ap (λ (xs : List Item). K new.framer xs l.sent) (sym (append-nil l.outbox))
+    ∙ ap (K new.framer (l.outbox ++ [])) (sym (append-nil l.sent))
+
+-- No message was heard, and none waits.
+none_heard : (m : Meaning) (line : ℕ) (l new : LineView) (piece : List ℕ) → IsHolding piece l new → (opening : Opening) (happened : List LineStep) → IsAlive m line l opening happened
+    → IsHeard m line l opening (stream_of happened) piece new.framer (no_round (found line l)) None
+none_heard m line l new piece h opening happened a =
+    let none = no_round (found line l) in
+    let waiting : new.framer.waiting ≡ [] = ap (λ (x : LineView). x.framer.waiting) h.is ∙ a.heard in
+    let round : IsRound m (found line l) [] none = record { at = refl; posts = refl; answers = refl; closed = refl } in
+    heard m line l opening happened piece new.framer new.framer None none none None a
+    (h.shows MAX_MESSAGE (messages (stream_of happened)) (stream_of happened) a.shows)
+    (subst (λ (ms : List (List ℕ)). IsRound m (found line l) ms none) (sym waiting) round)
+    (λ going. ap (λ (ms : List (List ℕ)). record new.framer { waiting = ms }) waiting)
+    (record { at = refl; posts = refl; answers = refl; closed = refl; met = refl })
+
+-- A line that was going stands for a piece that is held.
+pub held_by : (m : Meaning) (line : ℕ) (l new : LineView) (piece : List ℕ) → IsHolding piece l new
+    → (opening : Opening) (happened : List LineStep) → Stands m line l opening happened → l.state ≡ state.Open → Receives m line opening happened piece new None
+held_by m line l new piece h =
+    received_by m line l new piece new.framer (no_round (found line l)) None (none_heard m line l new piece h) (kept_none l new line piece h)

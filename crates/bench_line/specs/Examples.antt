@@ -1,18 +1,16 @@
 -- Lines with known values, by rules that tell each message's first octet behind its length: a wrong definition doesn't pass these lines.
 use Rattle.std.specs.Prelude.{◌≡◌, ◌==◌, ◌++◌, ℕ, List, [], ◌∷◌, Option, Some, None, take, drop, replicate, slice_index, refl}
 use Rattle.dia_frame.specs.declared.fault.FrameFault.TheVariants.{Version}
-use Rattle.bench_item.specs.declared.hears.Heard.{Heard}
 use Rattle.bench_item.specs.declared.hears.Turn.{Turn}
 use Rattle.bench_item.specs.declared.hears.LineEvent.{LineEvent}
 use Rattle.bench_item.specs.declared.hears.LineEvent.TheVariants as event
 use Rattle.bench_item.specs.declared.item.Item.{Item}
 use Rattle.bench_item.specs.declared.item.Item.TheVariants.{Disarm}
-use Rattle.bench_item.specs.declared.item.LineItem.{LineItem}
 use Rattle.bench_item.specs.declared.line_state.LineState.TheVariants as at
 use Rattle.bench_item.specs.declared.opening.Opening.TheVariants.{Accepted, Dialled}
 use Rattle.bench_item.specs.Lines.{LineStep, Acknowledged, Received, Gone, sent_of, state_of}
 use Rattle.bench_line.specs.Messages.{cut_by, messages, rest_of}
-use Rattle.bench_line.specs.Talk.{Meaning, answers_to, fault_met, is_cut, posts_by, posts_of, rules_of, turns, turns_by, after_turns, at_first}
+use Rattle.bench_line.specs.Talk.{Meaning, answers_to, fault_met, is_cut, posts_by, posts_of, rules_of, turns, after_turns, at_first}
 
 -- a message of 20 octets
 abbrev message : ℕ → List ℕ

@@ -1,8 +1,8 @@
 //! What happens to one connection.
-ghost use Rattle.std.specs.Prelude.{◌≡◌, List, IfOk, IfErr, OnOk, OnErr};
+ghost use Rattle.std.specs.Prelude.{◌≡◌, List, length, IfOk, IfErr, IfSome, MatchOption, OnOk, OnErr};
 
 use crate::fault::LineFault;
-use crate::line::{Before, Line};
+use crate::line::{Before, FramerBefore, Line};
 use crate::round::{Round, fed};
 use base_codes::DeedCode;
 use bench_item::{Hears, LineEvent, LineItem, LineState};
@@ -24,8 +24,8 @@ impl Line {
     ghost use Rattle.bench_item.specs.declared.line_state.LineState.{LineState};
     ghost use Rattle.bench_line.specs.Line.{acknowledged, lost, delivered, undialled, IsAlive, Stands};
     ghost use Rattle.bench_line.specs.Talk.{meaning, stream_of};
-    ghost use Rattle.bench_line.specs.Rounds.{kept, IsHeard, Receives};
-    ghost use Rattle.bench_line.specs.Before.{before_of, restored};
+    ghost use Rattle.bench_line.specs.Rounds.{kept, IsHeard, IsHolding, Receives};
+    ghost use Rattle.bench_line.specs.Before.{restored};
 
     /// Its dial is acknowledged.
     pub(crate) fn acknowledge<T: Hears>(
@@ -61,7 +61,7 @@ impl Line {
         Ok(())
     }
 
-    /// Octets came on it.
+    /// Octets came on it. Those that complete no message are held behind the rest, whatever its length.
     pub(crate) fn receive<T: Hears>(
         &mut self,
         alloc: Global,
@@ -70,9 +70,50 @@ impl Line {
         piece: &[u8],
     ) -> Result<(Option<FrameFault>, Before), LineFault>
         ensures stands { IfOk result (λ r. (opening : Opening) (happened : List LineStep)
-            → Stands (meaning T.heard T.turned T.octets_of rules.now) line self.old opening happened → self.old.state ≡ LineState.Open
+            → Stands (meaning T.heard T.turned T.octets_of rules.now) line self.old opening happened
+            → self.old.state ≡ LineState.Open
             → Receives (meaning T.heard T.turned T.octets_of rules.now) line opening happened piece.now self.new r.0) }
-        ensures before { IfOk result (λ r. r.1 ≡ before_of (Some self.old.framer) self.old) }
+        ensures outbox { IfOk result (λ r. r.1.outbox ≡ length self.old.outbox) }
+        ensures undone { IfOk result (λ r. restored r.1 self.new ≡ self.old) }
+        ensures fault { IfErr result (λ f. f ≡ LineFault.NoMemory) }
+        ensures err { OnErr result (self.new ≡ self.old) }
+    {
+        match self.hold(piece)? {
+            Some(before) => Ok((None, before)),
+            None => self.complete(alloc, rules, line, piece),
+        }
+    }
+
+    // Holds a piece, where it completes no message and shows no fault.
+    fn hold(&mut self, piece: &[u8]) -> Result<Option<Before>, LineFault>
+        ensures ok { IfOk result (λ r. MatchOption r (self.new ≡ self.old) (λ _. IsHolding piece.now self.old self.new)) }
+        ensures outbox { IfOk result (λ r. IfSome r (λ before. before.outbox ≡ length self.old.outbox)) }
+        ensures undone { IfOk result (λ r. IfSome r (λ before. restored before self.new ≡ self.old)) }
+        ensures fault { IfErr result (λ f. f ≡ LineFault.NoMemory) }
+        ensures err { OnErr result (self.new ≡ self.old) }
+    {
+        let held = self.framer.rest_len();
+        if !self.framer.hold(piece)? {
+            return Ok(None);
+        }
+        let mut before = self.before();
+        before.framer = FramerBefore::Rest(held);
+        Ok(Some(before))
+    }
+
+    // Hears a piece that completes a message or shows a fault, with a framer beside its own.
+    fn complete<T: Hears>(
+        &mut self,
+        alloc: Global,
+        rules: &T,
+        line: u64,
+        piece: &[u8],
+    ) -> Result<(Option<FrameFault>, Before), LineFault>
+        ensures stands { IfOk result (λ r. (opening : Opening) (happened : List LineStep)
+            → Stands (meaning T.heard T.turned T.octets_of rules.now) line self.old opening happened
+            → self.old.state ≡ LineState.Open
+            → Receives (meaning T.heard T.turned T.octets_of rules.now) line opening happened piece.now self.new r.0) }
+        ensures outbox { IfOk result (λ r. r.1.outbox ≡ length self.old.outbox) }
         ensures undone { IfOk result (λ r. restored r.1 self.new ≡ self.old) }
         ensures fault { IfErr result (λ f. f ≡ LineFault.NoMemory) }
         ensures err { OnErr result (self.new ≡ self.old) }
@@ -84,7 +125,7 @@ impl Line {
             ended,
         } = self.listen(alloc, rules, line, piece)?;
         let framer = self.keep(framer, round)?;
-        before.framer = Some(framer);
+        before.framer = FramerBefore::Whole(framer);
         Ok((ended, before))
     }
 

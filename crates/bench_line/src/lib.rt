@@ -31,5 +31,5 @@ pub use change::Change;
 pub use dia_frame::FrameFault;
 pub use fault::LineFault;
 pub use limit::MAX_MESSAGE;
-pub use line::Before;
+pub use line::{Before, FramerBefore};
 pub use lines::Lines;

@@ -9,13 +9,38 @@ use dia_frame::Framer;
 use std::alloc::Global;
 use std::marker::Model;
 
+/// What the framer of a connection was before a call.
+#[derive(Drop)]
+pub enum FramerBefore {
+    /// The call left it.
+    Same,
+    /// The call put octets behind its rest, which had so many.
+    Rest(usize),
+    /// It was this.
+    Whole(Framer),
+}
+
+impl FramerBefore {
+    ghost use Rattle.bench_line.specs.Before.{framer_before};
+
+    // The framer becomes what it was before.
+    fn restore(self, framer: &mut Framer)
+        ensures { framer.new ≡ framer_before self framer.old }
+    {
+        match self {
+            FramerBefore::Same => {}
+            FramerBefore::Rest(len) => framer.truncate_rest(len),
+            FramerBefore::Whole(before) => *framer = before,
+        }
+    }
+}
+
 /// What a connection was before a call. Of what it put out and sent only the lengths are kept, since nothing before them changes.
 #[derive(Drop)]
 pub struct Before {
     pub state: LineState,
     pub greeted: Option<u64>,
-    /// None where the call left it.
-    pub framer: Option<Framer>,
+    pub framer: FramerBefore,
     pub outbox: usize,
     pub sent: usize,
 }
@@ -59,6 +84,7 @@ impl Line {
     ghost use Rattle.bench_item.specs.Lines.{is_dial};
     ghost use Rattle.bench_line.specs.Line.{new_line, found, loss_of};
     ghost use Rattle.bench_line.specs.Before.{before_of, restored};
+    ghost use Rattle.bench_line.specs.declared.line.FramerBefore.{FramerBefore};
     ghost use Rattle.bench_line.specs.Lines.{is_crowded, full_of, lifted_one};
     ghost use Rattle.bench_line.specs.Refusals.{refused_by};
 
@@ -229,12 +255,12 @@ impl Line {
 
     /// What it is before a call that leaves its framer.
     pub(crate) fn before(&self) -> Before
-        ensures { result ≡ before_of None self.now }
+        ensures { result ≡ before_of FramerBefore.Same self.now }
     {
         Before {
             state: self.state,
             greeted: self.greeted,
-            framer: None,
+            framer: FramerBefore::Same,
             outbox: self.outbox.len(),
             sent: self.sent.len(),
         }
@@ -260,9 +286,7 @@ impl Line {
         } = before;
         self.state = state;
         self.greeted = greeted;
-        if let Some(framer) = framer {
-            self.framer = framer;
-        }
+        framer.restore(&mut self.framer);
         self.outbox.truncate(outbox);
         self.sent.truncate(sent);
     }

@@ -6,6 +6,7 @@ use crate::fault::LineFault;
 use bench_item::{Heard, Hears, Item, LineEvent, Turn};
 use dia_frame::{FeedError, FrameFault, Framer};
 use std::alloc::Global;
+use std::marker::Model;
 
 /// The connection behind the last message that was heard, and what the messages made it put out and answer.
 #[derive(Drop)]
@@ -17,16 +18,21 @@ pub(crate) struct Round {
     pub(crate) closed: bool,
 }
 
+impl Model for Round {
+    ghost use Rattle.bench_line.specs.Rounds.{RoundView};
+
+    ghost Value = { RoundView };
+
+    ghost view = { λ r. record { at = r.at; posts = r.posts.items; answers = r.answers.items; closed = r.closed } };
+}
+
 impl Round {
-    ghost use Rattle.bench_line.specs.Rounds.{IsEnded, IsRound, IsTurned};
+    ghost use Rattle.bench_line.specs.Rounds.{IsEnded, IsRound, IsTurned, no_round};
     ghost use Rattle.bench_line.specs.Talk.{meaning};
 
     /// No message was heard yet. Takes no memory.
     pub(crate) fn new(alloc: Global, at: Heard) -> Round
-        ensures at { result.at ≡ at }
-        ensures posts { result.posts.items ≡ [] }
-        ensures answers { result.answers.items ≡ [] }
-        ensures closed { result.closed ≡ false }
+        ensures { result ≡ no_round at }
     {
         Round {
             at,
@@ -37,10 +43,7 @@ impl Round {
     }
 
     fn put_out(&mut self, post: Option<Item>) -> Result<(), LineFault>
-        ensures posts { OnOk result (self.new.posts.items ≡ self.old.posts.items ++ option_to_list post) }
-        ensures at { self.new.at ≡ self.old.at }
-        ensures answers { self.new.answers ≡ self.old.answers }
-        ensures closed { self.new.closed ≡ self.old.closed }
+        ensures ok { OnOk result (self.new ≡ record self.old { posts = self.old.posts ++ option_to_list post }) }
         ensures fault { IfErr result (λ f. f ≡ LineFault.NoMemory) }
     {
         if let Some(item) = post {

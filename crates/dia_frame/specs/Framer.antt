@@ -1,11 +1,11 @@
 -- What a Framer holds, and what a feed does to it.
-use Rattle.std.specs.Prelude.{◌≡◌, ◌<◌, ◌⊎◌, ℕ, Bool, true, false, List, [], ◌++◌, length, Option, Some, None, is_some, Result, Ok, Err}
+use Rattle.std.specs.Prelude.{◌≡◌, ◌<◌, ◌⊎◌, ◌&&◌, not, ℕ, Bool, true, false, List, [], ◌++◌, length, Option, Some, None, is_some, Result, Ok, Err}
 use Rattle.dia_frame.specs.declared.fault.FrameFault.{FrameFault}
 use Rattle.dia_frame.specs.declared.fault.FrameFault.TheVariants.{Version, Length, Broken}
 use Rattle.dia_frame.specs.declared.fault.FeedError.{FeedError}
 use Rattle.dia_frame.specs.declared.fault.FeedError.TheVariants.{NoMemory, Fault}
 use Rattle.dia_frame.specs.Frames.{Frames, fault_of}
-use Rattle.dia_frame.specs.Whole.{room_of}
+use Rattle.dia_frame.specs.Whole.{is_part, room_of}
 
 -- the longest message's length, the frames that wait, oldest first, the octets behind them, and whether a fault was found
 pub record FramerState : Type 0 where
@@ -43,6 +43,10 @@ abbrev pub MayNeedMemory : FramerState → List ℕ → Type 0
 MayNeedMemory old piece =
     (came : List (List ℕ)) (left : List ℕ) → Frames (old.rest ++ piece) old.limit came left
     → (came ≡ [] → ⊥) ⊎ (room_of old.limit old.rest < room_of old.limit left)
+
+-- whether a piece may be held: behind the octets that are held it is a part of a message
+abbrev pub can_hold : FramerState → List ℕ → Bool
+can_hold state piece = not state.broken && is_part state.limit (state.rest ++ piece)
 
 -- What was handed out and what waits are the stream's messages, and the octets behind them show this fault or none.
 pub record Shows (state : FramerState) (limit : ℕ) (handed : List (List ℕ)) (stream : List ℕ) (fault : Option FrameFault) : Type 0 where

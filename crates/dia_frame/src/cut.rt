@@ -2,7 +2,7 @@
 
 ghost use Rattle.std.specs.Prelude.{◌≡◌, ◌≤◌, ◌<◌, ◌+◌, ◌⊎◌, [], ◌∷◌, ◌++◌, drop, length, vec_len, vec_capacity, Option, Some, None, slice_get, IfOk, OnOk, OnErr};
 ghost use Rattle.dia_frame.specs.Frames.{fault_of, is_bad_length};
-ghost use Rattle.dia_frame.specs.Whole.{whole_len, room_of, Cuts, CutsUpTo};
+ghost use Rattle.dia_frame.specs.Whole.{is_part, length_in, whole_len, room_of, Cuts, CutsUpTo};
 
 use crate::fault::FrameFault;
 use base_codes::{HEADER_LEN, VERSION};
@@ -48,6 +48,18 @@ fn octet_at(front: &[u8], back: &[u8], place: usize) -> Option<u8>
     back.get(place - front.len()).copied()
 }
 
+// The length in the header of two pieces joined, where its octets are there.
+fn length_across(front: &[u8], back: &[u8]) -> Option<usize>
+    ensures { result ≡ length_in (front.now ++ back.now) }
+{
+    let octets = [
+        octet_at(front, back, 1)?,
+        octet_at(front, back, 2)?,
+        octet_at(front, back, 3)?,
+    ];
+    Some(BigEndian::read_u24(&octets) as usize)
+}
+
 /// The fault that the first four octets of two pieces joined show, or those of them that are there.
 pub(crate) fn fault_across(limit: usize, front: &[u8], back: &[u8]) -> Option<FrameFault>
     ensures { result ≡ fault_of limit (front.now ++ back.now) }
@@ -55,12 +67,7 @@ pub(crate) fn fault_across(limit: usize, front: &[u8], back: &[u8]) -> Option<Fr
     if octet_at(front, back, 0)? != VERSION {
         return Some(FrameFault::Version);
     }
-    let octets = [
-        octet_at(front, back, 1)?,
-        octet_at(front, back, 2)?,
-        octet_at(front, back, 3)?,
-    ];
-    if is_bad_length(limit, BigEndian::read_u24(&octets) as usize) {
+    if is_bad_length(limit, length_across(front, back)?) {
         return Some(FrameFault::Length);
     }
     None
@@ -78,6 +85,19 @@ fn whole_len(limit: usize, octets: &[u8]) -> Option<usize>
         return None;
     }
     Some(len)
+}
+
+/// Whether two pieces joined are a part of a message: none is whole at the front, and no fault shows.
+pub(crate) fn is_part(limit: usize, front: &[u8], back: &[u8]) -> bool
+    ensures { result ≡ is_part limit (front.now ++ back.now) }
+{
+    if fault_across(limit, front, back).is_some() {
+        return false;
+    }
+    match length_across(front, back) {
+        Some(len) => front.len() + back.len() < len,
+        None => true,
+    }
 }
 
 fn push_frame(

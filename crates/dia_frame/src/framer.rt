@@ -1,8 +1,9 @@
 //! The Framer: octets in, frames out.
 
-ghost use Rattle.std.specs.Prelude.{◌≡◌, ◌∷◌, [], ◌++◌, length, List, ℕ, MatchOption, IfOk, IfSome, IsErrOf, None, true, false};
+ghost use Rattle.std.specs.Prelude.{◌≡◌, ◌∷◌, [], ◌++◌, length, take, List, ℕ, MatchOption, IfOk, IfSome, OnErr, IsErrOf};
+ghost use Rattle.std.specs.Prelude.{None, true, false, if◌then◌else◌};
 
-use crate::cut::{cut_frames, fault_across, fault_of, room_of};
+use crate::cut::{cut_frames, fault_across, fault_of, is_part, room_of};
 use crate::fault::{FeedError, FrameFault};
 use base_list::Octets;
 use std::alloc::{AllocError, Global};
@@ -11,7 +12,7 @@ use std::marker::Model;
 
 /// Takes the octets of a stream in any pieces and gives its messages (RFC 6733 section 3).
 ///
-/// In: `feed`. Out: `next_frame`. Looks: `rest`, `rest_len`. The feed that finds a fault keeps the frames
+/// In: `feed`, `hold`. Out: `next_frame`. Looks: `rest`, `rest_len`. The feed that finds a fault keeps the frames
 /// before it, which are still handed out.
 pub struct Framer {
     alloc: Global,
@@ -47,7 +48,7 @@ impl Model for Framer {
 }
 
 impl Framer {
-    ghost use Rattle.dia_frame.specs.Framer.{Feeds, Holds, HoldsNext, MayNeedMemory, Shows};
+    ghost use Rattle.dia_frame.specs.Framer.{can_hold, Feeds, Holds, HoldsNext, MayNeedMemory, Shows};
     ghost use Rattle.dia_frame.specs.declared.fault.FeedError.{FeedError};
 
     /// A Framer for messages of at most `limit` octets. Takes no memory yet.
@@ -121,6 +122,41 @@ impl Framer {
             None => Ok(self.waiting.len()),
             Some(fault) => Err(self.break_off(fault)),
         }
+    }
+
+    // Whether a piece may be held.
+    fn can_hold(&self, piece: &[u8]) -> bool
+        ensures { result ≡ can_hold self.now piece.now }
+    {
+        !self.broken && is_part(self.limit, &self.rest, piece)
+    }
+
+    /// Takes a piece behind which no message is whole and no fault shows, as `feed` does, and says so; any other
+    /// changes nothing. It is undone by `truncate_rest`, to as many octets as there were before.
+    pub fn hold(&mut self, piece: &[u8]) -> Result<bool, AllocError>
+        ensures held { IfOk result (λ held. held ≡ can_hold self.old piece.now) }
+        ensures ok { IfOk result (λ held. self.new
+            ≡ (if held then record self.old { rest = self.old.rest ++ piece.now } else self.old)) }
+        ensures joined { IfOk result (λ held. (limit : ℕ) (handed : List (List ℕ)) (stream : List ℕ) → held ≡ true
+            → Shows self.old limit handed stream None → Shows self.new limit handed (stream ++ piece.now) None) }
+        // Memory is asked for only where the piece is held and begins a message, or shows how long it is.
+        ensures memory { OnErr result ((can_hold self.old piece.now ≡ true) × MayNeedMemory self.old piece.now) }
+        ensures err { OnErr result (self.new ≡ self.old) }
+    {
+        if !self.can_hold(piece) {
+            return Ok(false);
+        }
+        match self.feed(piece) {
+            Ok(_) => Ok(true),
+            Err(_) => Err(AllocError),
+        }
+    }
+
+    /// Keeps the first octets of the rest, as many as `len`. Takes no memory.
+    pub fn truncate_rest(&mut self, len: usize)
+        ensures { self.new ≡ record self.old { rest = take len self.old.rest } }
+    {
+        self.rest.truncate(len);
     }
 
     /// The oldest frame that waits. Takes no memory.

@@ -87,6 +87,21 @@ fn a_message_is_one_frame_however_it_is_cut(rt: HostRuntime) {
     assert!(rt; is_one_frame_of_octets(rt.alloc()), "octet by octet");
 }
 
+/// Whether a part of the DWR is held and can be let go, and neither its last octets nor a fault are held.
+fn is_held(alloc: Global) -> bool {
+    let mut framer = Framer::new(alloc, 4096);
+    let held = matches!(framer.hold(&DWR[..55]), Ok(true)) && framer.rest_len() == 55;
+    let others = matches!(framer.hold(&DWR[55..]), Ok(false)) && framer.rest_len() == 55;
+    framer.truncate_rest(3);
+    let fault = matches!(framer.hold(&[18]), Ok(false)) && framer.rest_len() == 3;
+    held && others && fault && framer.feed(&DWR[3..]) == Ok(1) && gives(&mut framer, &DWR)
+}
+
+#[test]
+fn a_part_of_a_message_is_held(rt: HostRuntime) {
+    assert!(rt; is_held(rt.alloc()));
+}
+
 /// Whether a length whose last octets are these is refused by the feed of the fourth octet.
 fn is_bad_length(alloc: Global, high: u8, low: u8) -> bool {
     let mut framer = Framer::new(alloc, 4096);

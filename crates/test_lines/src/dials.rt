@@ -69,6 +69,16 @@ fn is_unlifted(lines: &mut Lines<Listener>) -> bool {
     none_waits && lines.next(1).is_some()
 }
 
+/// A piece that completes no message is taken back, and may come again.
+fn is_front_again(lines: &mut Lines<Listener>, piece: &[u8]) -> bool {
+    let Ok(came) = lines.came(1, piece) else {
+        return false;
+    };
+    let is_quiet = came.posted == 0 && came.ended.is_none();
+    lines.take_back(came.change);
+    is_quiet && lines.came(1, piece).is_ok()
+}
+
 /// A piece that is taken back may come again, and posts the same.
 fn is_taken_back(lines: &mut Lines<Listener>, piece: &[u8]) -> bool {
     let Ok(came) = lines.came(1, piece) else {
@@ -87,12 +97,12 @@ fn is_taken_back(lines: &mut Lines<Listener>, piece: &[u8]) -> bool {
 fn is_cer_again(alloc: Global) -> Result<bool, Fail> {
     let mut lines = connections(alloc)?;
     let first = lines.joined();
-    let front = lines.came(1, joined(alloc, FRONT)?.as_slice());
+    let is_front = is_front_again(&mut lines, joined(alloc, FRONT)?.as_slice());
     let is_again = is_taken_back(&mut lines, joined(alloc, REST)?.as_slice());
     let text = lifted(alloc, &mut lines, 1)?;
     Ok(
         first == Ok(1)
-            && front.is_ok_and(|came| came.posted == 0)
+            && is_front
             && is_again
             && text.as_slice()
                 == b"told 0 p:c.example R-Conn-CER 0=4096 1=1 2=1 3=1 5=1\n".as_slice(),

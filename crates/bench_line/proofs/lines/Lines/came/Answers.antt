@@ -1,5 +1,3 @@
-use Rattle.std.proofs.Common.{ap}
-use Rattle.bench_line.specs.declared.line.Before.{Before}
 use Rattle.bench_line.specs.Talk.{meaning}
 use Rattle.bench_line.proofs.CallLemmas.{came-stands, came-ended, undone, posted}
 use Rattle.bench_line.proofs.lines.Lines.came.Goals as goal
@@ -19,7 +17,7 @@ returns-clause-ended g c =
 pub returns-clause-posted : goal.returns-clause-posted
 returns-clause-posted g c =
     rw (c.posted_since-posted.ensures, ← c.self.view_is) (posted c.self.inside.lines.items c.args.line c.in_ok-place.place c.index_mut-at.result.now c.receive.new.self c.in_ok-ended.before
-    (rw (← c.self.view_is) at c.in_ok-place.ensures.ok) c.index_mut-at.ensures.value c.in_ok-ended.ensures.undone (ap (λ (b : Before). b.outbox) c.in_ok-ended.ensures.before))
+    (rw (← c.self.view_is) at c.in_ok-place.ensures.ok) c.index_mut-at.ensures.value c.in_ok-ended.ensures.undone c.in_ok-ended.ensures.outbox)
 
 pub returns-clause-undone : goal.returns-clause-undone
 returns-clause-undone g c =
