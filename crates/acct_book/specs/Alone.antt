@@ -17,7 +17,8 @@ on_account account journal = filter (λ b. account_of b.op == account) journal
 abbrev pub alone : ℕ → Book → Book
 alone account book = record { accounts = book.accounts; journal = on_account account book.journal }
 
--- the account is one and the same in both books: it was given the same, and the operations on it and their outcomes are the same
+-- the account is one and the same in both books: it was given the same, and the operations on it and their outcomes are
+-- the same
 pub record IsOneAccount (account : ℕ) (b c : Book) : Type 0 where
   pub opened : given_of b.accounts account ≡ given_of c.accounts account
   pub journal : on_account account b.journal ≡ on_account account c.journal
@@ -31,8 +32,10 @@ pub record SayTheSame (account : ℕ) (b c : Book) : Type 0 where
   pub all_unpaid : unpaid account b.journal ≡ unpaid account c.journal
   pub totals : totals_of b account ≡ totals_of c account
   pub outcome : (op : Op) → account_of op ≡ account → outcome_of b op ≡ outcome_of c op
-  pub quote : (session group used want : ℕ) → quote_of b account session group used want ≡ quote_of c account session group used want
-  pub quotes : (session : ℕ) (slots : List (Option Slot)) → quotes_of account session b slots ≡ quotes_of account session c slots
+  pub quote : (session group used want : ℕ)
+      → quote_of b account session group used want ≡ quote_of c account session group used want
+  pub quotes : (session : ℕ) (slots : List (Option Slot))
+      → quotes_of account session b slots ≡ quotes_of account session c slots
 
 -- a book says of an account what it says with the operations on that account alone
 abbrev pub AccountAlone : Type 0

@@ -1,5 +1,6 @@
 -- The book: its accounts and its journal, and what these two allow.
-use Rattle.std.specs.Prelude.{◌≤◌, ℕ, ◌+◌, ◌-◌, List, [], ◌∷◌, ◌++◌, take, ◌==◌, Bool, nat_le, nat_lt, if◌then◌else◌, find, Option, None, Some, IfSome, is_some, length}
+use Rattle.std.specs.Prelude.{◌≤◌, ℕ, ◌+◌, ◌-◌, List, [], ◌∷◌, ◌++◌, take, ◌==◌, Bool, nat_le, nat_lt}
+use Rattle.std.specs.Prelude.{if◌then◌else◌, find, Option, None, Some, IfSome, is_some, length}
 use Rattle.std.specs.Option.{option_map, option_map_or}
 use Rattle.base_list.specs.declared.error.AddFault.TheVariants.{Taken, Full}
 use Rattle.acct_totals.specs.declared.op.Op.{Op}
@@ -33,7 +34,12 @@ given_of accounts account = option_map (λ (o : Opened). o.given) (find (λ (o :
 -- the sums of the journal for an account that was given so much
 abbrev pub sums_of : ℕ → ℕ → List Booked → Totals
 sums_of given account journal =
-    record { given = given; reserved = reserved account journal; debited = debited account journal; unpaid = unpaid account journal }
+    record {
+      given = given;
+      reserved = reserved account journal;
+      debited = debited account journal;
+      unpaid = unpaid account journal;
+    }
 
 -- the totals of an account, if it is open
 abbrev pub totals_of : Book → ℕ → Option Totals
@@ -74,7 +80,10 @@ taken_back book = record { accounts = book.accounts; journal = without_last book
 
 -- the book with one more account
 abbrev pub opened : Book → ℕ → ℕ → Book
-opened book id given = record { accounts = book.accounts ++ record { id = id; given = given } ∷ []; journal = book.journal }
+opened book id given = record {
+  accounts = book.accounts ++ record { id = id; given = given } ∷ [];
+  journal = book.journal;
+}
 
 -- the refusal of an account: it is open already, then too much is given, then the page is full
 abbrev pub refusal_at : Bool → ℕ → ℕ → Option OpenError

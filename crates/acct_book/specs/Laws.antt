@@ -1,5 +1,6 @@
 -- Laws of the book, over whole journals.
-use Rattle.std.specs.Prelude.{◌≡◌, ℕ, List, [], ◌∷◌, ◌++◌, ◌==◌, Bool, not, ◌&&◌, if◌then◌else◌, sum_by, filter, Option, None, Some}
+use Rattle.std.specs.Prelude.{◌≡◌, ℕ, List, [], ◌∷◌, ◌++◌, ◌==◌, Bool, not, ◌&&◌}
+use Rattle.std.specs.Prelude.{if◌then◌else◌, sum_by, filter, Option, None, Some}
 use Rattle.std.specs.List.{filter_map}
 use Rattle.acct_totals.specs.declared.op.Op.{Op}
 use Rattle.acct_totals.specs.declared.op.Op.TheVariants.{Reserve}
@@ -45,7 +46,8 @@ sum_of_own test journal =
 
 -- what is reserved on an account is the sum of the reservations over all sessions and groups
 abbrev pub ReservedIsSumOfOwn : Type 0
-ReservedIsSumOfOwn = (account : ℕ) (journal : List Booked) → reserved account journal ≡ sum_of_own (λ a s g. a == account) journal
+ReservedIsSumOfOwn =
+    (account : ℕ) (journal : List Booked) → reserved account journal ≡ sum_of_own (λ a s g. a == account) journal
 
 -- what is reserved in a session is the sum of its reservations over all groups
 abbrev pub SessionIsSumOfOwn : Type 0

@@ -1,5 +1,6 @@
 -- What the ledger keeps beside the journal, and how the two hang together.
-use Rattle.std.specs.Prelude.{◌≡◌, ◌<◌, ◌≤◌, ◌^◌, ◌*◌, ℕ, ◌+◌, List, [], ◌∷◌, ◌==◌, if◌then◌else◌, nat_eq, Option, None, Some, unwrap_or, sum_by, map, reverse, length, vec_len, vec_capacity}
+use Rattle.std.specs.Prelude.{◌≡◌, ◌<◌, ◌≤◌, ◌^◌, ◌*◌, ℕ, ◌+◌, List, [], ◌∷◌, ◌==◌, if◌then◌else◌, nat_eq, Option}
+use Rattle.std.specs.Prelude.{None, Some, unwrap_or, sum_by, map, reverse, length, vec_len, vec_capacity}
 use Rattle.std.specs.declared.hash.FoldHasher.{FoldHasher}
 use Rattle.std.specs.declared.hash.BuildHasherDefault.{BuildHasherDefault}
 use Rattle.indexmap.specs.IndexMap.{IndexMap, get, spare}
@@ -79,7 +80,8 @@ EachBack P (b ∷ bs) = P (reverse (b ∷ bs)) × EachBack P bs
 abbrev pub IsStoredBack : Stored → List Booked → List (Option Before) → Type 0
 IsStoredBack st [] befores = IsStored st []
 IsStoredBack st (b ∷ bs) [] = ⊥
-IsStoredBack st (b ∷ bs) (w ∷ ws) = IsStored st (reverse (b ∷ bs)) × (IsMarked st b.op w × IsStoredBack (undone st b.op w) bs ws)
+IsStoredBack st (b ∷ bs) (w ∷ ws) =
+    IsStored st (reverse (b ∷ bs)) × (IsMarked st b.op w × IsStoredBack (undone st b.op w) bs ws)
 
 -- so many more operations can be booked without memory
 pub record HasRoom (l : Ledger) (n : ℕ) : Type 0 where
@@ -91,7 +93,8 @@ pub record HasRoom (l : Ledger) (n : ℕ) : Type 0 where
 -- all that is kept are sums of the journal, now and as each operation is put back, and no account is 0
 pub record IsKept (l : Ledger) : Type 0 where
   pub totals : (account : ℕ) → IsKeptFor account (kept l.accounts account) l.journal.items
-  pub past : (account : ℕ) → EachBack (λ journal. IsKeptFor account (sums_of (kept l.accounts account).given account journal) journal) (reverse l.journal.items)
+  pub past : (account : ℕ) → EachBack (λ journal. IsKeptFor account
+      (sums_of (kept l.accounts account).given account journal) journal) (reverse l.journal.items)
   pub stored : IsStoredBack (stored_of l.holds) (reverse l.journal.items) (reverse l.befores.items)
   pub placed : IsPlaced l.holds
   pub zero : given_of (opened_of l.accounts) 0 ≡ None
@@ -101,7 +104,8 @@ pub record IsKept (l : Ledger) : Type 0 where
 pub record Settles (old : Ledger) (op : Op) (outcome : Outcome) (before : Option Before) (new : Ledger) : Type 0 where
   pub opened : opened_of new.accounts ≡ opened_of old.accounts
   pub totals : (account : ℕ) → kept new.accounts account
-      ≡ (if account_of op == account then totals_after (kept old.accounts account) (held_on (stored_of old.holds) op) op outcome
+      ≡ (if account_of op == account then totals_after (kept old.accounts account) (held_on (stored_of old.holds) op) op
+      outcome
       else kept old.accounts account)
   pub stored : stored_of new.holds ≡ (step_of (stored_of old.holds) op outcome).0
   pub before_is : before ≡ (step_of (stored_of old.holds) op outcome).1
@@ -116,7 +120,8 @@ pub record Settles (old : Ledger) (op : Op) (outcome : Outcome) (before : Option
 pub record IsUndone (old : Ledger) (op : Op) (outcome : Outcome) (before : Option Before) (new : Ledger) : Type 0 where
   pub opened : opened_of new.accounts ≡ opened_of old.accounts
   pub totals : (account : ℕ) → kept new.accounts account
-      ≡ (if account_of op == account then totals_before (kept old.accounts account) (held_on (undone (stored_of old.holds) op before) op) op outcome
+      ≡ (if account_of op == account then totals_before (kept old.accounts account)
+      (held_on (undone (stored_of old.holds) op before) op) op outcome
       else kept old.accounts account)
   pub stored : stored_of new.holds ≡ undone (stored_of old.holds) op before
   pub placed : IsPlaced new.holds

@@ -30,7 +30,8 @@ served left (Some slot) = record {
 
 -- what is kept as a group's reservation, once these slots have been served
 abbrev pub own_after : Stored → ℕ → ℕ → List (Option Slot × Option Quote) → ℕ → ℕ
-own_after st account session earlier g = fold (held_by g) (standing st (record { account = account; session = session; group = g })) earlier
+own_after st account session earlier g =
+    fold (held_by g) (standing st (record { account = account; session = session; group = g })) earlier
 
 -- what is left, by what is kept and the slots that have been served
 abbrev pub left_of : Stored → ℕ → ℕ → ℕ → List (Option Slot × Option Quote) → Left

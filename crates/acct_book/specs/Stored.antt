@@ -1,5 +1,7 @@
--- The reservations as they are kept, with no list: what stands at each holder and session, and what an operation writes over.
-use Rattle.std.specs.Prelude.{◌<◌, ◌≤◌, ◌+◌, ◌-◌, ◌^◌, ℕ, ◌==◌, Bool, ◌&&◌, nat_lt, if◌then◌else◌, Option, None, Some, IsSome, unwrap_or}
+-- The reservations as they are kept, with no list: what stands at each holder and session, and what an operation writes
+-- over.
+use Rattle.std.specs.Prelude.{◌<◌, ◌≤◌, ◌+◌, ◌-◌, ◌^◌, ℕ, ◌==◌, Bool, ◌&&◌, nat_lt}
+use Rattle.std.specs.Prelude.{if◌then◌else◌, Option, None, Some, IsSome, unwrap_or}
 use Rattle.indexmap.specs.IndexMap.{get}
 use Rattle.acct_totals.specs.declared.op.Op.{Op}
 use Rattle.acct_totals.specs.declared.op.Op.TheVariants.{Reserve, Debit, Release}
@@ -76,7 +78,8 @@ abbrev pub added : Stored → Holder → ℕ → Stored × Option Before
 added s h n =
     if n == 0 then (s, None)
     else (
-      with_rounds (with_held s h (record { amount = standing s h + n; round = (s.of (session_of h)).over + 1 })) (session_of h)
+      with_rounds (with_held s h (record { amount = standing s h + n; round = (s.of (session_of h)).over + 1 }))
+          (session_of h)
           (record { total = (s.of (session_of h)).total + n; over = (s.of (session_of h)).over }),
       Some (before_of s h),
     )
@@ -95,7 +98,10 @@ ended_of s h =
 abbrev pub all_ended_of : Stored → Session → Stored × Option Before
 all_ended_of s t =
     if (s.of t).total == 0 then (s, None)
-    else (with_rounds s t (record { total = 0; over = (s.of t).over + 1 }), Some (record { held = never; rounds = s.of t }))
+    else (
+      with_rounds s t (record { total = 0; over = (s.of t).over + 1 }),
+      Some (record { held = never; rounds = s.of t }),
+    )
 
 -- after an operation with its outcome, with what was written over
 abbrev pub step_of : Stored → Op → Outcome → Stored × Option Before
@@ -106,8 +112,12 @@ step_of st op outcome = (st, None)
 
 -- with what an operation wrote over put back
 abbrev pub undone : Stored → Op → Option Before → Stored
-undone st (Reserve a s g n) (Some b) = with_rounds (with_held st (record { account = a; session = s; group = g }) b.held) (record { account = a; session = s }) b.rounds
-undone st (Debit a s g n) (Some b) = with_rounds (with_held st (record { account = a; session = s; group = g }) b.held) (record { account = a; session = s }) b.rounds
+undone st (Reserve a s g n) (Some b) =
+    with_rounds (with_held st (record { account = a; session = s; group = g }) b.held)
+    (record { account = a; session = s }) b.rounds
+undone st (Debit a s g n) (Some b) =
+    with_rounds (with_held st (record { account = a; session = s; group = g }) b.held)
+    (record { account = a; session = s }) b.rounds
 undone st (Release a s) (Some b) = with_rounds st (record { account = a; session = s }) b.rounds
 undone st op before = st
 
@@ -115,7 +125,9 @@ undone st op before = st
 abbrev pub CanCarryOut : Stored → Op → Outcome → Type 0
 CanCarryOut st (Reserve a s g n) outcome =
     (standing st (record { account = a; session = s; group = g }) + amount_of outcome < 2 ^ 64)
-    × (((st.of (record { account = a; session = s })).total + amount_of outcome < 2 ^ 64) × ((st.of (record { account = a; session = s })).over < 2 ^ 63))
-CanCarryOut st (Debit a s g n) outcome = standing st (record { account = a; session = s; group = g }) ≤ (st.of (record { account = a; session = s })).total
+    × (((st.of (record { account = a; session = s })).total + amount_of outcome < 2 ^ 64)
+    × ((st.of (record { account = a; session = s })).over < 2 ^ 63))
+CanCarryOut st (Debit a s g n) outcome =
+    standing st (record { account = a; session = s; group = g }) ≤ (st.of (record { account = a; session = s })).total
 CanCarryOut st (Release a s) outcome = (st.of (record { account = a; session = s })).over < 2 ^ 63
 CanCarryOut st op outcome = Unit {0}

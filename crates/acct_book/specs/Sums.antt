@@ -10,7 +10,8 @@ use Rattle.acct_totals.specs.Amounts.{amount_of, unpaid_of}
 abbrev pub is_same : ℕ → ℕ → ℕ → ℕ → ℕ → ℕ → Bool
 is_same account session group a s g = (a == account) && ((s == session) && (g == group))
 
--- whether the operation ends the reservation: a Debit of this account, session and group, or a Release of this account and session
+-- whether the operation ends the reservation: a Debit of this account, session and group, or a Release of this account
+-- and session
 abbrev pub ends : ℕ → ℕ → ℕ → Op → Bool
 ends account session group (Debit a s g n) = is_same account session group a s g
 ends account session group (Release a s) = (a == account) && (s == session)
@@ -24,7 +25,8 @@ reserved_where test b = of b.op
     of (Reserve a s g n) = if test a s g then amount_of b.outcome else 0
     of op = 0
 
--- a reservation: the sum of the Reserve amounts of this account, session and group after the last Debit or Release that ends it
+-- a reservation: the sum of the Reserve amounts of this account, session and group after the last Debit or Release that
+-- ends it
 unfoldable pub own : ℕ → ℕ → ℕ → List Booked → ℕ
 own account session group journal =
     sum_by (reserved_where (is_same account session group)) (after_last (λ b. ends account session group b.op) journal)

@@ -42,12 +42,37 @@ totals_after t held op outcome = record {
 
 -- the totals before the operation that left these
 abbrev pub totals_before : Totals → ℕ → Op → Outcome → Totals
-totals_before t held (Reserve a s g n) outcome = record { given = t.given; reserved = t.reserved - amount_of outcome; debited = t.debited; unpaid = t.unpaid }
+totals_before t held (Reserve a s g n) outcome = record {
+  given = t.given;
+  reserved = t.reserved - amount_of outcome;
+  debited = t.debited;
+  unpaid = t.unpaid;
+}
 totals_before t held (Debit a s g n) outcome =
-    record { given = t.given; reserved = t.reserved + held; debited = t.debited - amount_of outcome; unpaid = t.unpaid - unpaid_of outcome }
-totals_before t held (Release a s) outcome = record { given = t.given; reserved = t.reserved + held; debited = t.debited; unpaid = t.unpaid }
-totals_before t held (Charge a n) outcome = record { given = t.given; reserved = t.reserved; debited = t.debited - amount_of outcome; unpaid = t.unpaid }
-totals_before t held (Refund a n) outcome = record { given = t.given; reserved = t.reserved; debited = t.debited + amount_of outcome; unpaid = t.unpaid }
+    record {
+      given = t.given;
+      reserved = t.reserved + held;
+      debited = t.debited - amount_of outcome;
+      unpaid = t.unpaid - unpaid_of outcome;
+    }
+totals_before t held (Release a s) outcome = record {
+  given = t.given;
+  reserved = t.reserved + held;
+  debited = t.debited;
+  unpaid = t.unpaid;
+}
+totals_before t held (Charge a n) outcome = record {
+  given = t.given;
+  reserved = t.reserved;
+  debited = t.debited - amount_of outcome;
+  unpaid = t.unpaid;
+}
+totals_before t held (Refund a n) outcome = record {
+  given = t.given;
+  reserved = t.reserved;
+  debited = t.debited + amount_of outcome;
+  unpaid = t.unpaid;
+}
 
 -- the totals are what the operation left of sound ones
 pub record IsLeft (t : Totals) (held : ℕ) (op : Op) (outcome : Outcome) : Type 0 where

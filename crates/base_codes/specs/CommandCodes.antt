@@ -2,7 +2,8 @@
 use Rattle.std.specs.Prelude.{ℕ, ◌==◌, List, [], ◌∷◌, Option, codes}
 use Rattle.std.specs.List.{find}
 use Rattle.base_codes.specs.declared.command_code.CommandCode.{CommandCode}
-use Rattle.base_codes.specs.declared.command_code.CommandCode.TheVariants.{CapabilitiesExchange, ReAuth, CreditControl, DeviceWatchdog, DisconnectPeer}
+use Rattle.base_codes.specs.declared.command_code.CommandCode.TheVariants.{CapabilitiesExchange, ReAuth, CreditControl}
+use Rattle.base_codes.specs.declared.command_code.CommandCode.TheVariants.{DeviceWatchdog, DisconnectPeer}
 
 -- the number of each
 abbrev pub number_of : CommandCode → ℕ

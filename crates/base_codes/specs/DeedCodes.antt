@@ -2,7 +2,10 @@
 use Rattle.std.specs.Prelude.{ℕ, ◌==◌, List, [], ◌∷◌, Option, codes}
 use Rattle.std.specs.List.{find}
 use Rattle.base_codes.specs.declared.deed_code.DeedCode.{DeedCode}
-use Rattle.base_codes.specs.declared.deed_code.DeedCode.TheVariants.{Unlisted, ToPeer, ToSession, Close, Dial, Undial, Arm, Disarm, SndCer, SndCea, SndDwa, SndDpr, SndDpa, SndMsg, Elect, Reserve, Debit, Release, Charge, Refund, Service}
+use Rattle.base_codes.specs.declared.deed_code.DeedCode.TheVariants.{Unlisted, ToPeer, ToSession, Close, Dial}
+use Rattle.base_codes.specs.declared.deed_code.DeedCode.TheVariants.{Undial, Arm, Disarm, SndCer, SndCea, SndDwa}
+use Rattle.base_codes.specs.declared.deed_code.DeedCode.TheVariants.{SndDpr, SndDpa, SndMsg, Elect, Reserve}
+use Rattle.base_codes.specs.declared.deed_code.DeedCode.TheVariants.{Debit, Release, Charge, Refund, Service}
 
 -- the number of each
 abbrev pub number_of : DeedCode → ℕ

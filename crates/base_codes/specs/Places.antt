@@ -1,5 +1,5 @@
--- Facts of events and registers of machines: at which number each stands, by role. Two facts may share a number, each in its own kinds
--- of events.
+-- Facts of events and registers of machines: at which number each stands, by role. Two facts may share a number, each
+-- in its own kinds of events.
 use Rattle.std.specs.Prelude.{ℕ, List, [], ◌∷◌, map, codes}
 use Rattle.std.specs.Borrow.{Bor}
 

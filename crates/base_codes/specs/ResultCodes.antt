@@ -1,7 +1,16 @@
 -- Result-Codes by number and name (RFC 6733 section 7.1, RFC 8506 section 9).
 use Rattle.std.specs.Prelude.{ℕ, List, codes}
 use Rattle.base_codes.specs.declared.result_code.ResultCode.{ResultCode}
-use Rattle.base_codes.specs.declared.result_code.ResultCode.TheVariants.{Success, CommandUnsupported, TooBusy, ApplicationUnsupported, UnknownPeer, EndUserServiceDenied, CreditControlNotApplicable, CreditLimitReached, AvpUnsupported, UnknownSessionId, InvalidAvpValue, MissingAvp, NoCommonApplication, UnsupportedVersion, UnableToComply, InvalidAvpLength, InvalidMessageLength, UserUnknown, RatingFailed}
+use Rattle.base_codes.specs.declared.result_code.ResultCode.TheVariants.{Success, CommandUnsupported, TooBusy}
+use Rattle.base_codes.specs.declared.result_code.ResultCode.TheVariants.{ApplicationUnsupported}
+use Rattle.base_codes.specs.declared.result_code.ResultCode.TheVariants.{UnknownPeer, EndUserServiceDenied}
+use Rattle.base_codes.specs.declared.result_code.ResultCode.TheVariants.{CreditControlNotApplicable}
+use Rattle.base_codes.specs.declared.result_code.ResultCode.TheVariants.{CreditLimitReached, AvpUnsupported}
+use Rattle.base_codes.specs.declared.result_code.ResultCode.TheVariants.{UnknownSessionId, InvalidAvpValue}
+use Rattle.base_codes.specs.declared.result_code.ResultCode.TheVariants.{MissingAvp, NoCommonApplication}
+use Rattle.base_codes.specs.declared.result_code.ResultCode.TheVariants.{UnsupportedVersion, UnableToComply}
+use Rattle.base_codes.specs.declared.result_code.ResultCode.TheVariants.{InvalidAvpLength, InvalidMessageLength}
+use Rattle.base_codes.specs.declared.result_code.ResultCode.TheVariants.{UserUnknown, RatingFailed}
 
 -- the number of a Result-Code
 abbrev pub number_of : ResultCode → ℕ

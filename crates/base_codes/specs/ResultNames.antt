@@ -3,7 +3,16 @@ use Rattle.std.specs.Prelude.{ℕ, ◌==◌, List, [], ◌∷◌, Option, codes}
 use Rattle.std.specs.Option.{option_map_or}
 use Rattle.std.specs.List.{find}
 use Rattle.base_codes.specs.declared.result_code.ResultCode.{ResultCode}
-use Rattle.base_codes.specs.declared.result_code.ResultCode.TheVariants.{Success, CommandUnsupported, TooBusy, ApplicationUnsupported, UnknownPeer, EndUserServiceDenied, CreditControlNotApplicable, CreditLimitReached, AvpUnsupported, UnknownSessionId, InvalidAvpValue, MissingAvp, NoCommonApplication, UnsupportedVersion, UnableToComply, InvalidAvpLength, InvalidMessageLength, UserUnknown, RatingFailed}
+use Rattle.base_codes.specs.declared.result_code.ResultCode.TheVariants.{Success, CommandUnsupported, TooBusy}
+use Rattle.base_codes.specs.declared.result_code.ResultCode.TheVariants.{ApplicationUnsupported}
+use Rattle.base_codes.specs.declared.result_code.ResultCode.TheVariants.{UnknownPeer, EndUserServiceDenied}
+use Rattle.base_codes.specs.declared.result_code.ResultCode.TheVariants.{CreditControlNotApplicable}
+use Rattle.base_codes.specs.declared.result_code.ResultCode.TheVariants.{CreditLimitReached, AvpUnsupported}
+use Rattle.base_codes.specs.declared.result_code.ResultCode.TheVariants.{UnknownSessionId, InvalidAvpValue}
+use Rattle.base_codes.specs.declared.result_code.ResultCode.TheVariants.{MissingAvp, NoCommonApplication}
+use Rattle.base_codes.specs.declared.result_code.ResultCode.TheVariants.{UnsupportedVersion, UnableToComply}
+use Rattle.base_codes.specs.declared.result_code.ResultCode.TheVariants.{InvalidAvpLength, InvalidMessageLength}
+use Rattle.base_codes.specs.declared.result_code.ResultCode.TheVariants.{UserUnknown, RatingFailed}
 use Rattle.base_codes.specs.ResultCodes.{number_of, name_of}
 
 -- the Result-Codes that this project's code names
@@ -44,7 +53,8 @@ others =
 
 -- the name of one of the others, empty where there is none
 unfoldable pub other_name : ℕ → List ℕ
-other_name number = option_map_or (λ (entry : ℕ × List ℕ). entry.1) (find (λ (entry : ℕ × List ℕ). entry.0 == number) others) []
+other_name number =
+    option_map_or (λ (entry : ℕ × List ℕ). entry.1) (find (λ (entry : ℕ × List ℕ). entry.0 == number) others) []
 
 -- the name of a Result-Code by its number, empty where it has none
 abbrev pub result_name : ℕ → List ℕ

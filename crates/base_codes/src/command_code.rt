@@ -1,3 +1,4 @@
+//! Command Codes.
 ghost use Rattle.std.specs.Prelude.{◌≡◌};
 ghost use Rattle.base_codes.specs.CommandCodes.{number_of, name_of, coded};
 

@@ -1,3 +1,4 @@
+//! Codes of deeds.
 ghost use Rattle.std.specs.Prelude.{◌≡◌};
 ghost use Rattle.base_codes.specs.DeedCodes.{number_of, name_of, coded};
 

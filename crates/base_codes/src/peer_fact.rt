@@ -1,4 +1,5 @@
-//! What the facts of a peer's events are. Facts that an event does not have are 0; a message of credit control has those of
+//! What the facts of a peer's events are. Facts that an event does not have are 0; a message of credit control has
+//! those of
 //! `session_fact`.
 
 ghost use Rattle.std.specs.Prelude.{◌≡◌};

@@ -1,3 +1,4 @@
+//! Result-Codes.
 ghost use Rattle.std.specs.Prelude.{◌≡◌};
 ghost use Rattle.base_codes.specs.ResultCodes.{number_of, name_of};
 

@@ -1,5 +1,6 @@
-//! Places of one service of several (Multiple-Services-Credit-Control, RFC 8506 section 8.16), in facts and in registers
-//! alike: slot `k` of 1 to 4 begins at `FIRST + (k - 1) * SIZE`, and the other numbers are counted from there.
+//! Places of one service of several (Multiple-Services-Credit-Control, RFC 8506 section 8.16), in facts and in
+//! registers alike: slot `k` of 1 to 4 begins at `FIRST + (k - 1) * SIZE`, and the other numbers are counted from
+//! there.
 
 ghost use Rattle.std.specs.Prelude.{◌≡◌};
 ghost use Rattle.base_codes.specs.Places.{named, slot_begins, slot_places};

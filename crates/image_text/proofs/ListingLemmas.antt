@@ -1,5 +1,5 @@
 -- The lines of entries and instructions.
-use Rattle.std.proofs.Common.{◌≡◌, ℕ, ◌+◌, ◌*◌, ◌<◌, ◌≤◌, suc, zero, cond, nat_lt, List, [], ◌∷◌, ◌++◌, Some, None, length, take, drop, arith, refl, sym, ap, ◌∙◌, append_assoc, append-nil, length-append}
+use Rattle.std.proofs.Common.{◌≡◌, ℕ, ◌+◌, ◌<◌, ◌≤◌, suc, zero, cond, nat_lt, List, [], ◌∷◌, ◌++◌, Some, None, length, take, drop, arith, refl, sym, ap, ◌∙◌, append_assoc, append-nil, length-append}
 use Rattle.std.specs.Prelude.{All}
 use Rattle.std.specs.List.{flat_map, range_with_len, slice_index_or}
 use Rattle.std.proofs.lemmas.List.{drop-drop, flat_map_more, length-drop, length-take-le}

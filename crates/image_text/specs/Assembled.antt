@@ -24,7 +24,8 @@ image_text table = encode_lower (image_octets format_2 (image_of table)) ++ code
 -- what is refused first: the table's text, or a name that the book lacks
 unfoldable pub refusal_of : Laws → List ℕ → Option (List ℕ)
 refusal_of laws table =
-    option_or (option_map table_fault (first_fault table)) (option_map unbound_text (slice_get (missing laws (table_of table)) 0))
+    option_or (option_map table_fault (first_fault table))
+    (option_map unbound_text (slice_get (missing laws (table_of table)) 0))
 
 -- what is told, and whether it is a refusal
 abbrev pub IsTold : Laws → (table text : List ℕ) → Bool → Type 0
@@ -32,13 +33,16 @@ IsTold laws table text true = refusal_of laws table ≡ Some text
 IsTold laws table text false = (refusal_of laws table ≡ None) × (text ≡ image_text (table_of table))
 
 -- What is told was taken whole and its status is the answer, or a write fault came; or memory ran out.
-pub record IsAssembled {O : Type 0} (contents : O → Option (List ℕ)) (failures idle : O → ℕ) (laws : Laws) (table : List ℕ) (old new : O) (answer : Status) : Type 0 where
+pub record IsAssembled
+    {O : Type 0} (contents : O → Option (List ℕ)) (failures idle : O → ℕ) (laws : Laws) (table : List ℕ) (old new : O)
+    (answer : Status) : Type 0 where
   pub text : List ℕ
   pub refused : Bool
   pub is : IsTold laws table text refused
   pub told : Tells contents failures idle old new text (told_status refused) answer
 
-abbrev pub IsAssembledOn : {O : Type 0} → (contents : O → Option (List ℕ)) → (failures idle : O → ℕ) → Laws → (table : List ℕ) → (old new : O) → Status → Type 0
+abbrev pub IsAssembledOn : {O : Type 0} → (contents : O → Option (List ℕ)) → (failures idle : O → ℕ) → Laws
+    → (table : List ℕ) → (old new : O) → Status → Type 0
 IsAssembledOn contents failures idle laws table old new answer =
     IsAssembled contents failures idle laws table old new answer
     ⊎ Tells contents failures idle old new (codes "no memory\n") statuses.NoMemory answer

@@ -16,13 +16,16 @@ IsTold laws text told true = (error : ImageError) × IsNoImage laws text error �
 IsTold laws text told false = (program : Loaded) × IsImageOf laws text program × IsListing program told
 
 -- What is told was taken whole and its status is the answer, or a write fault came; or memory ran out.
-pub record IsListed {O : Type 0} (contents : O → Option (List ℕ)) (failures idle : O → ℕ) (laws : Laws) (text : List ℕ) (old new : O) (answer : Status) : Type 0 where
+pub record IsListed
+    {O : Type 0} (contents : O → Option (List ℕ)) (failures idle : O → ℕ) (laws : Laws) (text : List ℕ) (old new : O)
+    (answer : Status) : Type 0 where
   pub listing : List ℕ
   pub refused : Bool
   pub is : IsTold laws text listing refused
   pub told : Tells contents failures idle old new listing (told_status refused) answer
 
-abbrev pub IsListedOn : {O : Type 0} → (contents : O → Option (List ℕ)) → (failures idle : O → ℕ) → Laws → (text : List ℕ) → (old new : O) → Status → Type 0
+abbrev pub IsListedOn : {O : Type 0} → (contents : O → Option (List ℕ)) → (failures idle : O → ℕ) → Laws
+    → (text : List ℕ) → (old new : O) → Status → Type 0
 IsListedOn contents failures idle laws text old new answer =
     IsListed contents failures idle laws text old new answer
     ⊎ Tells contents failures idle old new (codes "no memory\n") statuses.NoMemory answer

@@ -1,5 +1,6 @@
 -- What a listing of an image is.
-use Rattle.std.specs.Prelude.{◌≡◌, ℕ, ◌+◌, ◌/◌, ◌%◌, List, [], ◌∷◌, ◌++◌, Option, Some, None, All, length, codes, decimal}
+use Rattle.std.specs.Prelude.{◌≡◌, ℕ, ◌+◌, ◌/◌, ◌%◌, List, [], ◌∷◌, ◌++◌}
+use Rattle.std.specs.Prelude.{Option, Some, None, All, length, codes, decimal}
 use Rattle.std.specs.List.{flat_map, range_with_len, slice_index_or}
 use Rattle.tab_asm.specs.Formats.{Instruction, BeginRow, TestGuard, RunAction, GoTo, NoRow, code_of, octets_of}
 use Rattle.tab_asm.specs.Images.{Image}
@@ -13,7 +14,8 @@ use Rattle.tab_step.specs.Moves.{name_at}
 abbrev pub offset_text : Image → ℕ → Option ℕ → List ℕ
 offset_text image number None = []
 offset_text image number (Some offset) =
-    name_at image.states (number / length image.kinds) ++ codes " " ++ name_at image.kinds (number % length image.kinds) ++ codes " "
+    name_at image.states (number / length image.kinds) ++ codes " " ++ name_at image.kinds (number % length image.kinds)
+    ++ codes " "
     ++ decimal offset ++ codes "\n"
 
 -- the entry of that number: state by state, and in it kind by kind
@@ -27,7 +29,8 @@ entries_text image = flat_map (entry_text image) (range_with_len 0 (length image
 -- `GUARD mine 19`: an operation, and its operands, by name but for rows and offsets
 abbrev pub instruction_text : Image → Instruction → List ℕ
 instruction_text image (BeginRow row) = codes "ROW " ++ decimal row
-instruction_text image (TestGuard guard otherwise) = codes "GUARD " ++ name_at image.guards guard ++ codes " " ++ decimal otherwise
+instruction_text image (TestGuard guard otherwise) =
+    codes "GUARD " ++ name_at image.guards guard ++ codes " " ++ decimal otherwise
 instruction_text image (RunAction action) = codes "ACT " ++ name_at image.actions action
 instruction_text image (GoTo state) = codes "GOTO " ++ name_at image.states state
 instruction_text image NoRow = codes "NONE"
@@ -40,9 +43,11 @@ line_text image at instruction = decimal at ++ codes " " ++ instruction_text ima
 abbrev pub code_text : Format → Image → ℕ → List Instruction → List ℕ
 code_text format image at [] = []
 code_text format image at (instruction ∷ rest) =
-    line_text image at instruction ++ code_text format image (at + length (octets_of (format_of format) instruction)) rest
+    line_text image at instruction ++ code_text format image (at + length (octets_of (format_of format) instruction))
+    rest
 
--- these are the instructions of a program's code: their octets are its octets, and their operands are what the octets hold
+-- these are the instructions of a program's code: their octets are its octets, and their operands are what the octets
+-- hold
 pub record AreInstructions (program : Loaded) (instructions : List Instruction) : Type 0 where
   pub whole : program.image.code ≡ code_of (format_of program.format) instructions
   pub fit : All (Fits program.format) instructions

@@ -53,7 +53,8 @@ fn text_of(alloc: Global, table: &[u8], book: &LawBook) -> Result<Told, AllocErr
     }
 }
 
-/// Assembles a table's text with the names of a book, and prints its image (format 2) in hexadecimal digits and a newline.
+/// Assembles a table's text with the names of a book, and prints its image (format 2) in hexadecimal digits and a
+/// newline.
 ///
 /// Refused, with status `Refused`, are a table with a fault (`line N fault C`) and one that names what the book lacks
 /// (`unbound NAME`), each with what was wanted.
@@ -61,11 +62,13 @@ pub fn assemble_on<O: ByteSink>(alloc: Global, table: &[u8], book: &LawBook, sin
     requires idle { O.idle sink.old ≡ 0 }
     requires failures { O.failures sink.old < 2 ^ 64 - 1 }
 
-    // What is printed is the image, or the first refusal; want of memory aside, it is done exactly where nothing is refused.
+    // What is printed is the image, or the first refusal; want of memory aside, it is done exactly where nothing is
+    // refused.
     ensures assembled { IsAssembledOn O.contents O.failures O.idle book.now table.now sink.old sink.new result }
     ensures words { result ≢ Status.Usage }
 
-    // A fault of the run comes only where the sink failed, or took nothing in as many writes in a row as the bound says.
+    // A fault of the run comes only where the sink failed, or took nothing in as many writes in a row as the bound
+    // says.
     ensures cause { result ≡ Status.Fault → HasWriteCause O.failures O.idle sink.old sink.new }
     ensures row { O.most_idle sink.new ≤ max (O.most_idle sink.old) MAX_IDLE_WRITES }
 {

@@ -1,5 +1,5 @@
-//! Images of tables as text: a table's text assembled, and told in hexadecimal; an image read from hexadecimal, and listed
-//! in words.
+//! Images of tables as text: a table's text assembled, and told in hexadecimal; an image read from hexadecimal, and
+//! listed in words.
 //!
 //! | Module | What it has |
 //! |---|---|

@@ -27,21 +27,22 @@ fn text_of(alloc: Global, text: &[u8], book: &LawBook) -> Result<Told, AllocErro
     }
 }
 
-/// Lists an image, which is read from hexadecimal digits and loaded with a book: a line `STATE KIND OFFSET` for each entry that
-/// has an offset, in their order, then a line `OFFSET OPERATION` for each instruction of the code.
+/// Lists an image, which is read from hexadecimal digits and loaded with a book: a line `STATE KIND OFFSET` for each
+/// entry that has an offset, in their order, then a line `OFFSET OPERATION` for each instruction of the code.
 ///
-/// Refused, with status `Refused`, are a text that isn't digits, two for each octet (`bad hex`), and an image with a fault
-/// (`at N fault C`).
+/// Refused, with status `Refused`, are a text that isn't digits, two for each octet (`bad hex`), and an image with a
+/// fault (`at N fault C`).
 pub fn list_on<O: ByteSink>(alloc: Global, text: &[u8], book: &LawBook, sink: &mut O) -> Status
     requires idle { O.idle sink.old ≡ 0 }
     requires failures { O.failures sink.old < 2 ^ 64 - 1 }
 
-    // What is printed is the listing of the image, or its first refusal; want of memory aside, it is done exactly where nothing
-    // is refused.
+    // What is printed is the listing of the image, or its first refusal; want of memory aside, it is done exactly where
+    // nothing is refused.
     ensures listed { IsListedOn O.contents O.failures O.idle book.now text.now sink.old sink.new result }
     ensures words { result ≢ Status.Usage }
 
-    // A fault of the run comes only where the sink failed, or took nothing in as many writes in a row as the bound says.
+    // A fault of the run comes only where the sink failed, or took nothing in as many writes in a row as the bound
+    // says.
     ensures cause { result ≡ Status.Fault → HasWriteCause O.failures O.idle sink.old sink.new }
     ensures row { O.most_idle sink.new ≤ max (O.most_idle sink.old) MAX_IDLE_WRITES }
 {

@@ -4,7 +4,8 @@ ghost use Rattle.tab_law.specs.Books.{Laws};
 ghost use Rattle.tab_load.specs.Code.{instruction_of};
 ghost use Rattle.tab_load.specs.Loading.{IsLoaded};
 ghost use Rattle.tab_step.specs.Moves.{name_at};
-ghost use Rattle.image_text.specs.Listings.{IsListing, IsCodeListing, entries_text, entry_text, instruction_text, line_text};
+ghost use Rattle.image_text.specs.Listings.{IsListing, IsCodeListing, entries_text};
+ghost use Rattle.image_text.specs.Listings.{entry_text, instruction_text, line_text};
 
 use base_list::Octets;
 use bench_text::put_number;

@@ -57,8 +57,8 @@ fn octets_of(alloc: Global, text: &[u8]) -> Result<Vec<u8>, ImageError>
 
 /// The program of an image in hexadecimal digits of either case, two for each octet. Blanks and newlines don't count.
 ///
-/// An image is loaded with the book that it is to run with; a faulty one is refused for its first fault, as `tab_load::load`
-/// has it.
+/// An image is loaded with the book that it is to run with; a faulty one is refused for its first fault, as
+/// `tab_load::load` has it.
 pub fn read_image(alloc: Global, text: &[u8], book: &LawBook) -> Result<Program, ImageError>
     ensures ok { IfOk result (IsImageOf book.now text.now) }
     ensures err { IfErr result (IsNoImage book.now text.now) }

@@ -44,11 +44,15 @@ listed empty separator text (first ∷ others) = separated separator text (first
 
 -- `  mine: f6 = r1`
 unfoldable pub guard_line : Named (List Test) → List ℕ
-guard_line entry = codes "  " ++ entry.name ++ codes ": " ++ listed (codes "always") (codes " and ") test_text entry.value ++ codes "\n"
+guard_line entry =
+    codes "  " ++ entry.name ++ codes ": " ++ listed (codes "always") (codes " and ") test_text entry.value
+    ++ codes "\n"
 
 -- `  I-Snd-CER: r0 := f1; r7 := r7 + 1; Snd-CER(0, f1, r14, r7 after)`
 unfoldable pub act_line : Named (List Change) → List ℕ
-act_line entry = codes "  " ++ entry.name ++ codes ": " ++ listed (codes "nothing") (codes "; ") change_text entry.value ++ codes "\n"
+act_line entry =
+    codes "  " ++ entry.name ++ codes ": " ++ listed (codes "nothing") (codes "; ") change_text entry.value
+    ++ codes "\n"
 
 -- a kind of events is its name
 abbrev pub kind_line : Named (Unit {0}) → List ℕ

@@ -1,4 +1,6 @@
-use Rattle.std.specs.Prelude.{◌≡◌, ℕ, zero, suc, ◌+◌, ◌*◌, ◌<◌, ◌==◌, ◌++◌, ◌∷◌, [], Bool, List, Option, Some, None, length, map, filter}
+-- The image of a table: its instructions, its entries, and what they mean.
+use Rattle.std.specs.Prelude.{◌≡◌, ℕ, zero, suc, ◌+◌, ◌*◌, ◌<◌, ◌==◌, ◌++◌, ◌∷◌, []}
+use Rattle.std.specs.Prelude.{Bool, List, Option, Some, None, length, map, filter}
 use Rattle.std.specs.List.{slice_get, range_with_len, enumerate_from}
 use Rattle.std.specs.Str.{bytes_eq}
 use Rattle.tab_text.specs.Contents.{Contents}
@@ -28,7 +30,8 @@ row_size row = 5 + 6 * length row.guards + 2 * length row.actions
 abbrev pub row_instructions : ℕ → ℕ × Row → List Instruction
 row_instructions otherwise numbered =
     BeginRow numbered.0
-    ∷ (map (λ guard. TestGuard guard otherwise) numbered.1.guards ++ (map RunAction numbered.1.actions ++ GoTo numbered.1.next ∷ []))
+    ∷ (map (λ guard. TestGuard guard otherwise) numbered.1.guards
+    ++ (map RunAction numbered.1.actions ++ GoTo numbered.1.next ∷ []))
 
 -- the instructions of rows, the first of which begin at that offset: where a guard says no it goes on behind its row
 abbrev pub rows_instructions : ℕ → List (ℕ × Row) → List Instruction
@@ -77,7 +80,8 @@ abbrev pub outcome_of : Option (ℕ × Row) → Outcome
 outcome_of None = Unlisted
 outcome_of (Some numbered) = Taken numbered.0 numbered.1.actions numbered.1.next
 
--- in each state, at each kind of events and whatever the guards answer, an image leads to the first row of the table that matches
+-- in each state, at each kind of events and whatever the guards answer, an image leads to the first row of the table
+-- that matches
 abbrev pub Means : Image → Contents → Type 0
 Means image table =
     (state kind : ℕ) (answers : List ℕ → Bool) → state < length table.states → kind < length table.kinds →

@@ -1,9 +1,10 @@
+-- Formats of images, and the octets of instructions.
 use Rattle.std.specs.Prelude.{ℕ, List, [], ◌∷◌, codes}
 use Rattle.std.specs.List.{flat_map}
 use Rattle.std.specs.Int.{Width, w16, w32, to_be_bytes}
 
--- what the formats of images differ in: the octets that an image begins with, how wide the code's length and the offsets into it
--- are, the offset that stands for none, and how many rows there may be
+-- what the formats of images differ in: the octets that an image begins with, how wide the code's length and the
+-- offsets into it are, the offset that stands for none, and how many rows there may be
 pub record Format : Type 0 where
   pub magic : List ℕ
   pub width : Width

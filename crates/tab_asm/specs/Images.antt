@@ -1,10 +1,11 @@
+-- The octets of an image.
 use Rattle.std.specs.Prelude.{ℕ, List, ◌∷◌, ◌++◌, length, Option, Some, None}
 use Rattle.std.specs.List.{flat_map}
 use Rattle.std.specs.Int.{w16, to_be_bytes}
 use Rattle.tab_asm.specs.Formats.{Format}
 
--- what an image holds: names by number, how many rows there are, for each state and in it for each kind of events the offset at which
--- the code of its rows begins, or none, and the code
+-- what an image holds: names by number, how many rows there are, for each state and in it for each kind of events the
+-- offset at which the code of its rows begins, or none, and the code
 pub record Image : Type 0 where
   pub states : List (List ℕ)
   pub kinds : List (List ℕ)
@@ -17,7 +18,8 @@ pub record Image : Type 0 where
 -- the counts: states, kinds, guards, actions and rows, two octets each
 abbrev pub counts : Image → List ℕ
 counts image =
-    to_be_bytes w16 (length image.states) ++ to_be_bytes w16 (length image.kinds) ++ to_be_bytes w16 (length image.guards)
+    to_be_bytes w16 (length image.states) ++ to_be_bytes w16 (length image.kinds)
+    ++ to_be_bytes w16 (length image.guards)
     ++ to_be_bytes w16 (length image.actions) ++ to_be_bytes w16 image.rows
 
 -- a name: its length in one octet, and its octets

@@ -1,4 +1,6 @@
-use Rattle.std.specs.Prelude.{◌≡◌, ℕ, ◌+◌, ◌<◌, ◌≤◌, ◌++◌, ◌∷◌, [], Bool, List, Option, Some, None, length, drop, option_map, if◌then◌else◌}
+-- Paths through the code of an image, and how events end by them.
+use Rattle.std.specs.Prelude.{◌≡◌, ℕ, ◌+◌, ◌<◌, ◌≤◌, ◌++◌, ◌∷◌, [], Bool, List, Option}
+use Rattle.std.specs.Prelude.{Some, None, length, drop, option_map, if◌then◌else◌}
 use Rattle.tab_asm.specs.Formats.{Format, Instruction, BeginRow, TestGuard, RunAction, GoTo, NoRow, octets_of}
 
 -- the operands of an instruction are numbers that its octets can hold, and an offset lies in the code

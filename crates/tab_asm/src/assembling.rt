@@ -1,3 +1,4 @@
+//! The image of a table.
 ghost use Rattle.std.specs.Prelude.{◌≡◌, ℕ, ◌<◌, ◌++◌, [], All, length, map, OnOk, IfOk};
 ghost use Rattle.std.specs.List.{flat_map, range_with_len};
 ghost use Rattle.std.specs.Int.{w16, to_be_bytes};
@@ -75,7 +76,8 @@ fn put_offset(out: &mut Vec<u8>, offset: Option<u32>) -> Result<(), AllocError>
 /// The entries of a table, state by state and in each kind by kind, and their code.
 fn code_entries(alloc: Global, table: &Table) -> Result<Coded, AllocError>
     ensures code { IfOk result (λ coded. coded.code.items ≡ code_to table.now (entry_count table.now)) }
-    ensures entries { IfOk result (λ coded. coded.entries.items ≡ flat_map (offset_octets format_2) (map (entry_offset table.now) (range_with_len 0 (entry_count table.now)))) }
+    ensures entries { IfOk result (λ coded. coded.entries.items
+        ≡ flat_map (offset_octets format_2) (map (entry_offset table.now) (range_with_len 0 (entry_count table.now)))) }
     ensures few { IfOk result (λ coded. length coded.code.items < 4294967296) }
 {
     let count = table.states().as_slice().len() * table.kinds().as_slice().len();

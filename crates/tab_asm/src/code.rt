@@ -9,7 +9,8 @@ use tab_text::{Row, Table};
 
 /// Puts a test of each guard of a row, in order: where one says no, its row is left for that offset.
 fn put_guards(code: &mut Vec<u8>, guards: &[u8], otherwise: u32) -> Result<(), AllocError>
-    ensures { OnOk result (code.new.items ≡ code.old.items ++ code_of format_2 (map (λ guard. TestGuard guard otherwise) guards.now)) }
+    ensures { OnOk result (code.new.items
+        ≡ code.old.items ++ code_of format_2 (map (λ guard. TestGuard guard otherwise) guards.now)) }
 {
     for guard in guards {
         code.push(2)?;
@@ -41,7 +42,9 @@ fn row_size(row: &Row) -> usize
 /// Puts the instructions of a row.
 fn put_row(code: &mut Vec<u8>, number: u16, row: &Row) -> Result<(), AllocError>
     requires { length code.old.items + 69 < 4294967296 }
-    ensures ok { OnOk result (code.new.items ≡ code.old.items ++ code_of format_2 (row_instructions (length code.old.items + row_size row.now) (number, row.now))) }
+    ensures ok { OnOk result (code.new.items
+        ≡ code.old.items ++ code_of format_2
+        (row_instructions (length code.old.items + row_size row.now) (number, row.now))) }
     ensures few { row_size row.now ≤ 69 }
 {
     let otherwise = (code.len() + row_size(row)) as u32;
@@ -70,7 +73,8 @@ pub(crate) fn put_entry(
     entry: usize,
 ) -> Result<Option<u32>, AllocError>
     requires { length code.old.items + 282625 < 4294967296 }
-    ensures ok { OnOk result (code.new.items ≡ code.old.items ++ code_of format_2 (entry_instructions (length code.old.items) (rows_in table.now entry))) }
+    ensures ok { OnOk result (code.new.items
+        ≡ code.old.items ++ code_of format_2 (entry_instructions (length code.old.items) (rows_in table.now entry))) }
     ensures offset { IfOk result (λ offset. offset ≡ offset_of (length code.old.items) (rows_in table.now entry)) }
     ensures few { OnOk result (length code.new.items ≤ length code.old.items + 282625) }
 {

@@ -51,7 +51,8 @@ fn are_acts_of(stored: &[StoredAct], laws: &NamedList<ActLaw>) -> bool
 impl Calls {
     /// Whether these are the callbacks of a role.
     fn are_of(&self, role: &LawBook) -> bool
-        ensures { IsTrue result ↔ AreCallsOf role.now (map (λ guard. guard.law) self.now.guards.items) (map (λ act. act.law) self.now.acts.items) }
+        ensures { IsTrue result ↔ AreCallsOf role.now (map (λ guard. guard.law) self.now.guards.items)
+            (map (λ act. act.law) self.now.acts.items) }
     {
         are_guards_of(self.guards.as_slice(), role.guards())
             && are_acts_of(self.acts.as_slice(), role.acts())
@@ -60,7 +61,8 @@ impl Calls {
 
 /// Why a role is not added to a book with these callbacks, memory aside.
 fn check_role(role: &LawBook, there: &LawBook, calls: &Calls) -> Result<(), RegisterError>
-    ensures { IsAnswer role.now there.now (map (λ guard. guard.law) calls.now.guards.items) (map (λ act. act.law) calls.now.acts.items) result }
+    ensures { IsAnswer role.now there.now (map (λ guard. guard.law) calls.now.guards.items)
+        (map (λ act. act.law) calls.now.acts.items) result }
 {
     if !calls.are_of(role) {
         return Err(RegisterError::Laws);

@@ -1,4 +1,6 @@
-ghost use Rattle.std.specs.Prelude.{◌≡◌, ◌<◌, ◌≤◌, ◌+◌, ◌++◌, ◌∷◌, [], None, length, map, take, OnOk, OnErr, IfErr, vec_len, vec_capacity};
+//! A registry of callbacks under their names.
+ghost use Rattle.std.specs.Prelude.{◌≡◌, ◌<◌, ◌≤◌, ◌+◌, ◌++◌, ◌∷◌, [], None, length, map};
+ghost use Rattle.std.specs.Prelude.{take, OnOk, OnErr, IfErr, vec_len, vec_capacity};
 ghost use Rattle.base_list.specs.Adding.{error_of};
 ghost use Rattle.base_list.specs.Named.{refusal};
 ghost use Rattle.base_list.specs.declared.error.AddError.TheVariants.{NoMemory};
@@ -58,7 +60,10 @@ fn add_guard_law(
     law: &GuardLaw,
 ) -> Result<(), AddError>
     requires { refusal MAX_GUARDS name.now book.old.guards ≡ None }
-    ensures ok { OnOk result (book.new ≡ record book.old { guards = book.old.guards ++ record { name = name.now; value = law.now } ∷ [] }) }
+    ensures ok { OnOk result (book.new ≡ record book.old {
+      guards = book.old.guards
+          ++ record { name = name.now; value = law.now } ∷ [];
+    }) }
     ensures err { IfErr result (λ e. (e ≡ NoMemory) × (book.new ≡ book.old)) }
 {
     let law = law.copy(alloc)?;
@@ -69,7 +74,10 @@ fn add_guard_law(
 /// Adds a copy of an action's law to a book where nothing but memory stands against it.
 fn add_act_law(alloc: Global, book: &mut LawBook, name: &[u8], law: &ActLaw) -> Result<(), AddError>
     requires { refusal MAX_ACTIONS name.now book.old.acts ≡ None }
-    ensures ok { OnOk result (book.new ≡ record book.old { acts = book.old.acts ++ record { name = name.now; value = law.now } ∷ [] }) }
+    ensures ok { OnOk result (book.new ≡ record book.old {
+      acts = book.old.acts
+          ++ record { name = name.now; value = law.now } ∷ [];
+    }) }
     ensures err { IfErr result (λ e. (e ≡ NoMemory) × (book.new ≡ book.old)) }
 {
     let law = law.copy(alloc)?;
@@ -116,7 +124,8 @@ impl Registry {
 
     /// Adds a kind of events.
     pub fn add_kind(&mut self, name: &[u8]) -> Result<(), AddError>
-        ensures ok { OnOk result (self.new.book ≡ record self.old.book { kinds = self.old.book.kinds ++ record { name = name.now; value = tt } ∷ [] }) }
+        ensures ok { OnOk result (self.new.book
+            ≡ record self.old.book { kinds = self.old.book.kinds ++ record { name = name.now; value = tt } ∷ [] }) }
         ensures free { OnOk result (refusal MAX_KINDS name.now self.old.book.kinds ≡ None) }
         ensures fault { IfErr result (λ e. e ≡ error_of (refusal MAX_KINDS name.now self.old.book.kinds)) }
         ensures err { OnErr result (self.new.book ≡ self.old.book) }
@@ -126,7 +135,11 @@ impl Registry {
 
     /// Adds a guard's callback, or hands it back. `Taken` comes before `Full`, and both before want of memory.
     pub fn add_guard(&mut self, name: &[u8], guard: StoredGuard) -> Result<(), Refused<StoredGuard>>
-        ensures ok { OnOk result (self.new.book ≡ record self.old.book { guards = self.old.book.guards ++ record { name = name.now; value = guard.law } ∷ [] }) }
+        ensures ok { OnOk result (self.new.book
+            ≡ record self.old.book {
+              guards = self.old.book.guards
+                  ++ record { name = name.now; value = guard.law } ∷ [];
+            }) }
         ensures free { OnOk result (refusal MAX_GUARDS name.now self.old.book.guards ≡ None) }
         ensures fault { IfErr result (λ r. r.error ≡ error_of (refusal MAX_GUARDS name.now self.old.book.guards)) }
         ensures back { IfErr result (λ r. r.back ≡ guard) }
@@ -147,7 +160,8 @@ impl Registry {
 
     /// Adds an action's callback, or hands it back. `Taken` comes before `Full`, and both before want of memory.
     pub fn add_act(&mut self, name: &[u8], act: StoredAct) -> Result<(), Refused<StoredAct>>
-        ensures ok { OnOk result (self.new.book ≡ record self.old.book { acts = self.old.book.acts ++ record { name = name.now; value = act.law } ∷ [] }) }
+        ensures ok { OnOk result (self.new.book
+            ≡ record self.old.book { acts = self.old.book.acts ++ record { name = name.now; value = act.law } ∷ [] }) }
         ensures free { OnOk result (refusal MAX_ACTIONS name.now self.old.book.acts ≡ None) }
         ensures fault { IfErr result (λ r. r.error ≡ error_of (refusal MAX_ACTIONS name.now self.old.book.acts)) }
         ensures back { IfErr result (λ r. r.back ≡ act) }
@@ -189,7 +203,11 @@ impl Registry {
     /// Keeps the first kinds, guards and actions, as many as these numbers say, and drops those behind them with their
     /// callbacks. Takes no memory.
     pub fn truncate(&mut self, kinds: usize, guards: usize, acts: usize)
-        ensures { self.new.book ≡ record { kinds = take kinds self.old.book.kinds; guards = take guards self.old.book.guards; acts = take acts self.old.book.acts } }
+        ensures { self.new.book ≡ record {
+          kinds = take kinds self.old.book.kinds;
+          guards = take guards self.old.book.guards;
+          acts = take acts self.old.book.acts;
+        } }
     {
         self.book.truncate(kinds, guards, acts);
         self.guards.truncate(guards);

@@ -1,3 +1,4 @@
+//! Callbacks stored with their laws.
 ghost use Rattle.std.specs.Prelude.{◌≡◌, Bool};
 ghost use Rattle.tab_law.specs.Acts.{Permits, Permits-prop};
 ghost use Rattle.tab_law.specs.Guards.{says_yes};
@@ -24,7 +25,8 @@ impl StoredGuard {
     /// Stores a callback. Condition: on every scene it may be called, and it answers what the law says.
     pub fn new(law: GuardLaw, ask: Ask) -> StoredGuard
         requires callable { IsAlwaysCallable ask }
-        requires answers { (scene : _) (yes : Bool) → IsScene scene.now → post ask scene yes → yes ≡ says_yes law scene.now }
+        requires answers { (scene : _) (yes : Bool) → IsScene scene.now → post ask scene yes
+            → yes ≡ says_yes law scene.now }
         ensures law { result.law ≡ law }
         ensures ask { result.ask ≡ ask }
     {
@@ -46,15 +48,17 @@ pub struct StoredAct {
     pub law: ActLaw,
     act: Do,
     ghost callable: { IsAlwaysCallable act },
-    ghost answers: { (scene room left : _) → IsScene scene.now → post act scene room tt left → Permits law scene.now left.now.regs left.now.deeds } by { Prim.hlevel Permits-prop },
+    ghost answers: { (scene room left : _) → IsScene scene.now → post act scene room tt left
+        → Permits law scene.now left.now.regs left.now.deeds } by { Prim.hlevel Permits-prop },
 }
 
 impl StoredAct {
-    /// Stores a callback. Condition: on every scene and room it may be called, and what it leaves in the room is an answer
-    /// that the law permits.
+    /// Stores a callback. Condition: on every scene and room it may be called, and what it leaves in the room is an
+    /// answer that the law permits.
     pub fn new(law: ActLaw, act: Do) -> StoredAct
         requires callable { IsAlwaysCallable act }
-        requires answers { (scene room left : _) → IsScene scene.now → post act scene room tt left → Permits law scene.now left.now.regs left.now.deeds }
+        requires answers { (scene room left : _) → IsScene scene.now → post act scene room tt left
+            → Permits law scene.now left.now.regs left.now.deeds }
         ensures law { result.law ≡ law }
         ensures act { result.act ≡ act }
     {

@@ -9,7 +9,9 @@ use Rattle.tab_draw.specs.Labels.{label}
 -- what stands before the states: how states and edges are drawn
 abbrev pub head : List ℕ
 head =
-    codes "digraph table {\n  graph [ranksep=0.8, nodesep=0.2];\n  node [shape=box, style=rounded, fontname=\"Helvetica\", fontsize=12];\n  edge [fontname=\"Helvetica\", fontsize=10];\n"
+    codes "digraph table {\n  graph [ranksep=0.8, nodesep=0.2];\n"
+    ++ codes "  node [shape=box, style=rounded, fontname=\"Helvetica\", fontsize=12];\n"
+    ++ codes "  edge [fontname=\"Helvetica\", fontsize=10];\n"
 
 -- a row that stays in that state
 abbrev pub stays_in : ℕ → Row → Bool
@@ -22,12 +24,14 @@ stay_line table state numbered = if stays_in state numbered.1 then label table n
 -- a state's edge to itself, one for all rows that stay in it
 unfoldable pub loop_edge : Contents → ℕ → List ℕ → List ℕ
 loop_edge table state name =
-    if list_any (stays_in state) table.rows then codes "  \"" ++ name ++ codes "\" -> \"" ++ name ++ codes "\";\n" else []
+    if list_any (stays_in state) table.rows then codes "  \"" ++ name ++ codes "\" -> \"" ++ name ++ codes "\";\n"
+    else []
 
 -- a state: its name, a line for each row that stays in it, in order, and its edge to itself
 unfoldable pub state_text : Contents → ℕ × List ℕ → List ℕ
 state_text table (state, name) =
-    codes "  \"" ++ name ++ codes "\" [label=\"" ++ name ++ codes "\\n" ++ flat_map (stay_line table state) (enumerate_from 0 table.rows)
+    codes "  \"" ++ name ++ codes "\" [label=\"" ++ name ++ codes "\\n"
+    ++ flat_map (stay_line table state) (enumerate_from 0 table.rows)
     ++ codes "\"];\n"
     ++ loop_edge table state name
 
@@ -35,10 +39,12 @@ state_text table (state, name) =
 unfoldable pub edge_text : Contents → ℕ × Row → List ℕ
 edge_text table (number, row) =
     if row.state == row.next then []
-    else codes "  \"" ++ name_at table.states row.state ++ codes "\" -> \"" ++ name_at table.states row.next ++ codes "\" [label=\"" ++ label table (number, row)
+    else codes "  \"" ++ name_at table.states row.state ++ codes "\" -> \"" ++ name_at table.states row.next
+    ++ codes "\" [label=\"" ++ label table (number, row)
     ++ codes "\"];\n"
 
 -- the graph of a table: its states in order, and then the edges of its rows in order
 unfoldable pub drawing : Contents → List ℕ
 drawing table =
-    head ++ flat_map (state_text table) (enumerate_from 0 table.states) ++ flat_map (edge_text table) (enumerate_from 0 table.rows) ++ codes "}\n"
+    head ++ flat_map (state_text table) (enumerate_from 0 table.states)
+    ++ flat_map (edge_text table) (enumerate_from 0 table.rows) ++ codes "}\n"

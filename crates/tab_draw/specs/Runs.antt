@@ -24,7 +24,8 @@ abbrev pub IsTold : List ℕ → List ℕ → Status → Type 0
 IsTold table text status = (text ≡ graph_text table) × (status ≡ graph_status (first_fault table))
 
 -- that is told, or memory ran out, and that is
-abbrev pub IsDrawnOn : {O : Type 0} → (contents : O → Option (List ℕ)) → (failures idle : O → ℕ) → (table : List ℕ) → (old new : O) → Status → Type 0
+abbrev pub IsDrawnOn : {O : Type 0} → (contents : O → Option (List ℕ)) → (failures idle : O → ℕ) → (table : List ℕ)
+    → (old new : O) → Status → Type 0
 IsDrawnOn contents failures idle table old new answer =
     Tells contents failures idle old new (graph_text table) (graph_status (first_fault table)) answer
     ⊎ Tells contents failures idle old new (codes "no memory\n") statuses.NoMemory answer

@@ -44,7 +44,8 @@ fn put_stay(
 
 /// Puts a line for each row that stays in a state.
 fn put_stays(out: &mut Vec<u8>, table: &Table, state: usize) -> Result<(), AllocError>
-    ensures { OnOk result (out.new.items ≡ out.old.items ++ flat_map (stay_line table.now state) (enumerate_from 0 table.now.rows)) }
+    ensures { OnOk result (out.new.items ≡ out.old.items
+        ++ flat_map (stay_line table.now state) (enumerate_from 0 table.now.rows)) }
 {
     for (number, row) in table.rows().iter().enumerate() {
         put_stay(out, table, state, number, row)?;
@@ -91,7 +92,8 @@ fn put_state(out: &mut Vec<u8>, table: &Table, state: usize, name: &[u8]) -> Res
 
 /// Puts each state.
 fn put_states(out: &mut Vec<u8>, table: &Table) -> Result<(), AllocError>
-    ensures { OnOk result (out.new.items ≡ out.old.items ++ flat_map (state_text table.now) (enumerate_from 0 table.now.states)) }
+    ensures { OnOk result (out.new.items ≡ out.old.items
+        ++ flat_map (state_text table.now) (enumerate_from 0 table.now.states)) }
 {
     for (state, name) in table.states().as_slice().iter().enumerate() {
         put_state(out, table, state, name.as_slice())?;
@@ -119,7 +121,8 @@ fn put_edge(out: &mut Vec<u8>, table: &Table, number: usize, row: &Row) -> Resul
 
 /// Puts the edge of each row.
 fn put_edges(out: &mut Vec<u8>, table: &Table) -> Result<(), AllocError>
-    ensures { OnOk result (out.new.items ≡ out.old.items ++ flat_map (edge_text table.now) (enumerate_from 0 table.now.rows)) }
+    ensures { OnOk result (out.new.items ≡ out.old.items
+        ++ flat_map (edge_text table.now) (enumerate_from 0 table.now.rows)) }
 {
     for (number, row) in table.rows().iter().enumerate() {
         put_edge(out, table, number, row)?;
@@ -127,9 +130,9 @@ fn put_edges(out: &mut Vec<u8>, table: &Table) -> Result<(), AllocError>
     Ok(())
 }
 
-/// The graph of a table: a node for each state, in order, and an edge for each row that leaves its state, in order, with the
-/// row's number, kind and guards. The rows that stay in a state are joined: the state has one edge to itself, and a line for
-/// each of those rows stands under its name, where no edge crosses it.
+/// The graph of a table: a node for each state, in order, and an edge for each row that leaves its state, in order,
+/// with the row's number, kind and guards. The rows that stay in a state are joined: the state has one edge to itself,
+/// and a line for each of those rows stands under its name, where no edge crosses it.
 ///
 /// Names have no character that would need an escape.
 #[tactic(auto, unfolding(crate::specs::Drawing::drawing))]

@@ -34,17 +34,19 @@ fn graph_of(alloc: Global, table: &[u8]) -> Result<Told, AllocError>
     }
 }
 
-/// Prints the graph of a table's text. A text with a fault is refused, with status `Refused`: `line N fault C`, and what was
-/// wanted.
+/// Prints the graph of a table's text. A text with a fault is refused, with status `Refused`: `line N fault C`, and
+/// what was wanted.
 pub fn draw_on<O: ByteSink>(alloc: Global, table: &[u8], sink: &mut O) -> Status
     requires idle { O.idle sink.old ≡ 0 }
     requires failures { O.failures sink.old < 2 ^ 64 - 1 }
 
-    // What is printed is the graph, or the first fault; want of memory aside, it is done exactly where there is no fault.
+    // What is printed is the graph, or the first fault; want of memory aside, it is done exactly where there is no
+    // fault.
     ensures drawn { IsDrawnOn O.contents O.failures O.idle table.now sink.old sink.new result }
     ensures words { result ≢ Status.Usage }
 
-    // A fault of the run comes only where the sink failed, or took nothing in as many writes in a row as the bound says.
+    // A fault of the run comes only where the sink failed, or took nothing in as many writes in a row as the bound
+    // says.
     ensures cause { result ≡ Status.Fault → HasWriteCause O.failures O.idle sink.old sink.new }
     ensures row { O.most_idle sink.new ≤ max (O.most_idle sink.old) MAX_IDLE_WRITES }
 {

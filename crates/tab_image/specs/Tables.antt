@@ -1,3 +1,4 @@
+-- Tables that have an image.
 use Rattle.std.specs.Prelude.{◌<◌, length}
 use Rattle.tab_text.specs.Contents.{Contents}
 use Rattle.tab_text.specs.Rows.{IsNumberedTable}

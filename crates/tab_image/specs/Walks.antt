@@ -1,3 +1,4 @@
+-- Where a walk through the code stands, and how it has ended.
 use Rattle.std.specs.Prelude.{◌≡◌, ℕ, ◌+◌, ◌≤◌, ◌⊎◌, true, List, ◌∷◌, ◌++◌, Option, Some, None, length, map}
 use Rattle.base_list.specs.Named.{place_of}
 use Rattle.tab_law.specs.Books.{Laws}
@@ -16,10 +17,11 @@ use Rattle.tab_image.specs.declared.walk.Ending.TheVariants.{Row, NoRow}
 
 -- these are the places in a book of actions of an image
 abbrev pub ArePlaces : Laws → Image → List ℕ → List ℕ → Type 0
-ArePlaces laws image actions places = map (λ action. place_of (name_at image.actions action) laws.acts) actions ≡ map Some places
+ArePlaces laws image actions places =
+    map (λ action. place_of (name_at image.actions action) laws.acts) actions ≡ map Some places
 
--- where a walk stands: at one of the instructions, behind the begin of a row and some actions of it, or where a row may begin;
--- each path from there that ends so is the rest of one from where the walk began
+-- where a walk stands: at one of the instructions, behind the begin of a row and some actions of it, or where a row may
+-- begin; each path from there that ends so is the rest of one from where the walk began
 pub record IsAt (laws : Laws) (program : Loaded) (scene : Scene) (walk : Walk) : Type 0 where
   pub instructions : List Instruction
   pub sound : IsSound program.format (counts_of program.image) program.image.code program.image.entries instructions
@@ -43,6 +45,8 @@ pub record IsAt (laws : Laws) (program : Loaded) (scene : Scene) (walk : Walk) :
 abbrev pub IsEnd : Laws → Loaded → Scene → Walk → Ending → Type 0
 IsEnd laws program scene walk (Row row next) =
     (actions : List ℕ)
-    × LeadsTo (format_of program.format) program.image.code (says laws program.image scene) walk.begin (Taken row actions next)
+    × LeadsTo (format_of program.format) program.image.code (says laws program.image scene) walk.begin
+    (Taken row actions next)
     × ArePlaces laws program.image actions walk.acts
-IsEnd laws program scene walk NoRow = LeadsTo (format_of program.format) program.image.code (says laws program.image scene) walk.begin Unlisted
+IsEnd laws program scene walk NoRow =
+    LeadsTo (format_of program.format) program.image.code (says laws program.image scene) walk.begin Unlisted

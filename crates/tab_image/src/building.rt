@@ -13,11 +13,12 @@ use tab_law::LawBook;
 use tab_load::{LoadError, Program, load};
 use tab_step::Bound;
 
-/// The program of a bound table: assembled, and loaded with the book that the table is bound to. It fails for memory alone.
+/// The program of a bound table: assembled, and loaded with the book that the table is bound to. It fails for memory
+/// alone.
 ///
-/// It has the names, the entries and the code of the table's image in format 2, each kind, guard and action with its place in
-/// the book. Each event ends, and in each state, at each kind of events and whatever the guards answer, the image leads to
-/// the first row of the table that matches, with that row's actions.
+/// It has the names, the entries and the code of the table's image in format 2, each kind, guard and action with its
+/// place in the book. Each event ends, and in each state, at each kind of events and whatever the guards answer, the
+/// image leads to the first row of the table that matches, with that row's actions.
 pub fn build(alloc: Global, bound: &Bound, book: &LawBook) -> Result<Program, AllocError>
     requires { IsBoundTo bound.now book.now }
     ensures image { IfOk result (λ program. (program.format ≡ Two) × (program.image ≡ image_of bound.now.table)) }

@@ -14,8 +14,8 @@ fn number_of(kinds: &[u8], kind: u8) -> Option<usize>
     kinds.iter().position(|place| *place == kind)
 }
 
-/// The offset at which the code of the rows of a state and a kind begins. The book is the one that the program was loaded
-/// with.
+/// The offset at which the code of the rows of a state and a kind begins. The book is the one that the program was
+/// loaded with.
 pub(crate) fn entry_of(program: &Program, book: &LawBook, state: u8, kind: u8) -> Option<u32>
     requires { IsLoaded book.now program.now }
     ensures { result ≡ entry_of book.now program.now.image state kind }

@@ -47,13 +47,13 @@ fn run_into(
 
 /// One step of a machine by a loaded image, written into room that the caller keeps; what stood there before is gone.
 ///
-/// The entry of the machine's state and of the event's kind leads to an end, by what the guards' callbacks say on the scene
-/// at the event's start. By a row: its actions' callbacks run in order, and the state is the row's Next. Without one,
-/// or where the image lacks the state, the kind or such rows: the machine stays, and the one deed is Unlisted. Takes no
-/// memory and never fails. RFC 6733 section 5.6 and RFC 8506 section 7 print such tables.
+/// The entry of the machine's state and of the event's kind leads to an end, by what the guards' callbacks say on the
+/// scene at the event's start. By a row: its actions' callbacks run in order, and the state is the row's Next. Without
+/// one, or where the image lacks the state, the kind or such rows: the machine stays, and the one deed is Unlisted.
+/// Takes no memory and never fails. RFC 6733 section 5.6 and RFC 8506 section 7 print such tables.
 ///
-/// By the image of a table this is the step that the table's text says (`tab_step::step_into`). Each table that was parsed is
-/// within the limits that the clause asks for (`Table::rows` says so).
+/// By the image of a table this is the step that the table's text says (`tab_step::step_into`). Each table that was
+/// parsed is within the limits that the clause asks for (`Table::rows` says so).
 pub fn run_event_into(
     program: &Program,
     registry: &Registry,
@@ -62,8 +62,11 @@ pub fn run_event_into(
     room: &mut Stepped,
 )
     requires loaded { IsLoaded registry.now.book program.now }
-    ensures run { IsRunBy (NamedPermits registry.now.book) program.now registry.now.book machine.now event.now room.new }
-    ensures text { (table : Contents) → IsTable table → (program.now.format ≡ Two) → (program.now.image ≡ image_of table) → Means program.now.image table → IsStep (NamedPermits registry.now.book) table registry.now.book machine.now event.now room.new }
+    ensures run { IsRunBy (NamedPermits registry.now.book) program.now registry.now.book machine.now event.now
+        room.new }
+    ensures text { (table : Contents) → IsTable table → (program.now.format ≡ Two)
+        → (program.now.image ≡ image_of table) → Means program.now.image table
+        → IsStep (NamedPermits registry.now.book) table registry.now.book machine.now event.now room.new }
 {
     run_into(program, registry, machine, event, room);
 }
@@ -77,7 +80,9 @@ pub fn run_event(
 ) -> Stepped
     requires loaded { IsLoaded registry.now.book program.now }
     ensures run { IsRunBy (NamedPermits registry.now.book) program.now registry.now.book machine.now event result }
-    ensures text { (table : Contents) → IsTable table → (program.now.format ≡ Two) → (program.now.image ≡ image_of table) → Means program.now.image table → IsStep (NamedPermits registry.now.book) table registry.now.book machine.now event result }
+    ensures text { (table : Contents) → IsTable table → (program.now.format ≡ Two)
+        → (program.now.image ≡ image_of table) → Means program.now.image table
+        → IsStep (NamedPermits registry.now.book) table registry.now.book machine.now event result }
 {
     let mut room = Stepped::new();
     run_event_into(program, registry, machine, &event, &mut room);

@@ -1,4 +1,6 @@
-use Rattle.std.specs.Prelude.{◌≡◌, ℕ, ◌<◌, ◌≤◌, ◌%◌, ◌==◌, ◌++◌, ◌-◌, Bool, true, false, List, Option, Some, None, slice_index, length, map, filter, replicate, take, reverse, min, if◌then◌else◌}
+-- What an action may leave by its law: registers and deeds.
+use Rattle.std.specs.Prelude.{◌≡◌, ℕ, ◌<◌, ◌≤◌, ◌%◌, ◌==◌, ◌++◌, ◌-◌, Bool, true, false, List, Option, Some, None}
+use Rattle.std.specs.Prelude.{slice_index, length, map, filter, replicate, take, reverse, min, if◌then◌else◌}
 use Rattle.std.specs.List.{find, filter_map}
 use mathlib.Core.List.{is_set}
 use Rattle.std.specs.Coded.{×_prop, le_prop, Coded-set, coded_ℕ, coded_list}
@@ -97,5 +99,6 @@ deed_set : IsSet Deed
 deed_set = hlevel (numbers_set, number_set)
 
 -- that a law permits an answer is known in one way at most
-pub Permits-prop : (law : List Change) (scene : Scene) (new : List ℕ) (deeds : List Deed) → IsProp (Permits law scene new deeds)
+pub Permits-prop :
+    (law : List Change) (scene : Scene) (new : List ℕ) (deeds : List Deed) → IsProp (Permits law scene new deeds)
 Permits-prop law scene new deeds = hlevel (Allows-prop, is_set deed_set, numbers_set)

@@ -1,3 +1,4 @@
+-- Books of laws: kinds of events, guards and actions under their names.
 use Rattle.std.specs.Prelude.{◌≤◌, ℕ, Bool, false, List, length, IsSomeAnd}
 use Rattle.std.specs.List.{slice_get}
 use Rattle.std.specs.Option.{option_map_or}
@@ -32,7 +33,8 @@ guard_answer laws scene place = option_map_or (λ entry. says_yes entry.value sc
 
 -- the action at a place may leave these registers and these deeds
 abbrev pub ActPermits : Laws → ℕ → Scene → List ℕ → List Deed → Type 0
-ActPermits laws place scene new deeds = IsSomeAnd (slice_get laws.acts place) (λ entry. Permits entry.value scene new deeds)
+ActPermits laws place scene new deeds =
+    IsSomeAnd (slice_get laws.acts place) (λ entry. Permits entry.value scene new deeds)
 
 -- what the guard of a name answers by its law
 abbrev pub named_answer : Laws → Scene → List ℕ → Bool
@@ -40,4 +42,5 @@ named_answer laws scene name = option_map_or (λ entry. says_yes entry.value sce
 
 -- the action of a name may leave these registers and these deeds
 abbrev pub NamedPermits : Laws → List ℕ → Scene → List ℕ → List Deed → Type 0
-NamedPermits laws name scene new deeds = IsSomeAnd (entry_of name laws.acts) (λ entry. Permits entry.value scene new deeds)
+NamedPermits laws name scene new deeds =
+    IsSomeAnd (entry_of name laws.acts) (λ entry. Permits entry.value scene new deeds)

@@ -1,3 +1,4 @@
+-- What a guard answers by its law.
 use Rattle.std.specs.Prelude.{ℕ, ◌==◌, Bool, not, List, nat_lt, nat_le}
 use Rattle.std.specs.List.{list_any, list_all}
 use Rattle.tab_law.specs.Values.{place_at, atom_value}

@@ -1,3 +1,4 @@
+-- Scenes and deeds as memory holds them.
 use Rattle.std.specs.Prelude.{◌≡◌, length}
 use Rattle.tab_law.specs.declared.scene.Scene.{Scene}
 use Rattle.tab_law.specs.declared.scene.Deed.{Deed}

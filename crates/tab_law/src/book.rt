@@ -1,3 +1,4 @@
+//! A book of laws.
 ghost use Rattle.std.specs.Prelude.{◌≡◌, ◌++◌, ◌∷◌, [], None, OnOk, OnErr, IfErr, take};
 ghost use Rattle.base_list.specs.Adding.{error_of};
 ghost use Rattle.base_list.specs.Named.{refusal};
@@ -18,7 +19,8 @@ pub struct LawBook {
     acts: NamedList<ActLaw>,
 }
 
-// A derived `drop` is proved anew, field by field, at each way out of each function that holds a book; this one is a call.
+// A derived `drop` is proved anew, field by field, at each way out of each function that holds a book; this one is a
+// call.
 impl Drop for LawBook {
     fn drop(self) {
         let LawBook {
@@ -83,7 +85,8 @@ impl LawBook {
 
     /// Adds a kind of events.
     pub fn add_kind(&mut self, name: &[u8]) -> Result<(), AddError>
-        ensures ok { OnOk result (self.new ≡ record self.old { kinds = self.old.kinds ++ record { name = name.now; value = tt } ∷ [] }) }
+        ensures ok { OnOk result (self.new
+            ≡ record self.old { kinds = self.old.kinds ++ record { name = name.now; value = tt } ∷ [] }) }
         ensures free { OnOk result (refusal MAX_KINDS name.now self.old.kinds ≡ None) }
         ensures fault { IfErr result (λ e. e ≡ error_of (refusal MAX_KINDS name.now self.old.kinds)) }
         ensures err { OnErr result (self.new ≡ self.old) }
@@ -96,7 +99,8 @@ impl LawBook {
 
     /// Adds a guard's law, or hands it back.
     pub fn add_guard(&mut self, name: &[u8], law: GuardLaw) -> Result<(), Refused<GuardLaw>>
-        ensures ok { OnOk result (self.new ≡ record self.old { guards = self.old.guards ++ record { name = name.now; value = law } ∷ [] }) }
+        ensures ok { OnOk result (self.new
+            ≡ record self.old { guards = self.old.guards ++ record { name = name.now; value = law } ∷ [] }) }
         ensures free { OnOk result (refusal MAX_GUARDS name.now self.old.guards ≡ None) }
         ensures fault { IfErr result (λ r. r.error ≡ error_of (refusal MAX_GUARDS name.now self.old.guards)) }
         ensures back { IfErr result (λ r. r.back ≡ law) }
@@ -107,7 +111,8 @@ impl LawBook {
 
     /// Adds an action's law, or hands it back.
     pub fn add_act(&mut self, name: &[u8], law: ActLaw) -> Result<(), Refused<ActLaw>>
-        ensures ok { OnOk result (self.new ≡ record self.old { acts = self.old.acts ++ record { name = name.now; value = law } ∷ [] }) }
+        ensures ok { OnOk result (self.new
+            ≡ record self.old { acts = self.old.acts ++ record { name = name.now; value = law } ∷ [] }) }
         ensures free { OnOk result (refusal MAX_ACTIONS name.now self.old.acts ≡ None) }
         ensures fault { IfErr result (λ r. r.error ≡ error_of (refusal MAX_ACTIONS name.now self.old.acts)) }
         ensures back { IfErr result (λ r. r.back ≡ law) }
@@ -119,7 +124,11 @@ impl LawBook {
     /// Keeps the first kinds, guards and actions, as many as these numbers say, and drops those behind them. Takes no
     /// memory.
     pub fn truncate(&mut self, kinds: usize, guards: usize, acts: usize)
-        ensures { self.new ≡ record { kinds = take kinds self.old.kinds; guards = take guards self.old.guards; acts = take acts self.old.acts } }
+        ensures { self.new ≡ record {
+          kinds = take kinds self.old.kinds;
+          guards = take guards self.old.guards;
+          acts = take acts self.old.acts;
+        } }
     {
         self.kinds.truncate(kinds);
         self.guards.truncate(guards);

@@ -1,3 +1,4 @@
+//! What a guard answers by its law.
 ghost use Rattle.std.specs.Prelude.{◌≡◌};
 ghost use Rattle.tab_law.specs.Guards.{field_value, is_met, says_yes};
 

@@ -1,3 +1,4 @@
+//! What guards and actions see, and deeds.
 ghost use Rattle.tab_law.specs.Scenes.{IsScene, IsDeed};
 
 use crate::limits::{MAX_DEEDS, MAX_EMITS, MAX_ROW_ACTIONS, PLACES};
@@ -20,7 +21,8 @@ pub struct Deed {
 /// The deeds of one action, in order.
 pub type ActDeeds = FixedList<Deed, MAX_EMITS>;
 
-/// The deeds of a step, in order. The room lies in the value, 16 kilobytes of it, so keep it out of deep chains of calls.
+/// The deeds of a step, in order. The room lies in the value, 16 kilobytes of it, so keep it out of deep chains of
+/// calls.
 pub type Deeds = FixedList<Deed, MAX_DEEDS>;
 
 /// The registers after each action of a row, in order.

@@ -1,4 +1,7 @@
-use Rattle.std.specs.Prelude.{◌≡◌, ℕ, ◌+◌, ◌-◌, ◌*◌, ◌<◌, ◌≤◌, ◌==◌, ◌||◌, ◌&&◌, not, nat_lt, nat_le, Bool, true, false, List, [], ◌∷◌, ◌++◌, All, Option, Some, None, length, take, drop, replicate, option_map, is_some, map, Result, Ok, Err, ◌⊎◌, if◌then◌else◌}
+-- The code of an image: its instructions, where jumps lead, and its first fault.
+use Rattle.std.specs.Prelude.{◌≡◌, ℕ, ◌+◌, ◌-◌, ◌*◌, ◌<◌, ◌≤◌, ◌==◌, ◌||◌, ◌&&◌, not, nat_lt, nat_le, Bool}
+use Rattle.std.specs.Prelude.{true, false, List, [], ◌∷◌, ◌++◌, All, Option, Some, None, length, take, drop}
+use Rattle.std.specs.Prelude.{replicate, option_map, is_some, map, Result, Ok, Err, ◌⊎◌, if◌then◌else◌}
 use Rattle.std.specs.List.{flat_map, slice_index_or, list_any, list_all}
 use Rattle.tab_asm.specs.Formats.{Instruction, BeginRow, TestGuard, RunAction, GoTo, NoRow, octets_of, code_of}
 use Rattle.tab_load.specs.Faults.{format_of, width_of, code_limit, at_of}
@@ -24,12 +27,13 @@ instruction_of step.End = NoRow
 abbrev pub size_of : Format → ℕ → ℕ
 size_of format op = if op == 1 then 3 else if op == 2 then 2 + width_of format else if op == 5 then 1 else 2
 
--- an instruction fits a format: its operands are numbers that its octets can hold
+-- an instruction fits a format: its operands are numbers that its octets can hold; an operand of one octet is that
+-- octet
 abbrev pub Fits : Format → Instruction → Type 0
 Fits format (BeginRow row) = row < 65536
-Fits format (TestGuard guard otherwise) = (guard < 256) × (otherwise < code_limit format)
-Fits format (RunAction action) = action < 256
-Fits format (GoTo state) = state < 256
+Fits format (TestGuard guard otherwise) = otherwise < code_limit format
+Fits format (RunAction action) = Unit {0}
+Fits format (GoTo state) = Unit {0}
 Fits format NoRow = Unit {0}
 
 -- what is wrong with octets that are to begin with an instruction: none begins with the first of them, or it is cut off
@@ -58,7 +62,8 @@ is_in_range counts (RunAction action) = nat_lt action counts.actions
 is_in_range counts (GoTo state) = nat_lt state counts.states
 is_in_range counts NoRow = true
 
--- an instruction may stand behind that many actions of a row: all but two kinds want a row, and a row has at most 8 actions
+-- an instruction may stand behind that many actions of a row: all but two kinds want a row, and a row has at most 8
+-- actions
 abbrev pub is_in_row : Option ℕ → Instruction → Bool
 is_in_row count (BeginRow row) = true
 is_in_row count (TestGuard guard otherwise) = is_some count
@@ -89,7 +94,8 @@ EachAfter P before (x ∷ rest) = P before x × EachAfter P (before ++ x ∷ [])
 -- nothing is wrong with an instruction behind these
 abbrev pub IsFine : Format → Counts → List Instruction → Instruction → Type 0
 IsFine format counts before instruction =
-    instruction_fault counts (count_behind None before) (length (code_of (format_of format) (before ++ instruction ∷ []))) instruction ≡ None
+    instruction_fault counts (count_behind None before)
+    (length (code_of (format_of format) (before ++ instruction ∷ []))) instruction ≡ None
 
 -- nothing is wrong with each of these
 abbrev pub AreFine : Format → Counts → List Instruction → Type 0
@@ -103,10 +109,14 @@ is_landing (RunAction action) = false
 is_landing (GoTo state) = false
 is_landing NoRow = true
 
+-- for each octet of an instruction of that size whether a jump may lead there: to the first one at most
+abbrev pub marks_of : ℕ → Instruction → List Bool
+marks_of size instruction = is_landing instruction ∷ replicate (size - 1) false
+
 -- for each octet of the code whether a jump may lead there
 abbrev pub landings : Format → List Instruction → List Bool
 landings format instructions =
-    flat_map (λ instruction. is_landing instruction ∷ replicate (length (octets_of (format_of format) instruction) - 1) false) instructions
+    flat_map (λ instruction. marks_of (length (octets_of (format_of format) instruction)) instruction) instructions
 
 -- an error is a fault in that relation to the image, or memory was wanting
 abbrev pub IsRefusal : (ℕ → ImageFault → Type 0) → LoadError → Type 0
@@ -127,6 +137,33 @@ UnlessRefused (Err error) Holds = AtNoMemory Holds error
 abbrev pub instructions_of : List Step → List Instruction
 instructions_of steps = map instruction_of steps
 
+-- those that were read
+abbrev pub read_in : Scan → List Instruction
+read_in scan = instructions_of scan.steps.items
+
+-- an instruction stands at an offset of the code: its octets begin there, by the first of them
+abbrev pub StandsAt : Format → List ℕ → ℕ → Instruction → Type 0
+StandsAt format code at instruction =
+    drop at code
+    ≡ octets_of (format_of format) instruction ++ drop (size_of format (slice_index_or code at 0)) (drop at code)
+
+-- where it ends
+abbrev pub end_at : Format → List ℕ → ℕ → ℕ
+end_at format code at = at + size_of format (slice_index_or code at 0)
+
+-- nothing is wrong with an instruction there, behind that many actions of a row
+abbrev pub IsStepFine : Format → Counts → Option ℕ → List ℕ → ℕ → Instruction → Type 0
+IsStepFine format counts count code at instruction =
+    instruction_fault counts count (end_at format code at) instruction ≡ None
+
+-- what is wrong with the octets at an offset, behind that many actions of a row
+abbrev pub StepWrong : Format → Counts → Option ℕ → List ℕ → ℕ → ImageFault → Type 0
+StepWrong format counts count code at fault =
+    (octets_fault format (drop at code) ≡ Some fault)
+    ⊎ ((step : Step) × (octets_fault format (drop at code) ≡ None) × StandsAt format code at (instruction_of step)
+    × Fits format (instruction_of step)
+    × (instruction_fault counts count (end_at format code at) (instruction_of step) ≡ Some fault))
+
 -- the code begins with these instructions, nothing is wrong with them, and what the loader keeps of them
 pub record IsScanned (format : Format) (counts : Counts) (code : List ℕ) (scan : Scan) : Type 0 where
   pub front : take scan.at code ≡ code_of (format_of format) (instructions_of scan.steps.items)
@@ -140,12 +177,16 @@ pub record IsScanned (format : Format) (counts : Counts) (code : List ℕ) (scan
 abbrev pub NextWrong : Format → Counts → List Instruction → List ℕ → ImageFault → Type 0
 NextWrong format counts before rest fault =
     (octets_fault format rest ≡ Some fault)
-    ⊎ ((instruction : Instruction) × (more : List ℕ) × (octets_fault format rest ≡ None) × (rest ≡ octets_of (format_of format) instruction ++ more) × Fits format instruction
-    × (instruction_fault counts (count_behind None before) (length (code_of (format_of format) (before ++ instruction ∷ []))) instruction ≡ Some fault))
+    ⊎ ((instruction : Instruction) × (more : List ℕ) × (octets_fault format rest ≡ None)
+    × (rest ≡ octets_of (format_of format) instruction ++ more) × Fits format instruction
+    × (instruction_fault counts (count_behind None before)
+    (length (code_of (format_of format) (before ++ instruction ∷ []))) instruction ≡ Some fault))
 
--- the first fault of the instructions of the code: the instructions before it fit the format, are spelled by exactly the octets that
--- stand there, and nothing is wrong with them; `begin` is the code's place in the image, `whole` the image's length
-pub record ScanWrong (format : Format) (counts : Counts) (code : List ℕ) (begin whole at : ℕ) (fault : ImageFault) : Type 0 where
+-- the first fault of the instructions of the code: the instructions before it fit the format, are spelled by exactly
+-- the octets that stand there, and nothing is wrong with them; `begin` is the code's place in the image, `whole` the
+-- image's length
+pub record ScanWrong
+    (format : Format) (counts : Counts) (code : List ℕ) (begin whole at : ℕ) (fault : ImageFault) : Type 0 where
   pub before : List Instruction
   pub fits : All (Fits format) before
   pub fine : AreFine format counts before
@@ -180,6 +221,12 @@ abbrev pub is_entry : List Bool → Option ℕ → Bool
 is_entry marks None = true
 is_entry marks (Some offset) = lands marks offset
 
+-- each entry leads where a jump may lead
+abbrev pub EntriesLead : Format → List Instruction → List (Option ℕ) → Type 0
+EntriesLead format instructions entries =
+    (number : ℕ) → number < length entries
+    → is_entry (landings format instructions) (slice_index_or entries number None) ≡ true
+
 -- these are the instructions of the code, and nothing is wrong with each of them
 pub record IsCode (format : Format) (counts : Counts) (code : List ℕ) (instructions : List Instruction) : Type 0 where
   pub whole : code ≡ code_of (format_of format) instructions
@@ -190,7 +237,8 @@ pub record IsCode (format : Format) (counts : Counts) (code : List ℕ) (instruc
 abbrev pub EndWrong : Format → List Instruction → List (Option ℕ) → ℕ → ℕ → ImageFault → Type 0
 EndWrong format instructions entries begin at NoEnd =
     ((instructions ≡ []) × (list_any is_some entries ≡ true) × (at ≡ begin))
-    ⊎ ((before : List Instruction) × (last : Instruction) × (instructions ≡ before ++ last ∷ []) × (is_end last ≡ false) × (at ≡ begin + length (code_of (format_of format) before)))
+    ⊎ ((before : List Instruction) × (last : Instruction) × (instructions ≡ before ++ last ∷ []) × (is_end last ≡ false)
+    × (at ≡ begin + length (code_of (format_of format) before)))
 EndWrong format instructions entries begin at other = ⊥
 
 -- the last instruction is an end, or there is none and no entry
@@ -200,7 +248,8 @@ IsEnded (last ∷ []) = is_end last ≡ true
 IsEnded (first ∷ second ∷ rest) = IsEnded (second ∷ rest)
 
 -- the first guard that leads where no jump may lead
-pub record GuardWrong (format : Format) (instructions : List Instruction) (begin at : ℕ) (fault : ImageFault) : Type 0 where
+pub record GuardWrong
+    (format : Format) (instructions : List Instruction) (begin at : ℕ) (fault : ImageFault) : Type 0 where
   pub before : List Instruction
   pub guard : Instruction
   pub after : List Instruction
@@ -211,10 +260,13 @@ pub record GuardWrong (format : Format) (instructions : List Instruction) (begin
   pub offset : fault ≡ Offset
 
 -- the first entry that leads where no jump may lead; the entries begin there in the image
-pub record EntryWrong (format : Format) (instructions : List Instruction) (entries : List (Option ℕ)) (begin at : ℕ) (fault : ImageFault) : Type 0 where
+pub record EntryWrong
+    (format : Format) (instructions : List Instruction) (entries : List (Option ℕ)) (begin at : ℕ) (fault : ImageFault)
+    : Type 0 where
   pub number : ℕ
   pub inside : number < length entries
-  pub earlier : (other : ℕ) → other < number → is_entry (landings format instructions) (slice_index_or entries other None) ≡ true
+  pub earlier : (other : ℕ) → other < number
+      → is_entry (landings format instructions) (slice_index_or entries other None) ≡ true
   pub wrong : is_entry (landings format instructions) (slice_index_or entries number None) ≡ false
   pub place : at ≡ begin + width_of format * number
   pub offset : fault ≡ Offset

@@ -1,4 +1,6 @@
-use Rattle.std.specs.Prelude.{◌≡◌, ℕ, ◌+◌, ◌*◌, ◌<◌, ◌≤◌, ◌||◌, nat_lt, List, [], ◌∷◌, Option, Some, None, length, take, drop, slice_index_or, if◌then◌else◌, codes}
+-- Faults of images by number and text, and those of their beginning: the format and the counts.
+use Rattle.std.specs.Prelude.{◌≡◌, ℕ, ◌+◌, ◌*◌, ◌<◌, ◌≤◌, ◌||◌, nat_lt, List, [], ◌∷◌, Option, Some}
+use Rattle.std.specs.Prelude.{None, length, take, drop, slice_index_or, if◌then◌else◌, codes}
 use Rattle.std.specs.Int.{w16, from_be_bytes}
 use Rattle.tab_text.specs.declared.limits.TheConstants.{MAX_STATES, MAX_KINDS, MAX_GUARDS, MAX_ACTIONS}
 use Rattle.tab_asm.specs.Formats.{Format as FormatSpec, format_1, format_2}
@@ -6,7 +8,8 @@ use Rattle.tab_load.specs.declared.counts.Format.{Format}
 use Rattle.tab_load.specs.declared.counts.Format.TheVariants.{One, Two}
 use Rattle.tab_load.specs.declared.counts.Counts.{Counts}
 use Rattle.tab_load.specs.declared.fault.ImageFault.{ImageFault}
-use Rattle.tab_load.specs.declared.fault.ImageFault.TheVariants.{Magic, Cut, Count, Name, Unbound, Offset, BackJump, OpCode, NoEnd, Trailing}
+use Rattle.tab_load.specs.declared.fault.ImageFault.TheVariants.{Magic, Cut, Count, Name, Unbound, Offset}
+use Rattle.tab_load.specs.declared.fault.ImageFault.TheVariants.{BackJump, OpCode, NoEnd, Trailing}
 
 -- the number of a fault
 abbrev pub number_of : ImageFault → ℕ
@@ -78,7 +81,8 @@ count_at octets number = number_at octets (4 + 2 * number)
 
 -- the most and the least that a count may be
 abbrev pub most_of : Format → ℕ → ℕ
-most_of format number = slice_index_or (MAX_STATES ∷ MAX_KINDS ∷ MAX_GUARDS ∷ MAX_ACTIONS ∷ (format_of format).max_rows ∷ []) number 0
+most_of format number =
+    slice_index_or (MAX_STATES ∷ MAX_KINDS ∷ MAX_GUARDS ∷ MAX_ACTIONS ∷ (format_of format).max_rows ∷ []) number 0
 
 abbrev pub least_of : ℕ → ℕ
 least_of number = slice_index_or (1 ∷ 0 ∷ 0 ∷ 0 ∷ 1 ∷ []) number 0
@@ -87,7 +91,8 @@ least_of number = slice_index_or (1 ∷ 0 ∷ 0 ∷ 0 ∷ 1 ∷ []) number 0
 abbrev pub count_fault : Format → List ℕ → ℕ → Option ImageFault
 count_fault format octets number =
     if nat_lt (length octets) (6 + 2 * number) then Some Cut
-    else if nat_lt (count_at octets number) (least_of number) || nat_lt (most_of format number) (count_at octets number) then Some Count else None
+    else if nat_lt (count_at octets number) (least_of number)
+    || nat_lt (most_of format number) (count_at octets number) then Some Count else None
 
 -- the first count that is wrong
 pub record CountsWrong (format : Format) (octets : List ℕ) (at : ℕ) (fault : ImageFault) : Type 0 where

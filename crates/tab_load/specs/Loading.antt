@@ -1,16 +1,23 @@
-use Rattle.std.specs.Prelude.{◌≡◌, ℕ, ◌+◌, ◌*◌, ◌<◌, ◌≤◌, ◌⊎◌, true, false, List, [], ◌++◌, All, Option, Some, None, length, take, drop, map}
-use Rattle.std.specs.List.{flat_map, list_all, slice_index_or}
+-- Whole images: what a loaded program has, and the first fault of an image that is refused.
+use Rattle.std.specs.Prelude.{◌≡◌, ℕ, ◌+◌, ◌*◌, ◌<◌, ◌≤◌, ◌⊎◌, Bool, true, false, List, []}
+use Rattle.std.specs.Prelude.{◌++◌, All, Option, Some, None, length, take, drop, map}
+use Rattle.std.specs.List.{flat_map, list_all}
 use Rattle.std.specs.Int.{to_be_bytes}
 use Rattle.base_list.specs.Named.{place_of}
+use Rattle.base_list.specs.declared.named.Named.{Named}
 use Rattle.tab_law.specs.Books.{Laws}
 use Rattle.tab_asm.specs.Formats.{Instruction}
 use Rattle.tab_asm.specs.Images.{Image, offset_octets}
-use Rattle.tab_load.specs.Faults.{format_of, width_of, code_limit, BeginsWith, MagicWrong, count_fault, CountsWrong, CountsOf}
+use Rattle.tab_load.specs.Faults.{format_of, width_of, code_limit, BeginsWith}
+use Rattle.tab_load.specs.Faults.{MagicWrong, count_fault, CountsWrong, CountsOf}
 use Rattle.tab_load.specs.Names.{next_fault, NamesWrong, NamesOf}
-use Rattle.tab_load.specs.Code.{ScanWrong, IsCode, EndWrong, IsEnded, GuardWrong, EntryWrong, landings, leads, is_entry}
+use Rattle.tab_load.specs.Code.{ScanWrong, IsCode, EndWrong, IsEnded, GuardWrong}
+use Rattle.tab_load.specs.Code.{EntryWrong, EntriesLead, landings, leads}
 use Rattle.tab_load.specs.declared.counts.Counts.{Counts}
 use Rattle.tab_load.specs.declared.counts.Format.{Format}
 use Rattle.tab_load.specs.declared.names.Names.{Names}
+use Rattle.tab_load.specs.declared.body.Body.{Body}
+use Rattle.tab_load.specs.declared.loading.Head.{Head}
 use Rattle.tab_load.specs.declared.names.ImageNames.{ImageNames}
 use Rattle.tab_load.specs.declared.fault.ImageFault.{ImageFault}
 use Rattle.tab_load.specs.declared.fault.ImageFault.TheVariants.{Cut, Trailing}
@@ -50,16 +57,30 @@ pub record TakesMemory (laws : Laws) (octets : List ℕ) : Type 0 where
   pub counts : (number : ℕ) → number < 5 → count_fault format octets number ≡ None
   pub first : next_fault false laws.kinds [] (drop names_begin octets) ≡ None
 
+-- the names that were read are those of a list of that many, which begins there in the image
+abbrev pub NamesIn : {T : Type 0} → Bool → List (Named T) → List ℕ → ℕ → ℕ → Names → Type 0
+NamesIn bound entries octets begin count names =
+    NamesOf bound entries octets begin count names.end names.names.items names.places.items
+
+-- the next name behind these has no fault
+abbrev pub NextFine : {T : Type 0} → Bool → List (Named T) → List ℕ → Names → Type 0
+NextFine bound entries octets names = next_fault bound entries names.names.items (drop names.end octets) ≡ None
+
 -- these are the names: those of kinds, guards and actions are in the book
 pub record NamesAre (laws : Laws) (octets : List ℕ) (counts : Counts) (names : Lists) : Type 0 where
-  pub states : NamesOf false laws.kinds octets names_begin counts.states names.states.end names.states.names names.states.places
-  pub kinds : NamesOf true laws.kinds octets names.states.end counts.kinds names.kinds.end names.kinds.names names.kinds.places
-  pub guards : NamesOf true laws.guards octets names.kinds.end counts.guards names.guards.end names.guards.names names.guards.places
-  pub actions : NamesOf true laws.acts octets names.guards.end counts.actions names.actions.end names.actions.names names.actions.places
+  pub states : NamesOf false laws.kinds octets names_begin counts.states names.states.end names.states.names
+      names.states.places
+  pub kinds : NamesOf true laws.kinds octets names.states.end counts.kinds names.kinds.end names.kinds.names
+      names.kinds.places
+  pub guards : NamesOf true laws.guards octets names.kinds.end counts.guards names.guards.end names.guards.names
+      names.guards.places
+  pub actions : NamesOf true laws.acts octets names.guards.end counts.actions names.actions.end names.actions.names
+      names.actions.places
 
 -- the first name that is wrong: the lists before it are whole
 pub data AnyNameWrong (laws : Laws) (octets : List ℕ) (counts : Counts) (at : ℕ) (fault : ImageFault) : Type 0 where
-  AtState : NamesWrong false laws.kinds octets names_begin counts.states at fault → AnyNameWrong laws octets counts at fault
+  AtState : NamesWrong false laws.kinds octets names_begin counts.states at fault
+      → AnyNameWrong laws octets counts at fault
   AtKind :
       (states : Listed)
       → NamesOf false laws.kinds octets names_begin counts.states states.end states.names states.places
@@ -85,12 +106,15 @@ IsOffset format None = Unit {0}
 IsOffset format (Some offset) = offset < (format_of format).no_offset
 
 -- the entries begin there in the image: one for each state and kind, and behind them the code's length
-pub record EntriesOf (format : Format) (octets : List ℕ) (begin count : ℕ) (entries : List (Option ℕ)) (size : ℕ) : Type 0 where
+pub record EntriesOf
+    (format : Format) (octets : List ℕ) (begin count : ℕ) (entries : List (Option ℕ)) (size : ℕ) : Type 0 where
   pub many : length entries ≡ count
   pub fits : All (IsOffset format) entries
   pub size_fits : size < code_limit format
-  pub front : take (begin + width_of format * count) octets ≡ take begin octets ++ flat_map (offset_octets (format_of format)) entries
-  pub stated : drop (begin + width_of format * count) octets ≡ to_be_bytes (format_of format).width size ++ drop (begin + width_of format * count + width_of format) octets
+  pub front : take (begin + width_of format * count) octets
+      ≡ take begin octets ++ flat_map (offset_octets (format_of format)) entries
+  pub stated : drop (begin + width_of format * count) octets
+      ≡ to_be_bytes (format_of format).width size ++ drop (begin + width_of format * count + width_of format) octets
   pub inside : begin + width_of format * count + width_of format ≤ length octets
 
 -- the image ends before the code's length does, or before the code has that length
@@ -98,12 +122,15 @@ abbrev pub CutWrong : Format → List ℕ → ℕ → ℕ → ℕ → ImageFault
 CutWrong format octets begin count at Cut =
     (at ≡ length octets)
     × ((length octets < begin + width_of format * count + width_of format)
-    ⊎ ((entries : List (Option ℕ)) × (size : ℕ) × EntriesOf format octets begin count entries size × (length octets < begin + width_of format * count + width_of format + size)))
+    ⊎ ((entries : List (Option ℕ)) × (size : ℕ) × EntriesOf format octets begin count entries size
+    × (length octets < begin + width_of format * count + width_of format + size)))
 CutWrong format octets begin count at other = ⊥
 
 -- the first fault of code that is whole; it and the entries begin there in the image
-pub data CodeWrong (format : Format) (counts : Counts) (code : List ℕ) (entries : List (Option ℕ)) (begin table whole at : ℕ) (fault : ImageFault) : Type 0 where
-  AtStep : ScanWrong format counts code begin whole at fault → CodeWrong format counts code entries begin table whole at fault
+pub data CodeWrong (format : Format) (counts : Counts) (code : List ℕ) (entries : List (Option ℕ))
+    (begin table whole at : ℕ) (fault : ImageFault) : Type 0 where
+  AtStep : ScanWrong format counts code begin whole at fault
+      → CodeWrong format counts code entries begin table whole at fault
   AtEnd :
       (instructions : List Instruction)
       → IsCode format counts code instructions
@@ -124,11 +151,18 @@ pub data CodeWrong (format : Format) (counts : Counts) (code : List ℕ) (entrie
       → CodeWrong format counts code entries begin table whole at fault
 
 -- these are the instructions of the code, which ends, and guards and entries lead where a jump may lead
-pub record IsSound (format : Format) (counts : Counts) (code : List ℕ) (entries : List (Option ℕ)) (instructions : List Instruction) : Type 0 where
+pub record IsSound
+    (format : Format) (counts : Counts) (code : List ℕ) (entries : List (Option ℕ)) (instructions : List Instruction)
+    : Type 0 where
   pub is_code : IsCode format counts code instructions
   pub ended : IsEnded instructions
   pub guards : list_all (leads (landings format instructions)) instructions ≡ true
-  pub entries_lead : (number : ℕ) → number < length entries → is_entry (landings format instructions) (slice_index_or entries number None) ≡ true
+  pub entries_lead : EntriesLead format instructions entries
+
+-- some instructions are those of the code
+abbrev pub IsSoundCode : Format → Counts → List ℕ → List (Option ℕ) → Type 0
+IsSoundCode format counts code entries =
+    (instructions : List Instruction) × IsSound format counts code entries instructions
 
 -- an image begins with a format, counts and names without a fault
 pub record IsHead (laws : Laws) (octets : List ℕ) (format : Format) (counts : Counts) (names : Lists) : Type 0 where
@@ -145,18 +179,31 @@ abbrev pub code_begin : Format → Counts → Lists → ℕ
 code_begin format counts names = names.actions.end + width_of format * entry_count counts + width_of format
 
 -- behind these an image has entries and code of that size, all of which is there
-pub record HasBody (octets : List ℕ) (format : Format) (counts : Counts) (names : Lists) (entries : List (Option ℕ)) (size : ℕ) : Type 0 where
+pub record HasBody
+    (octets : List ℕ) (format : Format) (counts : Counts) (names : Lists) (entries : List (Option ℕ)) (size : ℕ)
+    : Type 0 where
   pub entries_are : EntriesOf format octets names.actions.end (entry_count counts) entries size
   pub whole : code_begin format counts names + size ≤ length octets
+
+-- the same of what a loader keeps of them
+abbrev pub HasBodyOf : List ℕ → Head → Body → Type 0
+HasBodyOf octets head body =
+    HasBody octets head.format head.counts (lists head.names) body.entries.items body.size
 
 -- the octets of the code
 abbrev pub code_in : List ℕ → ℕ → ℕ → List ℕ
 code_in octets begin size = take size (drop begin octets)
 
+-- the code that begins there, of what a loader keeps, is sound
+abbrev pub IsSoundBody : List ℕ → Head → Body → ℕ → Type 0
+IsSoundBody octets head body begin =
+    IsSoundCode head.format head.counts (code_in octets begin body.size) body.entries.items
+
 -- the first fault of an image, in octet order, and its place: what stands before the part that is wrong has no fault
 pub data HasFault (laws : Laws) (octets : List ℕ) (at : ℕ) (fault : ImageFault) : Type 0 where
   InMagic : MagicWrong octets at fault → HasFault laws octets at fault
-  InCounts : (format : Format) → BeginsWith format octets → CountsWrong format octets at fault → HasFault laws octets at fault
+  InCounts : (format : Format) → BeginsWith format octets → CountsWrong format octets at fault
+      → HasFault laws octets at fault
   InNames :
       (format : Format) (counts : Counts)
       → BeginsWith format octets
@@ -172,10 +219,12 @@ pub data HasFault (laws : Laws) (octets : List ℕ) (at : ℕ) (fault : ImageFau
       (format : Format) (counts : Counts) (names : Lists) (entries : List (Option ℕ)) (size : ℕ)
       → IsHead laws octets format counts names
       → HasBody octets format counts names entries size
-      → CodeWrong format counts (code_in octets (code_begin format counts names) size) entries (code_begin format counts names) names.actions.end (length octets) at fault
+      → CodeWrong format counts (code_in octets (code_begin format counts names) size) entries
+      (code_begin format counts names) names.actions.end (length octets) at fault
       → HasFault laws octets at fault
   BehindCode :
-      (format : Format) (counts : Counts) (names : Lists) (entries : List (Option ℕ)) (size : ℕ) (instructions : List Instruction)
+      (format : Format) (counts : Counts) (names : Lists) (entries : List (Option ℕ)) (size : ℕ)
+      (instructions : List Instruction)
       → IsHead laws octets format counts names
       → HasBody octets format counts names entries size
       → IsSound format counts (code_in octets (code_begin format counts names) size) entries instructions
@@ -192,11 +241,36 @@ pub record Loaded : Type 0 where
   pub guard_places : List ℕ
   pub act_places : List ℕ
 
+-- the program that its parts make up
+abbrev pub loaded : Format → Lists → ℕ → List (Option ℕ) → List ℕ → Loaded
+loaded format names rows entries code = record {
+  format = format;
+  image = record {
+    states = names.states.names;
+    kinds = names.kinds.names;
+    guards = names.guards.names;
+    actions = names.actions.names;
+    rows = rows;
+    entries = entries;
+    code = code;
+  };
+  kind_places = names.kinds.places;
+  guard_places = names.guards.places;
+  act_places = names.actions.places;
+}
+
 -- how many names and rows an image has
 abbrev pub counts_of : Image → Counts
-counts_of image = record { states = length image.states; kinds = length image.kinds; guards = length image.guards; actions = length image.actions; rows = image.rows }
+counts_of image = record {
+  states = length image.states;
+  kinds = length image.kinds;
+  guards = length image.guards;
+  actions = length image.actions;
+  rows = image.rows;
+}
 
--- a program fits a book: its code is sound and its offsets and rows have room in its instructions, and each of its kinds, guards and actions has its place there
+-- a program fits a book: its code is sound and its offsets and rows have room in its instructions, and each of its
+-- kinds, guards and actions has its place there
 pub record IsLoaded (laws : Laws) (program : Loaded) : Type 0 where
   pub instructions : List Instruction
   pub sound : IsSound program.format (counts_of program.image) program.image.code program.image.entries instructions

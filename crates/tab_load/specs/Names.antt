@@ -1,4 +1,6 @@
-use Rattle.std.specs.Prelude.{◌≡◌, ℕ, ◌+◌, ◌<◌, ◌≤◌, ◌||◌, not, nat_lt, Bool, true, false, List, [], ◌++◌, Option, Some, None, is_none, map, length, take, drop, slice_index_or, if◌then◌else◌}
+-- The names of an image.
+use Rattle.std.specs.Prelude.{◌≡◌, ℕ, ◌+◌, ◌<◌, ◌≤◌, ◌||◌, not, nat_lt, Bool, true, false, List, [], ◌++◌, Option}
+use Rattle.std.specs.Prelude.{Some, None, is_none, map, length, take, drop, slice_index_or, if◌then◌else◌}
 use Rattle.std.specs.List.{flat_map, list_any}
 use Rattle.std.specs.Str.{bytes_eq}
 use Rattle.base_list.specs.Named.{place_of}
@@ -32,7 +34,9 @@ abbrev pub AreNames : {T : Type 0} → Bool → List (Named T) → List (List �
 AreNames bound entries names = EachAfter (λ before name. name_fault bound entries before name ≡ None) [] names
 
 -- the first name that is wrong of a list of that many, which begins there in the image
-pub record NamesWrong {T : Type 0} (bound : Bool) (entries : List (Named T)) (octets : List ℕ) (begin count at : ℕ) (fault : ImageFault) : Type 0 where
+pub record NamesWrong
+    {T : Type 0} (bound : Bool) (entries : List (Named T)) (octets : List ℕ) (begin count at : ℕ) (fault : ImageFault)
+    : Type 0 where
   pub before : List (List ℕ)
   pub few : length before < count
   pub fine : AreNames bound entries before
@@ -43,7 +47,9 @@ pub record NamesWrong {T : Type 0} (bound : Bool) (entries : List (Named T)) (oc
   pub place : at ≡ at_of fault part (length octets)
 
 -- the names of a list of that many, which begins there in the image and ends there, and their places in a book
-pub record NamesOf {T : Type 0} (bound : Bool) (entries : List (Named T)) (octets : List ℕ) (begin count end : ℕ) (names : List (List ℕ)) (places : List ℕ) : Type 0 where
+pub record NamesOf
+    {T : Type 0} (bound : Bool) (entries : List (Named T)) (octets : List ℕ) (begin count end : ℕ)
+    (names : List (List ℕ)) (places : List ℕ) : Type 0 where
   pub fine : AreNames bound entries names
   pub many : length names ≡ count
   pub front : take end octets ≡ take begin octets ++ flat_map name_octets names

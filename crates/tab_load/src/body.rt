@@ -1,12 +1,12 @@
 //! What stands behind the names: the entries, the code's length and the code.
 
-ghost use Rattle.std.specs.Prelude.{◌≡◌, ◌++◌, ◌+◌, ◌*◌, ◌≤◌, ◌<◌, drop, take, length, All, IfOk, IfErr, OnOk, ℕ, Bool, List, Option, Some, None};
+ghost use Rattle.std.specs.Prelude.{◌≡◌, ◌++◌, ◌+◌, ◌*◌, ◌≤◌, ◌<◌, drop, take, length};
+ghost use Rattle.std.specs.Prelude.{All, IfOk, IfErr, OnOk, Option, Some, None};
 ghost use Rattle.std.specs.List.{flat_map};
 ghost use Rattle.tab_asm.specs.Images.{offset_octets};
-ghost use Rattle.tab_asm.specs.Formats.{Instruction, code_of};
 ghost use Rattle.tab_load.specs.Faults.{format_of, width_of, code_limit};
-ghost use Rattle.tab_load.specs.Code.{IsRefusal, IsScanned, instructions_of};
-ghost use Rattle.tab_load.specs.Loading.{IsOffset, EntriesOf, CutWrong, CodeWrong, IsSound};
+ghost use Rattle.tab_load.specs.Code.{IsRefusal};
+ghost use Rattle.tab_load.specs.Loading.{IsOffset, EntriesOf, CutWrong, CodeWrong, IsSoundCode};
 ghost use Rattle.tab_load.specs.declared.fault.LoadError.TheVariants.{Refused};
 ghost use Rattle.tab_load.specs.declared.fault.ImageFault.TheVariants.{Cut};
 
@@ -27,7 +27,8 @@ pub(crate) struct Body {
 /// The entry at a place of the image.
 fn read_entry(format: Format, octets: &[u8], at: usize) -> Option<u32>
     requires { at + width_of format ≤ length octets.now }
-    ensures stands { drop at octets.now ≡ offset_octets (format_of format) result ++ drop (width_of format) (drop at octets.now) }
+    ensures stands { drop at octets.now ≡ offset_octets (format_of format) result
+        ++ drop (width_of format) (drop at octets.now) }
     ensures fits { IsOffset format result }
 {
     let offset = offset_in(format, &octets[at..]);
@@ -49,7 +50,8 @@ fn read_entries(
     requires { begin + width_of format * count ≤ length octets.now }
     ensures many { IfOk result (λ entries. length entries.items ≡ count) }
     ensures fits { IfOk result (λ entries. All (IsOffset format) entries.items) }
-    ensures front { IfOk result (λ entries. take (begin + width_of format * count) octets.now ≡ take begin octets.now ++ flat_map (offset_octets (format_of format)) entries.items) }
+    ensures front { IfOk result (λ entries. take (begin + width_of format * count) octets.now
+        ≡ take begin octets.now ++ flat_map (offset_octets (format_of format)) entries.items) }
 {
     let mut entries = Vec::new(alloc);
     let mut at = begin;
@@ -71,7 +73,7 @@ pub(crate) fn read_body(
     requires inside { begin ≤ length octets.now }
     requires small { count ≤ 65536 }
     ensures ok { IfOk result (λ body. EntriesOf format octets.now begin count body.entries.items body.size) }
-    ensures whole { IfOk result (λ body. begin + width_of format * count + width_of format + body.size ≤ length octets.now) }
+    ensures whole { IfOk result (λ b. begin + width_of format * count + width_of format + b.size ≤ length octets.now) }
     ensures short { IfOk result (λ body. body.size < code_limit format) }
     ensures err { IfErr result (IsRefusal (CutWrong format octets.now begin count)) }
 {
@@ -103,7 +105,7 @@ pub(crate) fn check_code(
 ) -> Result<(), LoadError>
     requires within { begin + length code.now ≤ whole }
     requires behind { table + width_of format * length entries.now ≤ begin }
-    ensures ok { OnOk result ((instructions : List Instruction) × IsSound format counts.now code.now entries.now instructions) }
+    ensures ok { OnOk result (IsSoundCode format counts.now code.now entries.now) }
     ensures err { IfErr result (IsRefusal (CodeWrong format counts.now code.now entries.now begin table whole)) }
 {
     let scan = read_code(alloc, format, counts, code, begin, whole)?;

@@ -1,10 +1,11 @@
 //! What is looked at once each instruction was read: the end of the code, and where guards and entries lead.
 
-ghost use Rattle.std.specs.Prelude.{◌≡◌, ◌∷◌, ◌<◌, ◌+◌, ◌*◌, ◌≤◌, [], length, true, false, None, OnOk, IfErr, is_some, slice_index_or, ℕ};
+ghost use Rattle.std.specs.Prelude.{◌≡◌, ◌<◌, ◌+◌, ◌*◌, [], length, true, false, None, OnOk, IfErr, is_some};
 ghost use Rattle.std.specs.List.{list_any, list_all};
 ghost use Rattle.tab_asm.specs.Formats.{octets_of, code_of};
 ghost use Rattle.tab_load.specs.Faults.{format_of, width_of};
-ghost use Rattle.tab_load.specs.Code.{instruction_of, instructions_of, landings, is_end, lands, leads, is_entry, IsEnded, EndWrong, GuardWrong, EntryWrong};
+ghost use Rattle.tab_load.specs.Code.{instruction_of, read_in, EntriesLead, landings, is_end, lands};
+ghost use Rattle.tab_load.specs.Code.{leads, is_entry, IsEnded, EndWrong, GuardWrong, EntryWrong};
 
 use crate::counts::{Format, width_of};
 use crate::fault::{ImageFault, LoadFault};
@@ -44,10 +45,10 @@ pub(crate) fn check_end(
     entries: &[Option<u32>],
     begin: usize,
 ) -> Result<(), LoadFault>
-    requires whole { scan.now.at ≡ length (code_of (format_of format) (instructions_of scan.now.steps.items)) }
+    requires whole { scan.now.at ≡ length (code_of (format_of format) (read_in scan.now)) }
     requires small { begin + scan.now.at < 18446744073709551616 }
-    ensures ok { OnOk result (IsEnded (instructions_of scan.now.steps.items)) }
-    ensures err { IfErr result (λ fault. EndWrong format (instructions_of scan.now.steps.items) entries.now begin fault.at fault.code) }
+    ensures ok { OnOk result (IsEnded (read_in scan.now)) }
+    ensures err { IfErr result (λ fault. EndWrong format (read_in scan.now) entries.now begin fault.at fault.code) }
 {
     let code = ImageFault::NoEnd;
     match scan.steps.as_slice() {
@@ -85,20 +86,18 @@ fn leads(marks: &[bool], step: Step) -> bool
 
 /// Checks where failed guards lead.
 pub(crate) fn check_guards(format: Format, scan: &Scan, begin: usize) -> Result<(), LoadFault>
-    requires whole { scan.now.at ≡ length (code_of (format_of format) (instructions_of scan.now.steps.items)) }
+    requires whole { scan.now.at ≡ length (code_of (format_of format) (read_in scan.now)) }
     requires small { begin + scan.now.at < 18446744073709551616 }
-    requires marks { scan.now.landings.items ≡ landings format (instructions_of scan.now.steps.items) }
-    ensures ok { OnOk result (list_all (leads (landings format (instructions_of scan.now.steps.items))) (instructions_of scan.now.steps.items) ≡ true) }
-    ensures err { IfErr result (λ fault. GuardWrong format (instructions_of scan.now.steps.items) begin fault.at fault.code) }
+    requires marks { scan.now.landings.items ≡ landings format (read_in scan.now) }
+    ensures ok { OnOk result (list_all (leads (landings format (read_in scan.now))) (read_in scan.now) ≡ true) }
+    ensures err { IfErr result (λ fault. GuardWrong format (read_in scan.now) begin fault.at fault.code) }
 {
     let mut at = 0;
     for step in scan.steps.as_slice() {
         if !leads(scan.landings.as_slice(), *step) {
+            let at = begin + at;
             let code = ImageFault::Offset;
-            return Err(LoadFault {
-                at: begin + at,
-                code,
-            });
+            return Err(LoadFault { at, code });
         }
         at += size_of_step(format, *step);
     }
@@ -123,9 +122,9 @@ pub(crate) fn check_entries(
     begin: usize,
 ) -> Result<(), LoadFault>
     requires small { begin + width_of format * length entries.now < 18446744073709551616 }
-    requires marks { scan.now.landings.items ≡ landings format (instructions_of scan.now.steps.items) }
-    ensures ok { OnOk result ((number : ℕ) → number < length entries.now → is_entry (landings format (instructions_of scan.now.steps.items)) (slice_index_or entries.now number None) ≡ true) }
-    ensures err { IfErr result (λ fault. EntryWrong format (instructions_of scan.now.steps.items) entries.now begin fault.at fault.code) }
+    requires marks { scan.now.landings.items ≡ landings format (read_in scan.now) }
+    ensures ok { OnOk result (EntriesLead format (read_in scan.now) entries.now) }
+    ensures err { IfErr result (λ fault. EntryWrong format (read_in scan.now) entries.now begin fault.at fault.code) }
 {
     for number in 0..entries.len() {
         if !is_entry(scan.landings.as_slice(), entries[number]) {

@@ -1,8 +1,9 @@
 //! What an image begins with: its format, and how many names and rows there are.
 
-ghost use Rattle.std.specs.Prelude.{◌≡◌, ◌+◌, ◌*◌, ◌≤◌, ◌<◌, ℕ, IfOk, IfErr, length, take, drop, Some, None};
-ghost use Rattle.std.specs.Int.{w16, from_be_bytes};
-ghost use Rattle.tab_load.specs.Faults.{width_of, number_at, count_at, count_fault, CountsOf, BeginsWith, MagicWrong, CountsWrong};
+ghost use Rattle.std.specs.Prelude.{◌≡◌, ◌+◌, ◌*◌, ◌≤◌, ◌<◌, IfOk, IfErr, length, Some, None};
+ghost use Rattle.std.specs.Int.{from_be_bytes};
+ghost use Rattle.tab_load.specs.Faults.{width_of, number_at, count_fault, CountsOf};
+ghost use Rattle.tab_load.specs.Faults.{BeginsWith, MagicWrong, CountsWrong};
 
 use crate::fault::{ImageFault, LoadFault, fault_at};
 use tab_text::{MAX_ACTIONS, MAX_GUARDS, MAX_KINDS, MAX_ROWS, MAX_STATES};

@@ -4,7 +4,8 @@ ghost use Rattle.std.specs.Prelude.{◌≡◌, ◌++◌, ◌<◌, ◌≤◌, dro
 ghost use Rattle.std.specs.Int.{to_be_bytes};
 ghost use Rattle.tab_asm.specs.Formats.{octets_of};
 ghost use Rattle.tab_load.specs.Faults.{format_of, width_of, code_limit};
-ghost use Rattle.tab_load.specs.Code.{instruction_of, size_of, Fits, octets_fault, counted, instruction_fault, is_in_range, is_in_row, is_forward};
+ghost use Rattle.tab_load.specs.Code.{instruction_of, size_of, Fits, octets_fault, counted};
+ghost use Rattle.tab_load.specs.Code.{instruction_fault, is_in_range, is_in_row, is_forward};
 
 use crate::counts::{Counts, Format, width_of};
 use crate::fault::ImageFault;
@@ -66,7 +67,8 @@ pub(crate) fn offset_in(format: Format, octets: &[u8]) -> u32
 /// The instruction that octets begin with.
 pub fn step_in(format: Format, octets: &[u8]) -> Step
     requires { octets_fault format octets.now ≡ None }
-    ensures octets { octets.now ≡ octets_of (format_of format) (instruction_of result) ++ drop (size_of format (slice_index_or octets.now 0 0)) octets.now }
+    ensures octets { octets.now ≡ octets_of (format_of format) (instruction_of result)
+        ++ drop (size_of format (slice_index_or octets.now 0 0)) octets.now }
     ensures fits { Fits format (instruction_of result) }
 {
     match octets[0] {

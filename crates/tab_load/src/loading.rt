@@ -1,9 +1,11 @@
-ghost use Rattle.std.specs.Prelude.{◌≡◌, ◌+◌, ◌*◌, ◌<◌, ◌≤◌, length, IfOk, IfErr, OnOk, List};
-ghost use Rattle.tab_asm.specs.Formats.{Instruction};
-ghost use Rattle.tab_load.specs.Faults.{format_of, width_of, code_limit};
+//! An image loaded part by part: what it begins with, its entries, its code.
+
+ghost use Rattle.std.specs.Prelude.{◌≡◌, ◌+◌, ◌*◌, ◌<◌, ◌≤◌, length, IfOk, IfErr};
+ghost use Rattle.tab_load.specs.Faults.{width_of, code_limit};
 ghost use Rattle.tab_load.specs.Code.{IsRefusal, UnlessRefused};
 ghost use Rattle.tab_load.specs.Promise.{EachEnds};
-ghost use Rattle.tab_load.specs.Loading.{lists, IsHead, HasBody, HasFault, TakesMemory, IsLoaded, IsReadFrom, IsSound, entry_count, code_begin, code_in};
+ghost use Rattle.tab_load.specs.Loading.{lists, IsHead, HasBodyOf, HasFault, TakesMemory, IsLoaded};
+ghost use Rattle.tab_load.specs.Loading.{IsReadFrom, IsSoundBody, entry_count, code_begin};
 
 use crate::body::{Body, check_code, read_body};
 use crate::counts::{Counts, Format, read_counts, read_format, width_of};
@@ -42,7 +44,7 @@ fn read_head(alloc: Global, octets: &[u8], book: &LawBook) -> Result<Head, LoadE
 fn read_rest(alloc: Global, octets: &[u8], book: &LawBook, head: &Head) -> Result<Body, LoadError>
     requires head { IsHead book.now octets.now head.now.format head.now.counts (lists head.now.names) }
     requires few { entry_count head.now.counts ≤ 65536 }
-    ensures ok { IfOk result (λ body. HasBody octets.now head.now.format head.now.counts (lists head.now.names) body.entries.items body.size) }
+    ensures ok { IfOk result (HasBodyOf octets.now head.now) }
     ensures short { IfOk result (λ body. body.size < code_limit head.now.format) }
     ensures err { IfErr result (IsRefusal (HasFault book.now octets.now)) }
 {
@@ -60,9 +62,9 @@ fn check_rest(
 ) -> Result<usize, LoadError>
     requires head { IsHead book.now octets.now head.now.format head.now.counts (lists head.now.names) }
     requires few { entry_count head.now.counts ≤ 65536 }
-    requires body { HasBody octets.now head.now.format head.now.counts (lists head.now.names) body.now.entries.items body.now.size }
+    requires body { HasBodyOf octets.now head.now body.now }
     ensures place { IfOk result (λ begin. begin ≡ code_begin head.now.format head.now.counts (lists head.now.names)) }
-    ensures sound { IfOk result (λ begin. (instructions : List Instruction) × IsSound head.now.format head.now.counts (code_in octets.now begin body.now.size) body.now.entries.items instructions) }
+    ensures sound { IfOk result (IsSoundBody octets.now head.now body.now) }
     ensures end { IfOk result (λ begin. begin + body.now.size ≡ length octets.now) }
     ensures err { IfErr result (IsRefusal (HasFault book.now octets.now)) }
 {
@@ -112,9 +114,9 @@ fn read_program(alloc: Global, octets: &[u8], book: &LawBook) -> Result<Program,
 
 /// Loads an image of either format, with the book that it is to run with.
 ///
-/// An image is refused for its first fault in octet order, at the place where the part begins that is wrong. A part that
-/// the image, or an instruction that the code, ends before is cut off, and is not looked into. Where guards and entries
-/// lead is looked at once nothing else is wrong with the code.
+/// An image is refused for its first fault in octet order, at the place where the part begins that is wrong. A part
+/// that the image, or an instruction that the code, ends before is cut off, and is not looked into. Where guards and
+/// entries lead is looked at once nothing else is wrong with the code.
 ///
 /// In a loaded program each event ends, whatever its guards say, within as many instructions as the code has octets.
 pub fn load(alloc: Global, octets: &[u8], book: &LawBook) -> Result<Program, LoadError>

@@ -1,12 +1,13 @@
 //! The names of an image.
 
-ghost use Rattle.std.specs.Prelude.{◌≡◌, ◌++◌, ◌∷◌, [], ◌+◌, ◌<◌, ◌≤◌, slice_index_or, drop, take, length, map, true, false, IfSome, IfOk, IfErr, OnOk, None, Some, is_none};
-ghost use Rattle.std.specs.List.{flat_map, list_any};
+ghost use Rattle.std.specs.Prelude.{◌≡◌, ◌++◌, [], ◌+◌, ◌<◌, ◌≤◌, slice_index_or, drop, length};
+ghost use Rattle.std.specs.Prelude.{true, false, IfSome, IfOk, IfErr, OnOk, None, Some, is_none};
+ghost use Rattle.std.specs.List.{list_any};
 ghost use Rattle.std.specs.Str.{bytes_eq};
 ghost use Rattle.tab_asm.specs.Images.{name_octets};
 ghost use Rattle.tab_load.specs.Code.{IsRefusal, UnlessRefused};
-ghost use Rattle.tab_load.specs.Names.{place_in, name_fault, next_fault, AreNames, NamesWrong, NamesOf};
-ghost use Rattle.tab_load.specs.Loading.{lists, NamesAre, AnyNameWrong};
+ghost use Rattle.tab_load.specs.Names.{place_in, name_fault, next_fault, NamesWrong};
+ghost use Rattle.tab_load.specs.Loading.{NamesIn, NextFine, lists, NamesAre, AnyNameWrong};
 
 use crate::counts::Counts;
 use crate::fault::{ImageFault, LoadError, fault_at};
@@ -23,7 +24,7 @@ pub struct Names {
     pub end: usize,
 }
 
-// By hand, here and below: a derived `drop` is proved anew, field by field, at each way out of each function that holds it.
+// By hand, here and below: a derived `drop` is proved anew at each way out of each function that holds it.
 impl Drop for Names {
     fn drop(self) {
         let Names {
@@ -96,7 +97,8 @@ fn read_name<'a, T: Drop>(
     at: usize,
 ) -> Result<&'a [u8], ImageFault>
     requires { at ≤ length octets.now }
-    ensures stands { IfOk result (λ name. drop at octets.now ≡ name_octets name.now ++ drop (1 + length name.now) (drop at octets.now)) }
+    ensures stands { IfOk result (λ name. drop at octets.now
+        ≡ name_octets name.now ++ drop (1 + length name.now) (drop at octets.now)) }
     ensures whole { IfOk result (λ name. at + 1 + length name.now ≤ length octets.now) }
     ensures fine { IfOk result (λ name. name_fault bound entries.now before.now name.now ≡ None) }
     ensures next { OnOk result (next_fault bound entries.now before.now (drop at octets.now) ≡ None) }
@@ -125,11 +127,11 @@ fn put_name<T: Drop>(
     count: usize,
 ) -> Result<(), LoadError>
     requires small { length entries.now ≤ 256 }
-    requires before { NamesOf bound entries.now octets.now begin (length names.old.names.items) names.old.end names.old.names.items names.old.places.items }
+    requires before { NamesIn bound entries.now octets.now begin (length names.old.names.items) names.old }
     requires few { length names.old.names.items < count }
-    ensures ok { OnOk result (NamesOf bound entries.now octets.now begin (length names.old.names.items + 1) names.new.end names.new.names.items names.new.places.items) }
+    ensures ok { OnOk result (NamesIn bound entries.now octets.now begin (length names.old.names.items + 1) names.new) }
     ensures err { IfErr result (IsRefusal (NamesWrong bound entries.now octets.now begin count)) }
-    ensures next { UnlessRefused result (next_fault bound entries.now names.old.names.items (drop names.old.end octets.now) ≡ None) }
+    ensures next { UnlessRefused result (NextFine bound entries.now octets.now names.old) }
 {
     let name = match read_name(bound, entries, names.names.as_slice(), octets, names.end) {
         Ok(name) => name,
@@ -153,7 +155,7 @@ pub(crate) fn read_names<T: Drop>(
 ) -> Result<Names, LoadError>
     requires inside { begin ≤ length octets.now }
     requires small { length entries.now ≤ 256 }
-    ensures ok { IfOk result (λ names. NamesOf bound entries.now octets.now begin count names.end names.names.items names.places.items) }
+    ensures ok { IfOk result (NamesIn bound entries.now octets.now begin count) }
     ensures err { IfErr result (IsRefusal (NamesWrong bound entries.now octets.now begin count)) }
     ensures first { UnlessRefused result (0 < count → next_fault bound entries.now [] (drop begin octets.now) ≡ None) }
 {

@@ -65,9 +65,9 @@ impl Program {
 }
 
 impl Model for Program {
-    ghost use Rattle.tab_load.specs.Loading.{Loaded};
+    ghost use Rattle.tab_load.specs.Loading.{Loaded, lists, loaded};
 
     ghost Value = { Loaded };
 
-    ghost view = { λ p. record { format = p.format; image = record { states = p.names.states.names.items; kinds = p.names.kinds.names.items; guards = p.names.guards.names.items; actions = p.names.actions.names.items; rows = p.rows; entries = p.entries.items; code = p.code.items }; kind_places = p.names.kinds.places.items; guard_places = p.names.guards.places.items; act_places = p.names.actions.places.items } };
+    ghost view = { λ p. loaded p.format (lists p.names) p.rows p.entries.items p.code.items };
 }

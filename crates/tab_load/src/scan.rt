@@ -1,9 +1,9 @@
 //! The code of an image, instruction by instruction.
 
-ghost use Rattle.std.specs.Prelude.{◌≡◌, ◌++◌, ◌∷◌, ◌<◌, ◌+◌, ◌-◌, ◌≤◌, [], drop, take, length, map, true, false, None, Some, OnOk, IfOk, IfErr, replicate, slice_index_or, ◌⊎◌};
-ghost use Rattle.tab_asm.specs.Formats.{octets_of, code_of};
-ghost use Rattle.tab_load.specs.Faults.{format_of};
-ghost use Rattle.tab_load.specs.Code.{instruction_of, Fits, instructions_of, size_of, is_landing, landings, count_behind, NextWrong, IsScanned, ScanWrong, IsRefusal, instruction_fault, octets_fault};
+ghost use Rattle.std.specs.Prelude.{◌≡◌, ◌++◌, ◌<◌, ◌+◌, ◌-◌, ◌≤◌, length, false, None, Some, OnOk, IfOk, IfErr};
+ghost use Rattle.tab_load.specs.Code.{StandsAt, StepWrong, IsStepFine, marks_of, end_at};
+ghost use Rattle.tab_load.specs.Code.{instruction_of, Fits, size_of, is_landing, landings, IsScanned};
+ghost use Rattle.tab_load.specs.Code.{ScanWrong, IsRefusal, instruction_fault, octets_fault};
 
 use crate::counts::{Counts, Format};
 use crate::fault::{ImageFault, LoadError, fault_at};
@@ -32,7 +32,7 @@ fn is_landing(step: Step) -> bool
 /// Notes for each octet of an instruction whether a jump may lead there.
 fn put_landings(out: &mut Vec<bool>, step: Step, size: usize) -> Result<(), AllocError>
     requires { 0 < size }
-    ensures { OnOk result (out.new.items ≡ out.old.items ++ is_landing (instruction_of step) ∷ replicate (size - 1) false) }
+    ensures { OnOk result (out.new.items ≡ out.old.items ++ marks_of size (instruction_of step)) }
 {
     out.push(is_landing(step))?;
     for _ in 0..size - 1 {
@@ -50,11 +50,11 @@ fn read_step(
     at: usize,
 ) -> Result<Step, ImageFault>
     requires { at < length code.now }
-    ensures octets { IfErr result (λ fault. (octets_fault format (drop at code.now) ≡ Some fault) ⊎ ((step : Step) × (octets_fault format (drop at code.now) ≡ None) × (drop at code.now ≡ octets_of (format_of format) (instruction_of step) ++ drop (size_of format (slice_index_or code.now at 0)) (drop at code.now)) × Fits format (instruction_of step) × (instruction_fault counts.now count (at + size_of format (slice_index_or code.now at 0)) (instruction_of step) ≡ Some fault))) }
-    ensures stands { IfOk result (λ step. drop at code.now ≡ octets_of (format_of format) (instruction_of step) ++ drop (size_of format (slice_index_or code.now at 0)) (drop at code.now)) }
+    ensures octets { IfErr result (StepWrong format counts.now count code.now at) }
+    ensures stands { IfOk result (λ step. StandsAt format code.now at (instruction_of step)) }
     ensures fits { IfOk result (λ step. Fits format (instruction_of step)) }
-    ensures whole { OnOk result (at + size_of format (slice_index_or code.now at 0) ≤ length code.now) }
-    ensures fine { IfOk result (λ step. instruction_fault counts.now count (at + size_of format (slice_index_or code.now at 0)) (instruction_of step) ≡ None) }
+    ensures whole { OnOk result (end_at format code.now at ≤ length code.now) }
+    ensures fine { IfOk result (λ step. IsStepFine format counts.now count code.now at (instruction_of step)) }
 {
     let rest = &code[at..];
     if let Some(fault) = octets_fault(format, rest) {

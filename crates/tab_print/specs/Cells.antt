@@ -1,3 +1,4 @@
+-- The cells of a printed table.
 use Rattle.std.specs.Prelude.{ℕ, List, [], ◌∷◌, ◌++◌, map, codes}
 use Rattle.std.specs.List.{flat_map, slice_index_or}
 use Rattle.tab_text.specs.Contents.{Contents}

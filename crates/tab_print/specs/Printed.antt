@@ -1,3 +1,4 @@
+-- The printed text of a table.
 use Rattle.std.specs.Prelude.{ℕ, ◌+◌, ◌-◌, List, ◌++◌, length, map, max, fold, replicate, codes}
 use Rattle.std.specs.List.{flat_map}
 use Rattle.tab_text.specs.Contents.{Contents}
@@ -26,7 +27,8 @@ padded wide text = text ++ replicate (wide - length text) 32
 -- the header begins at byte 2, and no blank is at its end
 unfoldable pub header_line : Widths → List ℕ
 header_line widths =
-    codes "  " ++ padded widths.state (heading State) ++ padded widths.event (heading Event) ++ padded widths.action (heading Action)
+    codes "  " ++ padded widths.state (heading State) ++ padded widths.event (heading Event)
+    ++ padded widths.action (heading Action)
     ++ codes "Next\n"
 
 -- a row's line likewise, all its cells filled

@@ -1,3 +1,4 @@
+//! The cells of a row.
 ghost use Rattle.std.specs.Prelude.{◌≡◌, ◌++◌, ◌<◌, ℕ, length, map, All, OnOk};
 ghost use Rattle.std.specs.List.{flat_map};
 ghost use Rattle.tab_text.specs.Contents.{IsRowOf};
@@ -29,7 +30,8 @@ fn put_each(
     numbers: &[u8],
 ) -> Result<(), AllocError>
     requires { All (λ number. number < length names.now) numbers.now }
-    ensures { OnOk result (out.new.items ≡ out.old.items ++ behind_each before.now (map (name_at names.now) numbers.now)) }
+    ensures { OnOk result (out.new.items ≡ out.old.items
+        ++ behind_each before.now (map (name_at names.now) numbers.now)) }
 {
     for number in numbers {
         put_name(out, before, names, *number)?;

@@ -1,3 +1,4 @@
+//! The columns of a table.
 ghost use Rattle.std.specs.Prelude.{◌≡◌};
 ghost use Rattle.tab_print.specs.Cells.{heading};
 

@@ -1,5 +1,5 @@
 -- The lines of a role as laws.
-use Rattle.std.specs.Prelude.{ℕ, Bool, ◌+◌, ◌-◌, ◌%◌, ◌==◌, nat_lt, if◌then◌else◌, List, [], ◌∷◌, map, take, get_or}
+use Rattle.std.specs.Prelude.{ℕ, Bool, ◌-◌, ◌%◌, ◌==◌, nat_lt, if◌then◌else◌, List, [], ◌∷◌, map, take, get_or}
 use Rattle.std.specs.List.{flat_map, range_with_len}
 use Rattle.std.specs.Borrow.{Bor}
 use Rattle.base_codes.specs.declared.deed_code.DeedCode.{DeedCode}
@@ -9,7 +9,7 @@ use Rattle.base_list.specs.declared.named.Named.{Named}
 use Rattle.tab_law.specs.Books.{Laws}
 use Rattle.tab_law.specs.declared.limits.TheConstants.{PLACES}
 use Rattle.tab_law.specs.declared.law.Atom.{Atom}
-use Rattle.tab_law.specs.declared.law.Atom.TheVariants.{Constant, Register, Fact, NewRegister}
+use Rattle.tab_law.specs.declared.law.Atom.TheVariants.{Constant, Register, Fact}
 use Rattle.tab_law.specs.declared.law.Term.TheVariants.{Just, Sum}
 use Rattle.tab_law.specs.declared.law.Test.{Test}
 use Rattle.tab_law.specs.declared.law.Test.TheVariants as tests
@@ -53,7 +53,8 @@ services_argument OfEvent n = Fact n
 services_argument OfEventUnwanted n = if is_want n then Constant 0 else Fact n
 services_argument OfMachine n = Register n
 
--- what stands at a place of a message: what is told, zeros behind it, and from place 16 on the services with their count
+-- what stands at a place of a message: what is told, zeros behind it, and from place 16 on the services with their
+-- count
 abbrev pub argument : List Atom → Services → ℕ → Atom
 argument head services n = if nat_lt n COUNT then get_or head n (Constant 0) else services_argument services n
 

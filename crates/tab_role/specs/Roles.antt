@@ -1,5 +1,6 @@
 -- How the laws of a role come into a registry.
-use Rattle.std.specs.Prelude.{◌≡◌, ℕ, ◌+◌, ◌++◌, ◌||◌, Bool, true, false, List, map, take, length, nat_lt, is_some, Result, Ok, Err}
+use Rattle.std.specs.Prelude.{◌≡◌, ℕ, ◌+◌, ◌++◌, ◌||◌, Bool, true, false, List, map}
+use Rattle.std.specs.Prelude.{take, length, nat_lt, is_some, Result, Ok, Err}
 use Rattle.std.specs.List.{list_any}
 use Rattle.base_list.specs.declared.named.Named.{Named}
 use Rattle.base_list.specs.Named.{place_of}
@@ -31,7 +32,8 @@ is_over limit more there = nat_lt limit (length there + length more)
 -- whether a list of a registry would pass its limit
 abbrev pub is_full : Laws → Laws → Bool
 is_full role there =
-    is_over MAX_KINDS role.kinds there.kinds || is_over MAX_GUARDS role.guards there.guards || is_over MAX_ACTIONS role.acts there.acts
+    is_over MAX_KINDS role.kinds there.kinds || is_over MAX_GUARDS role.guards there.guards
+    || is_over MAX_ACTIONS role.acts there.acts
 
 -- a registry with a role behind what was there
 abbrev pub joined : Laws → Laws → Laws

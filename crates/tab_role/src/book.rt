@@ -62,8 +62,9 @@ fn add_all(
     add_acts(alloc, book, acts)
 }
 
-/// The law book of a role: its kinds of events by name, its guards and its actions, in the order of their lines. A role's
-/// lines name nothing twice and are no more than a book has room for; what is wanting where there is none is then memory.
+/// The law book of a role: its kinds of events by name, its guards and its actions, in the order of their lines. A
+/// role's lines name nothing twice and are no more than a book has room for; what is wanting where there is none is
+/// then memory.
 pub fn laws_of(
     alloc: Global,
     kinds: &[&'static str],

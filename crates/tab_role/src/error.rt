@@ -2,8 +2,8 @@
 
 use thiserror::Error;
 
-/// Why a role's laws and callbacks were not registered. The registry is then as it was. Where several hold, the first of
-/// them here is told.
+/// Why a role's laws and callbacks were not registered. The registry is then as it was. Where several hold, the first
+/// of them here is told.
 #[derive(Clone, Copy, Debug, PartialEq, Eq, Error)]
 pub enum RegisterError {
     /// There are more callbacks than laws, or less, or one is stored with another law than the one in its place.

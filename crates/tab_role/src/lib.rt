@@ -1,8 +1,8 @@
 //! Roles of machines: the lines in which a role writes its laws, and what a role is to a registry of callbacks.
 //!
 //! A role is a [`LawBook`]: its kinds of events, and the laws of its guards and actions, each under its name. A library
-//! writes them as lines, a kind, a guard or an action each, of which [`laws_of`] makes the book; the embedder brings one
-//! callback for each law, and a registry that [`TakesRoles`].
+//! writes them as lines, a kind, a guard or an action each, of which [`laws_of`] makes the book; the embedder brings
+//! one callback for each law, and a registry that [`TakesRoles`].
 //!
 //! | Module | What it has |
 //! |---|---|

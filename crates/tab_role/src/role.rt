@@ -23,8 +23,8 @@ pub trait TakesRoles {
 
     ghost done: { Self.Calls → List (List Change) };
 
-    /// Adds a role: its kinds, guards and actions behind those that are there, in their order, each guard and action with
-    /// its callback. All or none: a refused call leaves the registry as it was, and drops the callbacks.
+    /// Adds a role: its kinds, guards and actions behind those that are there, in their order, each guard and action
+    /// with its callback. All or none: a refused call leaves the registry as it was, and drops the callbacks.
     fn register(&mut self, laws: &LawBook, calls: Self::Calls) -> Result<(), RegisterError>
         ensures ok { OnOk result (book self.new ≡ joined laws.now (book self.old)) }
         ensures answer { IsAnswer laws.now (book self.old) (asked calls) (done calls) result }

@@ -1,3 +1,4 @@
+-- Tables bound to a book of laws, and the first name that is missing.
 use Rattle.std.specs.Prelude.{◌≡◌, ℕ, List, [], ◌∷◌, ◌++◌, Option, Some, map, filter, is_none}
 use Rattle.std.specs.List.{AllZip, flat_map}
 use Rattle.base_list.specs.Named.{place_of}

@@ -1,4 +1,6 @@
-use Rattle.std.specs.Prelude.{◌≡◌, ℕ, ◌==◌, ◌&&◌, Bool, false, List, [], ◌∷◌, ◌++◌, Option, Some, None, map, filter, slice_index_or}
+-- One step of a machine by its table.
+use Rattle.std.specs.Prelude.{◌≡◌, ℕ, ◌==◌, ◌&&◌, Bool, false, List, [], ◌∷◌, ◌++◌}
+use Rattle.std.specs.Prelude.{Option, Some, None, map, filter, slice_index_or}
 use Rattle.std.specs.List.{list_all, slice_get, enumerate_from}
 use Rattle.std.specs.Option.{option_map, option_map_or}
 use Rattle.std.specs.Str.{bytes_eq}
@@ -45,8 +47,10 @@ abbrev pub end_of : List ℕ → List (List ℕ) → List ℕ
 end_of before [] = before
 end_of before (after ∷ chain) = end_of after chain
 
--- actions run in order, each answering on the registers that the one before left; the chain has each one's registers, and their deeds are joined
-abbrev pub Runs : {A : Type 0} → (A → Scene → List ℕ → List Deed → Type 0) → List ℕ → List A → List ℕ → List (List ℕ) → List Deed → Type 0
+-- actions run in order, each answering on the registers that the one before left; the chain has each one's registers,
+-- and their deeds are joined
+abbrev pub Runs : {A : Type 0} → (A → Scene → List ℕ → List Deed → Type 0) → List ℕ → List A → List ℕ → List (List ℕ)
+    → List Deed → Type 0
 Runs Answers facts [] before [] deeds = deeds ≡ []
 Runs Answers facts (action ∷ actions) before (after ∷ chain) deeds =
     (own : List Deed) × (rest : List Deed) × Answers action (scene_of before facts) after own
@@ -61,19 +65,23 @@ abbrev pub unlisted : List ℕ → Deed
 unlisted facts = record { code = number_of Unlisted; a = facts }
 
 -- what an event leaves by the row that takes it: the row's Next, and what its actions answer
-pub record MovesAlong (Answers : List ℕ → Scene → List ℕ → List Deed → Type 0) (table : Contents) (s : MachineState) (e : Event) (row : Row) (after : MachineState) (chain : List (List ℕ)) (deeds : List Deed) : Type 0 where
+pub record MovesAlong
+    (Answers : List ℕ → Scene → List ℕ → List Deed → Type 0) (table : Contents) (s : MachineState) (e : Event)
+    (row : Row) (after : MachineState) (chain : List (List ℕ)) (deeds : List Deed) : Type 0 where
   pub state : after.state ≡ row.next
   pub runs : Runs Answers e.facts (map (name_at table.actions) row.actions) s.regs chain deeds
   pub regs : after.regs ≡ end_of s.regs chain
 
 -- what an event leaves that no row takes: all as it was, and one deed, Unlisted
-pub record Stays (s : MachineState) (e : Event) (after : MachineState) (chain : List (List ℕ)) (deeds : List Deed) : Type 0 where
+pub record Stays
+    (s : MachineState) (e : Event) (after : MachineState) (chain : List (List ℕ)) (deeds : List Deed) : Type 0 where
   pub same : after ≡ s
   pub no_chain : chain ≡ []
   pub one_deed : deeds ≡ unlisted e.facts ∷ []
 
 -- one or the other
-abbrev pub MovesBy : (List ℕ → Scene → List ℕ → List Deed → Type 0) → Contents → MachineState → Event → Option (ℕ × Row) → MachineState → List (List ℕ) → List Deed → Type 0
+abbrev pub MovesBy : (List ℕ → Scene → List ℕ → List Deed → Type 0) → Contents → MachineState → Event → Option (ℕ × Row)
+    → MachineState → List (List ℕ) → List Deed → Type 0
 MovesBy Answers table s e (Some numbered) after chain deeds = MovesAlong Answers table s e numbered.1 after chain deeds
 MovesBy Answers table s e None after chain deeds = Stays s e after chain deeds
 
@@ -83,6 +91,8 @@ Moves table laws s e after deeds =
     (chain : List (List ℕ)) × MovesBy (NamedPermits laws) table s e (row_taken table laws s e) after chain deeds
 
 -- one step: the number of the row that takes the event, and a move by that row
-pub record IsStep (Answers : List ℕ → Scene → List ℕ → List Deed → Type 0) (table : Contents) (laws : Laws) (s : MachineState) (e : Event) (stepped : Stepped) : Type 0 where
+pub record IsStep
+    (Answers : List ℕ → Scene → List ℕ → List Deed → Type 0) (table : Contents) (laws : Laws) (s : MachineState)
+    (e : Event) (stepped : Stepped) : Type 0 where
   pub row : stepped.row ≡ option_map (λ numbered. numbered.0) (row_taken table laws s e)
   pub moves : MovesBy Answers table s e (row_taken table laws s e) stepped.after stepped.chain stepped.deeds

@@ -1,3 +1,4 @@
+-- Steps one behind the other.
 use Rattle.std.specs.Prelude.{ℕ, List, [], ◌∷◌}
 use Rattle.tab_law.specs.Books.{Laws}
 use Rattle.tab_law.specs.declared.scene.Deed.{Deed}
@@ -20,7 +21,8 @@ IsRun table laws s [] (after ∷ states) deeds = ⊥
 IsRun table laws s [] [] (own ∷ rest) = ⊥
 
 -- the steps of a run, one for each event, each from the state that the one before left
-abbrev pub AreSteps : (List ℕ → Scene → List ℕ → List Deed → Type 0) → Contents → Laws → MachineState → List Event → List Stepped → Type 0
+abbrev pub AreSteps :
+    (List ℕ → Scene → List ℕ → List Deed → Type 0) → Contents → Laws → MachineState → List Event → List Stepped → Type 0
 AreSteps Answers table laws s [] [] = Unit {0}
 AreSteps Answers table laws s (e ∷ events) (stepped ∷ steps) =
     IsStep Answers table laws s e stepped × AreSteps Answers table laws stepped.after events steps

@@ -1,3 +1,4 @@
+-- Rows of a small table, taken and not.
 use Rattle.std.specs.Prelude.{◌≡◌, ℕ, Bool, true, List, [], ◌∷◌, Option, Some, None, refl, codes}
 use Rattle.std.specs.Str.{bytes_eq}
 use Rattle.tab_text.specs.Contents.{Contents}

@@ -1,4 +1,6 @@
-ghost use Rattle.std.specs.Prelude.{◌≡◌, ℕ, ◌≤◌, ◌<◌, [], length, map, All, Some, None, IfOk, IfErr, IfSome, IfNone, OnOk, OnErr};
+//! A table bound to a book of laws.
+ghost use Rattle.std.specs.Prelude.{◌≡◌, ℕ, ◌≤◌, ◌<◌, [], length, map, All, Some};
+ghost use Rattle.std.specs.Prelude.{None, IfOk, IfErr, IfSome, IfNone, OnOk, OnErr};
 ghost use Rattle.std.specs.List.{slice_get, AllZip};
 ghost use Rattle.base_list.specs.Named.{place_of};
 ghost use Rattle.tab_text.specs.Contents.{IsRowOf};
@@ -70,9 +72,11 @@ fn find_all<'a, T: Drop>(
     requires named { All (λ number. number < length names.now) numbers.now }
     requires few { length numbers.now ≤ MAX_ROW_ACTIONS }
     requires small { length entries.now ≤ 256 }
-    ensures ok { IfOk result (λ places. map (λ number. place_of (name_at names.now number) entries.now) numbers.now ≡ map Some places) }
+    ensures ok { IfOk result (λ places. map (λ number. place_of (name_at names.now number) entries.now) numbers.now
+        ≡ map Some places) }
     ensures found { OnOk result (lacking entries.now (map (name_at names.now) numbers.now) ≡ []) }
-    ensures err { IfErr result (λ name. slice_get (lacking entries.now (map (name_at names.now) numbers.now)) 0 ≡ Some name.now) }
+    ensures err { IfErr result (λ name. slice_get (lacking entries.now (map (name_at names.now) numbers.now)) 0
+        ≡ Some name.now) }
 {
     let mut places = Places::new();
     for number in numbers {

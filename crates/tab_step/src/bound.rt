@@ -1,3 +1,4 @@
+//! A bound table.
 ghost use Rattle.std.specs.Prelude.{◌≡◌};
 
 use std::marker::Model;

@@ -1,6 +1,7 @@
 //! Whether what stands in a log is a step, by the laws alone: no callback is asked.
 
-ghost use Rattle.std.specs.Prelude.{◌≡◌, ◌↔◌, ℕ, ◌<◌, ◌++◌, ◌∷◌, [], List, All, IsTrue, IfSome, IfNone, length, slice_index_or};
+ghost use Rattle.std.specs.Prelude.{◌≡◌, ◌↔◌, ℕ, ◌<◌, ◌++◌, ◌∷◌, [], List, All};
+ghost use Rattle.std.specs.Prelude.{IsTrue, IfSome, IfNone, length, slice_index_or};
 ghost use Rattle.tab_law.specs.Acts.{Permits};
 ghost use Rattle.tab_law.specs.Books.{ActPermits, NamedPermits};
 ghost use Rattle.tab_law.specs.declared.scene.Deed.{Deed};
@@ -21,8 +22,10 @@ fn deeds_behind<'a>(
     after: &[u64; PLACES],
     deeds: &'a [Deed],
 ) -> Option<&'a [Deed]>
-    ensures some { IfSome result (λ rest. (own : List Deed) × Permits law.now scene.now after.now own × (deeds.now ≡ own ++ rest.now)) }
-    ensures none { IfNone result ((own rest : List Deed) → Permits law.now scene.now after.now own → deeds.now ≡ own ++ rest → ⊥) }
+    ensures some { IfSome result (λ rest. (own : List Deed) × Permits law.now scene.now after.now own
+        × (deeds.now ≡ own ++ rest.now)) }
+    ensures none { IfNone result ((own rest : List Deed) → Permits law.now scene.now after.now own
+        → deeds.now ≡ own ++ rest → ⊥) }
 {
     let count = emitted(law, scene, after).len();
     if deeds.len() < count {
@@ -129,7 +132,9 @@ fn moves_along(
 ) -> bool
     requires bound { IsBoundTo bound.now book.now }
     requires in_rows { number < length bound.now.table.rows }
-    ensures { (row : Row) → IsTrue result ↔ MovesAlong (NamedPermits book.now) bound.now.table machine.now event.now (slice_index_or bound.now.table.rows number row) stepped.now.after stepped.now.chain stepped.now.deeds }
+    ensures { (row : Row) → IsTrue result
+        ↔ MovesAlong (NamedPermits book.now) bound.now.table machine.now event.now
+        (slice_index_or bound.now.table.rows number row) stepped.now.after stepped.now.chain stepped.now.deeds }
 {
     let row = &bound.table().rows()[number];
     let actions = bound.places()[number].actions.as_slice();
@@ -154,7 +159,8 @@ pub fn is_step(
     stepped: &Stepped,
 ) -> bool
     requires { IsBoundTo bound.now book.now }
-    ensures { IsTrue result ↔ IsStep (NamedPermits book.now) bound.now.table book.now machine.now event.now stepped.now }
+    ensures { IsTrue result ↔ IsStep (NamedPermits book.now) bound.now.table book.now machine.now event.now
+        stepped.now }
 {
     let scene = Scene {
         regs: machine.regs,

@@ -1,3 +1,4 @@
+//! Machines, events and steps.
 ghost use Rattle.std.specs.Prelude.{◌≡◌, [], None, replicate};
 ghost use Rattle.tab_law.specs.declared.limits.TheConstants.{PLACES};
 

@@ -1,3 +1,4 @@
+//! Steps over a list of events.
 ghost use Rattle.std.specs.Prelude.{map, IfOk};
 ghost use Rattle.tab_step.specs.Bind.{IsBoundTo};
 ghost use Rattle.tab_law.specs.Books.{NamedPermits};
@@ -19,8 +20,10 @@ pub fn run(
     events: &[Event],
 ) -> Result<Vec<Stepped>, AllocError>
     requires { IsBoundTo bound.now registry.now.book }
-    ensures run { IfOk result (λ steps. IsRun bound.now.table registry.now.book first.now events.now (map (λ step. step.after) steps.items) (map (λ step. step.deeds) steps.items)) }
-    ensures steps { IfOk result (λ steps. AreSteps (NamedPermits registry.now.book) bound.now.table registry.now.book first.now events.now steps.items) }
+    ensures run { IfOk result (λ steps. IsRun bound.now.table registry.now.book first.now events.now
+        (map (λ step. step.after) steps.items) (map (λ step. step.deeds) steps.items)) }
+    ensures steps { IfOk result (λ steps. AreSteps (NamedPermits registry.now.book) bound.now.table registry.now.book
+        first.now events.now steps.items) }
 {
     let mut steps = Vec::with_capacity(alloc, events.len())?;
     let mut now = *first;

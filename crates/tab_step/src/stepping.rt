@@ -1,3 +1,4 @@
+//! One step by a table.
 ghost use Rattle.std.specs.Prelude.{◌≡◌, ℕ, ◌<◌, ◌≤◌, All, length, Some, None, slice_index_or};
 ghost use Rattle.tab_law.specs.Books.{ActPermits, NamedPermits};
 ghost use Rattle.tab_text.specs.declared.row.Row.{Row};
@@ -11,12 +12,13 @@ use base_codes::DeedCode;
 use tab_call::Registry;
 use tab_law::{Deed, MAX_ROW_ACTIONS, Scene};
 
-/// Runs the callbacks of the actions at these places in order, each on the registers that the one before left. What stood
-/// in the room's chain and deeds before is gone; its state and row stay for the caller to write.
+/// Runs the callbacks of the actions at these places in order, each on the registers that the one before left. What
+/// stood in the room's chain and deeds before is gone; its state and row stay for the caller to write.
 pub fn act_all(registry: &Registry, actions: &[u8], scene: &mut Scene, room: &mut Stepped)
     requires few { length actions.now ≤ MAX_ROW_ACTIONS }
     requires registered { All (λ place. place < length registry.now.book.acts) actions.now }
-    ensures runs { Runs (ActPermits registry.now.book) scene.old.facts actions.now scene.old.regs room.new.chain room.new.deeds }
+    ensures runs { Runs (ActPermits registry.now.book) scene.old.facts actions.now scene.old.regs room.new.chain
+        room.new.deeds }
     ensures end { room.new.after.regs ≡ end_of scene.old.regs room.new.chain }
 {
     room.deeds.clear();
@@ -58,7 +60,8 @@ fn go_along(
     requires in_rows { number < length bound.now.table.rows }
     requires scene { scene.old ≡ scene_of machine.now.regs event.now.facts }
     ensures row { room.new.row ≡ Some number }
-    ensures along { (row : Row) → MovesAlong (NamedPermits registry.now.book) bound.now.table machine.now event.now (slice_index_or bound.now.table.rows number row) room.new.after room.new.chain room.new.deeds }
+    ensures along { (row : Row) → MovesAlong (NamedPermits registry.now.book) bound.now.table machine.now event.now
+        (slice_index_or bound.now.table.rows number row) room.new.after room.new.chain room.new.deeds }
 {
     let row = &bound.table().rows()[number];
     let actions = bound.places()[number].actions.as_slice();

@@ -50,7 +50,8 @@ fn takes(
     requires of_book { IfSome registry (λ registry. registry.now.book ≡ book.now) }
     requires bound { IsBoundTo bound.now book.now }
     requires in_rows { number < length bound.now.table.rows }
-    ensures { (row : Row) → result ≡ matches bound.now.table state (is_kind_of book.now kind) (named_answer book.now scene.now) (slice_index_or bound.now.table.rows number row) }
+    ensures { (row : Row) → result ≡ matches bound.now.table state (is_kind_of book.now kind)
+        (named_answer book.now scene.now) (slice_index_or bound.now.table.rows number row) }
 {
     book.known();
     let row = &bound.table().rows()[number];
@@ -60,8 +61,8 @@ fn takes(
         && all_yes(book, registry, places.guards.as_slice(), scene)
 }
 
-/// The number of the first row that takes an event of that kind. It stands apart, so that its loop over many rows is kept in
-/// the processor's registers.
+/// The number of the first row that takes an event of that kind. It stands apart, so that its loop over many rows is
+/// kept in the processor's registers.
 #[inline(never)]
 pub(crate) fn first_row(
     bound: &Bound,
@@ -73,9 +74,12 @@ pub(crate) fn first_row(
 ) -> Option<usize>
     requires of_book { IfSome registry (λ registry. registry.now.book ≡ book.now) }
     requires bound { IsBoundTo bound.now book.now }
-    ensures none { IfNone result (pick bound.now.table state (is_kind_of book.now kind) (named_answer book.now scene.now) ≡ None) }
+    ensures none { IfNone result (pick bound.now.table state (is_kind_of book.now kind)
+        (named_answer book.now scene.now) ≡ None) }
     ensures within { IfSome result (λ n. n < length bound.now.table.rows) }
-    ensures some { IfSome result (λ n. (row : Row) → pick bound.now.table state (is_kind_of book.now kind) (named_answer book.now scene.now) ≡ Some (n, slice_index_or bound.now.table.rows n row)) }
+    ensures some { IfSome result (λ n. (row : Row)
+        → pick bound.now.table state (is_kind_of book.now kind) (named_answer book.now scene.now)
+        ≡ Some (n, slice_index_or bound.now.table.rows n row)) }
 {
     for number in 0..bound.table().rows().len() {
         if takes(bound, book, registry, number, state, kind, scene) {

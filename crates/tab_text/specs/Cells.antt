@@ -1,9 +1,11 @@
-use Rattle.std.specs.Prelude.{ℕ, ◌==◌, ◌&&◌, Bool, true, false, List, [], ◌∷◌, ◌++◌, map, take, drop, Option, Some, None, option_map, codes, if◌then◌else◌, slice_index}
+-- The cells of rows, by the columns of the header.
+use Rattle.std.specs.Prelude.{ℕ, ◌==◌, ◌&&◌, Bool, true, false, List, [], ◌∷◌, ◌++◌, map, take, drop}
+use Rattle.std.specs.Prelude.{Option, Some, None, option_map, codes, MatchOption, ◌≡◌, if◌then◌else◌, slice_index}
 use Rattle.std.specs.List.{flat_map}
 use Rattle.std.specs.Str.{bytes_eq}
 use Rattle.std.specs.Cmp.Lexicographic.{pointwise}
 use Rattle.text_parts.specs.Lines.{Line, is_more, more_lines}
-use Rattle.text_parts.specs.Words.{words, tokens, trimmed}
+use Rattle.text_parts.specs.Words.{Word, words, tokens, trimmed}
 use Rattle.tab_text.specs.Names.{is_name}
 use Rattle.tab_text.specs.declared.cells.Span.{Span}
 use Rattle.tab_text.specs.declared.header.Columns.{Columns}
@@ -27,7 +29,17 @@ columns_at event action next = record { event = event; action = action; next = n
 
 -- the columns begin where the words of the header do
 unfoldable pub columns_of : List ℕ → Columns
-columns_of octets = columns_at (slice_index (starts octets) 1) (slice_index (starts octets) 2) (slice_index (starts octets) 3)
+columns_of octets =
+    columns_at (slice_index (starts octets) 1) (slice_index (starts octets) 2) (slice_index (starts octets) 3)
+
+-- a header has those columns, and no other line has columns
+abbrev pub IsHeader : List ℕ → Option Columns → Type 0
+IsHeader octets found =
+    MatchOption found (is_header octets ≡ false) (λ columns. (is_header octets ≡ true) × (columns ≡ columns_of octets))
+
+-- a word that was wanted begins at that byte, and these words are left; or it isn't there
+abbrev pub IsAfter : Option (ℕ × List Word) → List Word → Option ℕ → Type 0
+IsAfter wanted left found = MatchOption found (wanted ≡ None) (λ at. wanted ≡ Some (at, left))
 
 -- the cells of a row as they are written, and the line on which it begins
 pub record Cells : Type 0 where
@@ -84,7 +96,8 @@ row_cells columns line more = record {
   next = flat_map (λ part. part) (parts (next_span columns) (line ∷ more));
 }
 
--- the rows' cells, of the lines behind the header: each line that continues none begins a row, with the lines that continue it
+-- the rows' cells, of the lines behind the header: each line that continues none begins a row, with the lines that
+-- continue it
 abbrev pub groups : Columns → List Line → List Cells
 groups columns [] = []
 groups columns (line ∷ rest) =
@@ -103,7 +116,8 @@ abbrev pub names_apart : List ℕ → List (List ℕ) → Option (List (List ℕ
 names_apart between [] = None
 names_apart between (name ∷ []) = if is_name name then Some (name ∷ []) else None
 names_apart between (name ∷ word ∷ rest) =
-    if is_name name && bytes_eq word between then option_map (λ names. name ∷ names) (names_apart between rest) else None
+    if is_name name && bytes_eq word between then option_map (λ names. name ∷ names) (names_apart between rest)
+    else None
 
 -- the guards behind a kind: none, or `when guard and guard`
 unfoldable pub condition_of : List (List ℕ) → Option (List (List ℕ))
@@ -136,7 +150,9 @@ is_state (b ∷ bs) = is_name (b ∷ bs)
 abbrev pub row_with : Cells → List (List ℕ) → Option NamedRow
 row_with cells [] = None
 row_with cells (kind ∷ condition) =
-    if is_state cells.state && is_name kind && is_name cells.next then joined cells kind (condition_of condition) (actions_of (tokens cells.action)) else None
+    if is_state cells.state && is_name kind
+    && is_name cells.next then joined cells kind (condition_of condition) (actions_of (tokens cells.action))
+    else None
 
 -- the row that cells spell, where each is made of names as its column wants it
 unfoldable pub row_of : Cells → Option NamedRow

@@ -1,6 +1,8 @@
+-- Faults of texts by number.
 use Rattle.std.specs.Prelude.{ℕ}
 use Rattle.tab_text.specs.declared.fault.TextCode.{TextCode}
-use Rattle.tab_text.specs.declared.fault.TextCode.TheVariants.{NoHeader, BadByte, EmptyCell, NoRowToContinue, BadName, TooManyRows, TooManyNames, TooManyInRow, TooLong}
+use Rattle.tab_text.specs.declared.fault.TextCode.TheVariants.{NoHeader, BadByte, EmptyCell, NoRowToContinue, BadName}
+use Rattle.tab_text.specs.declared.fault.TextCode.TheVariants.{TooManyRows, TooManyNames, TooManyInRow, TooLong}
 
 -- the number that stands for a fault in messages
 abbrev pub number_of : TextCode → ℕ

@@ -1,9 +1,11 @@
+-- What a table holds.
 use Rattle.std.specs.Prelude.{ℕ, ◌≡◌, ◌<◌, ◌≤◌, List, length, All}
-use Rattle.tab_text.specs.declared.limits.TheConstants.{MAX_ROWS, MAX_STATES, MAX_KINDS, MAX_GUARDS, MAX_ACTIONS, MAX_ROW_GUARDS, MAX_ROW_ACTIONS}
+use Rattle.tab_text.specs.declared.limits.TheConstants.{MAX_ROWS, MAX_STATES, MAX_KINDS, MAX_GUARDS}
+use Rattle.tab_text.specs.declared.limits.TheConstants.{MAX_ACTIONS, MAX_ROW_GUARDS, MAX_ROW_ACTIONS}
 use Rattle.tab_text.specs.declared.row.Row.{Row}
 
--- what a table holds: its names, each list in order of number, its rows, which speak of names by number, and the line on
--- which each row begins
+-- what a table holds: its names, each list in order of number, its rows, which speak of names by number, and the line
+-- on which each row begins
 pub record Contents : Type 0 where
   pub states : List (List ℕ)
   pub kinds : List (List ℕ)
@@ -11,6 +13,11 @@ pub record Contents : Type 0 where
   pub actions : List (List ℕ)
   pub rows : List Row
   pub lines : List ℕ
+
+-- a table of these parts
+abbrev pub made_of : (states kinds guards actions : List (List ℕ)) → List Row → List ℕ → Contents
+made_of states kinds guards actions rows lines =
+    record { states = states; kinds = kinds; guards = guards; actions = actions; rows = rows; lines = lines }
 
 -- each number of a row is a place in the list of its names, and the row has at most 4 guards and 8 actions
 pub record IsRowOf (table : Contents) (row : Row) : Type 0 where

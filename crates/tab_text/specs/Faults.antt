@@ -1,13 +1,17 @@
-use Rattle.std.specs.Prelude.{ℕ, ◌==◌, ◌++◌, ◌&&◌, ◌||◌, not, map, nat_lt, nat_le, Bool, true, false, List, [], ◌∷◌, length, Option, Some, None, is_none, if◌then◌else◌}
+-- The faults of a text's lines, and the first of them.
+use Rattle.std.specs.Prelude.{ℕ, ◌==◌, ◌++◌, ◌&&◌, ◌||◌, not, map, nat_lt, nat_le, Bool, true, false}
+use Rattle.std.specs.Prelude.{List, [], ◌∷◌, length, Option, Some, None, is_none, if◌then◌else◌}
 use Rattle.std.specs.List.{filter_map, flat_map}
 use Rattle.text_parts.specs.Lines.{Line, lines, kept, is_plain, is_skipped, is_more, is_row_line, more_lines}
 use Rattle.text_parts.specs.Words.{tokens}
 use Rattle.tab_text.specs.Cells.{Cells, NamedRow, is_header, columns_of, row_cells, groups, row_of}
 use Rattle.tab_text.specs.declared.header.Columns.{Columns}
 use Rattle.tab_text.specs.Rows.{Names, filled, names_of}
-use Rattle.tab_text.specs.declared.limits.TheConstants.{MAX_TEXT, MAX_ROWS, MAX_STATES, MAX_KINDS, MAX_GUARDS, MAX_ACTIONS, MAX_ROW_GUARDS, MAX_ROW_ACTIONS}
+use Rattle.tab_text.specs.declared.limits.TheConstants.{MAX_TEXT, MAX_ROWS, MAX_STATES, MAX_KINDS, MAX_GUARDS}
+use Rattle.tab_text.specs.declared.limits.TheConstants.{MAX_ACTIONS, MAX_ROW_GUARDS, MAX_ROW_ACTIONS}
 use Rattle.tab_text.specs.declared.fault.TextCode.{TextCode}
-use Rattle.tab_text.specs.declared.fault.TextCode.TheVariants.{NoHeader, BadByte, NoRowToContinue, EmptyCell, BadName, TooManyRows, TooManyNames, TooManyInRow, TooLong}
+use Rattle.tab_text.specs.declared.fault.TextCode.TheVariants.{NoHeader, BadByte, NoRowToContinue, EmptyCell, BadName}
+use Rattle.tab_text.specs.declared.fault.TextCode.TheVariants.{TooManyRows, TooManyNames, TooManyInRow, TooLong}
 use Rattle.tab_text.specs.declared.fault.TextFault.{TextFault}
 
 -- a fault of a line
@@ -21,7 +25,8 @@ is_empty (x ∷ xs) = false
 -- a row lacks its event, its action or its next state, or the first row its state: a cell is there where it has a word
 abbrev pub lacks_cell : Bool → Cells → Bool
 lacks_cell is_first cells =
-    is_empty (tokens cells.event) || is_empty (tokens cells.action) || is_empty cells.next || (is_first && is_empty cells.state)
+    is_empty (tokens cells.event) || is_empty (tokens cells.action) || is_empty cells.next
+    || (is_first && is_empty cells.state)
 
 -- a row has over 4 guards or over 8 actions
 abbrev pub has_many : Option NamedRow → Bool
@@ -31,7 +36,8 @@ has_many (Some row) = nat_lt MAX_ROW_GUARDS (length row.guards) || nat_lt MAX_RO
 -- names within the limits of a table
 unfoldable pub has_room : Names → Bool
 has_room names =
-    nat_le (length names.states) MAX_STATES && nat_le (length names.kinds) MAX_KINDS && nat_le (length names.guards) MAX_GUARDS
+    nat_le (length names.states) MAX_STATES && nat_le (length names.kinds) MAX_KINDS
+    && nat_le (length names.guards) MAX_GUARDS
     && nat_le (length names.actions) MAX_ACTIONS
 
 -- the codes whose tests hold, in this order
@@ -49,7 +55,8 @@ row_tests before cells =
     ∷ (not (has_room (names_of (filled [] (filter_map row_of (before ++ cells ∷ []))))), TooManyNames)
     ∷ []
 
--- what can be wrong with a line behind the rows that begin before it: it continues a row, or begins one with the lines that continue it
+-- what can be wrong with a line behind the rows that begin before it: it continues a row, or begins one with the lines
+-- that continue it
 unfoldable pub body_tests : List Cells → Columns → Line → List Line → List (Bool × TextCode)
 body_tests rows columns line more =
     if is_more line.octets then (is_empty rows, NoRowToContinue) ∷ [] else row_tests rows (row_cells columns line more)

@@ -1,3 +1,4 @@
+-- How names are spelled.
 use Rattle.std.specs.Prelude.{ℕ, ◌==◌, ◌&&◌, ◌||◌, not, nat_le, Bool, false, List, [], ◌∷◌, length, codes}
 use Rattle.std.specs.List.{list_all}
 use Rattle.std.specs.Str.{bytes_eq}
@@ -21,4 +22,5 @@ is_spelled (b ∷ bs) = is_letter b && list_all is_name_byte bs
 -- a name is spelled so, has at most 40 bytes, and is neither `when` nor `and`
 unfoldable pub is_name : List ℕ → Bool
 is_name octets =
-    is_spelled octets && nat_le (length octets) MAX_NAME && not (bytes_eq octets (codes "when")) && not (bytes_eq octets (codes "and"))
+    is_spelled octets && nat_le (length octets) MAX_NAME && not (bytes_eq octets (codes "when"))
+    && not (bytes_eq octets (codes "and"))

@@ -1,6 +1,7 @@
--- what one pass over a text finds first, from the lines that are kept before and the lines behind; the definition of a text's
--- faults is in Faults, and the two are shown to be one
-use Rattle.std.specs.Prelude.{ℕ, ◌==◌, ◌++◌, not, nat_le, Bool, true, false, List, [], ◌∷◌, length, Option, Some, None, option_map, is_none, Result, Ok, Err, if◌then◌else◌}
+-- what one pass over a text finds first, from the lines that are kept before and the lines behind; the definition of a
+-- text's faults is in Faults, and the two are shown to be one
+use Rattle.std.specs.Prelude.{ℕ, ◌==◌, ◌++◌, not, nat_le, Bool, true, false, List, [], ◌∷◌, length}
+use Rattle.std.specs.Prelude.{Option, Some, None, option_map, is_none, Result, Ok, Err, MatchResult, ◌≡◌, if◌then◌else◌}
 use Rattle.std.specs.Option.{option_or}
 use Rattle.std.specs.List.{filter_map}
 use Rattle.text_parts.specs.Lines.{Line, kept, is_plain, is_skipped, is_more, is_row_line, more_lines}
@@ -9,7 +10,8 @@ use Rattle.tab_text.specs.Rows.{filled, names_of}
 use Rattle.tab_text.specs.Faults.{fault_at, is_empty, lacks_cell, has_many, has_room}
 use Rattle.tab_text.specs.declared.limits.TheConstants.{MAX_ROWS}
 use Rattle.tab_text.specs.declared.fault.TextCode.{TextCode}
-use Rattle.tab_text.specs.declared.fault.TextCode.TheVariants.{NoHeader, BadByte, NoRowToContinue, EmptyCell, BadName, TooManyRows, TooManyNames, TooManyInRow}
+use Rattle.tab_text.specs.declared.fault.TextCode.TheVariants.{NoHeader, BadByte, NoRowToContinue, EmptyCell}
+use Rattle.tab_text.specs.declared.fault.TextCode.TheVariants.{BadName, TooManyRows, TooManyNames, TooManyInRow}
 use Rattle.tab_text.specs.declared.fault.TextFault.{TextFault}
 
 -- the first code whose test holds
@@ -47,12 +49,18 @@ line_case some_row octets =
     else if is_more octets then (if some_row then Ok false else Err NoRowToContinue)
     else Ok true
 
+-- that is what was found of a line
+abbrev pub IsCase : Result Bool TextCode → Result Bool TextCode → Type 0
+IsCase case result = MatchResult result (λ begins. case ≡ Ok begins) (λ code. case ≡ Err code)
+
 -- the fault of a text whose lines have none: it lacks rows
 abbrev pub end_fault : Line → List Cells → Option TextFault
 end_fault header rows = if is_empty rows then Some (record { line = header.number; code = EmptyCell }) else None
 
--- the first fault from a line on, by what the line is, and by the first fault behind it where it is passed over or begins a row
-abbrev pub fault_step : List Cells → Cells → Result Bool TextCode → Option TextFault → Option TextFault → Option TextFault
+-- the first fault from a line on, by what the line is, and by the first fault behind it where it is passed over or
+-- begins a row
+abbrev pub fault_step :
+    List Cells → Cells → Result Bool TextCode → Option TextFault → Option TextFault → Option TextFault
 fault_step rows cells (Err code) passed begun = Some (fault_at cells.line code)
 fault_step rows cells (Ok false) passed begun = passed
 fault_step rows cells (Ok true) passed begun = option_or (option_map (fault_at cells.line) (row_fault rows cells)) begun

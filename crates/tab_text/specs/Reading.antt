@@ -1,5 +1,8 @@
-use Rattle.std.specs.Prelude.{ℕ, ◌≡◌, ◌≤◌, ◌++◌, Bool, true, false, List, [], ◌∷◌, length, map, Option, Some, None, Result, Ok, Err, if◌then◌else◌}
+-- What is found of a text, and which row cells spell.
+use Rattle.std.specs.Prelude.{ℕ, ◌≡◌, ◌≤◌, ◌++◌, Bool, true, false, List, [], ◌∷◌, length}
+use Rattle.std.specs.Prelude.{map, Option, Some, None, Result, Ok, Err, MatchOption, MatchResult, if◌then◌else◌}
 use Rattle.std.specs.List.{flat_map}
+use Rattle.std.specs.Borrow.{Bor}
 use Rattle.text_parts.specs.Lines.{Line, is_plain, is_skipped}
 use Rattle.text_parts.specs.Words.{tokens}
 use Rattle.tab_text.specs.Cells.{Cells, NamedRow, parts, row_cells, row_of}
@@ -25,7 +28,8 @@ first_kept (line ∷ rest) =
     else Err (fault_at line.number BadByte)
 
 -- the first line on which a row begins, by what a line is and what is found behind it
-abbrev pub row_step : Line → List Line → Result Bool TextCode → Result (Option (Line × List Line)) TextFault → Result (Option (Line × List Line)) TextFault
+abbrev pub row_step : Line → List Line → Result Bool TextCode → Result (Option (Line × List Line)) TextFault
+    → Result (Option (Line × List Line)) TextFault
 row_step line rest (Err code) later = Err (fault_at line.number code)
 row_step line rest (Ok false) later = later
 row_step line rest (Ok true) later = Ok (Some (line, rest))
@@ -36,7 +40,8 @@ first_row some_row [] = Ok None
 first_row some_row (line ∷ rest) = row_step line rest (line_case some_row line.octets) (first_row some_row rest)
 
 -- an answer is the line that was found, and these lines are left now
-abbrev pub IsFound : Result (Option (Line × List Line)) TextFault → Result (Option TextLine) TextFault → List Line → Type 0
+abbrev pub IsFound :
+    Result (Option (Line × List Line)) TextFault → Result (Option TextLine) TextFault → List Line → Type 0
 IsFound found (Err fault) new = found ≡ Err fault
 IsFound found (Ok None) new = found ≡ Ok None
 IsFound found (Ok (Some line)) new = found ≡ Ok (Some (line_of line, new))
@@ -47,6 +52,18 @@ cell_words c = tokens c.rest.now ++ flat_map tokens (parts c.span (lines_more c.
 
 abbrev pub cell_octets : RowCell → List ℕ
 cell_octets c = c.rest.now ++ flat_map (λ part. part) (parts c.span (lines_more c.behind))
+
+-- the first of some words is taken off, if there is one
+abbrev pub IsNextOf : (before after : List (List ℕ)) → Option (Bor (List ℕ)) → Type 0
+IsNextOf before after found = MatchOption found (before ≡ []) (λ word. before ≡ word.now ∷ after)
+
+-- the line on which a row begins, and those that continue it
+abbrev pub row_parts : RowLines → List Line
+row_parts row = line_of row.line ∷ lines_more row.behind
+
+-- parts one behind the other
+abbrev pub concat : List (List ℕ) → List ℕ
+concat all = flat_map (λ part. part) all
 
 -- the cells of a row that begins on a line
 abbrev pub cells_at : RowLines → Cells
@@ -68,6 +85,10 @@ IsFewOf names few = (list : List (Front ℕ MAX_NAME)) × (names ≡ map octets_
 abbrev pub IsFrontOf : Option (List (List ℕ)) → Front (Front ℕ MAX_NAME) MAX_ROW_ACTIONS → Type 0
 IsFrontOf None few = ⊥
 IsFrontOf (Some names) few = IsFewOf names few
+
+-- the same, or there is none
+abbrev pub IsFewIn : Option (List (List ℕ)) → Option (Front (Front ℕ MAX_NAME) MAX_ROW_ACTIONS) → Type 0
+IsFewIn found few = MatchOption few (found ≡ None) (IsFrontOf found)
 
 -- a row by its names
 abbrev pub named : RowNames → NamedRow
@@ -91,6 +112,10 @@ abbrev pub IsRowFrontOf : Option NamedRow → RowNames → Type 0
 IsRowFrontOf None row = ⊥
 IsRowFrontOf (Some found) row = IsRowFront found row
 
+-- the same, or there is none
+abbrev pub IsRowIn : Option NamedRow → Option RowNames → Type 0
+IsRowIn found row = MatchOption row (found ≡ None) (IsRowFrontOf found)
+
 -- cells without a fault of their own spell this row
 pub record IsOwnRow (is_first : Bool) (cells : Cells) (row : RowNames) : Type 0 where
   pub sound : own_fault is_first cells ≡ None
@@ -98,3 +123,8 @@ pub record IsOwnRow (is_first : Bool) (cells : Cells) (row : RowNames) : Type 0 
   pub line : row.line ≡ cells.line
   pub few_guards : length (named row).guards ≤ MAX_ROW_GUARDS
   pub few_actions : length (named row).actions ≤ MAX_ROW_ACTIONS
+
+-- that row was read, or the first fault that the cells have by themselves was found
+abbrev pub IsOwnRead : Bool → Cells → Result RowNames TextCode → Type 0
+IsOwnRead is_first cells result =
+    MatchResult result (IsOwnRow is_first cells) (λ code. own_fault is_first cells ≡ Some code)

@@ -1,3 +1,4 @@
+-- Names as rooms hold them.
 use Rattle.std.specs.Prelude.{ℕ, nat_lt, List, [], ◌∷◌, ◌++◌, length, map, fold, if◌then◌else◌}
 use Rattle.tab_text.specs.Cells.{NamedRow}
 use Rattle.tab_text.specs.Rows.{Names, place_of}

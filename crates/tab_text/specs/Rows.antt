@@ -1,3 +1,4 @@
+-- The rows of a text, and its table.
 use Rattle.std.specs.Prelude.{ℕ, ◌≡◌, All, true, not, List, [], ◌∷◌, map, filter}
 use Rattle.std.specs.List.{filter_map, flat_map, position_or_len, slice_index_or}
 use Rattle.std.specs.Str.{bytes_eq}
@@ -116,7 +117,8 @@ pub record IsWellNamed (row : NamedRow) : Type 0 where
   pub actions : All (λ name. is_name name ≡ true) row.actions
   pub next : is_name row.next ≡ true
 
--- a table within its limits, whose names are those of its rows, each once and in order of first appearance, and well formed
+-- a table within its limits, whose names are those of its rows, each once and in order of first appearance, and well
+-- formed
 pub record IsNumberedTable (table : Contents) : Type 0 where
   pub within : IsTable table
   pub by_appearance : table_names table ≡ names_of (map (row_named table) table.rows)

@@ -1,13 +1,15 @@
-ghost use Rattle.std.specs.Prelude.{◌≡◌, ◌∷◌, [], ◌==◌, ◌&&◌, ◌≤◌, position, length, drop, take, List, ℕ, None, Some, MatchOption, MatchResult, IfSome};
+//! The cells of a row, and the row that they spell.
+ghost use Rattle.std.specs.Prelude.{◌≡◌, ◌∷◌, [], ◌==◌, ◌&&◌, position, List, ℕ, None, Some, MatchOption, IfSome};
 ghost use Rattle.std.specs.List.{flat_map};
 ghost use Rattle.text_parts.specs.Words.{tokens, is_token_end};
 ghost use Rattle.tab_text.specs.Names.{is_name};
 ghost use Rattle.text_parts.specs.Fronts.{IsFront};
-ghost use Rattle.tab_text.specs.Cells.{cell, front_of, parts, state_span, event_span, action_span, next_span, names_apart, condition_of, is_dash, actions_of, is_state, row_of, NamedRow};
+ghost use Rattle.tab_text.specs.Cells.{cell, parts, names_apart, condition_of, is_dash};
+ghost use Rattle.tab_text.specs.Cells.{actions_of, is_state, row_of, NamedRow};
 ghost use Rattle.tab_text.specs.Faults.{is_empty, lacks_cell, has_many};
 ghost use Rattle.tab_text.specs.Passing.{own_fault};
-ghost use Rattle.tab_text.specs.Reading.{cell_words, cell_octets, cells_at, IsFrontOf, IsRowFront, IsRowFrontOf, IsOwnRow};
-ghost use Rattle.text_parts.specs.Left.{line_of, lines_more};
+ghost use Rattle.tab_text.specs.Reading.{cell_words, cell_octets, cells_at, IsFewIn, IsNextOf};
+ghost use Rattle.tab_text.specs.Reading.{row_parts, concat, IsRowFront, IsRowIn, IsOwnRead};
 
 use crate::fault::TextCode;
 use crate::header::Columns;
@@ -72,7 +74,7 @@ struct RowCell<'a> {
 impl<'a> RowCell<'a> {
     /// The next word.
     fn next(&mut self) -> Option<&'a [u8]>
-        ensures { MatchOption result (cell_words self.old ≡ []) (λ word. cell_words self.old ≡ word.now ∷ cell_words self.new) }
+        ensures { IsNextOf (cell_words self.old) (cell_words self.new) result }
     {
         loop {
             if let Some((word, rest)) = first_word(self.rest) {
@@ -108,8 +110,9 @@ pub(crate) struct RowLines<'a> {
 impl<'a> RowLines<'a> {
     /// A cell of the row.
     fn cell(self, from: usize, to: Option<usize>) -> RowCell<'a>
-        ensures words { cell_words result ≡ flat_map tokens (parts (record { from = from; to = to }) (line_of self.entry.line ∷ lines_more self.entry.behind)) }
-        ensures octets { cell_octets result ≡ flat_map (λ part. part) (parts (record { from = from; to = to }) (line_of self.entry.line ∷ lines_more self.entry.behind)) }
+        ensures words { cell_words result
+            ≡ flat_map tokens (parts (record { from = from; to = to }) (row_parts self.entry)) }
+        ensures octets { cell_octets result ≡ concat (parts (record { from = from; to = to }) (row_parts self.entry)) }
     {
         let span = Span { from, to };
         RowCell {
@@ -166,7 +169,7 @@ fn name_of(word: &[u8]) -> Name
 
 /// The names with this word between.
 fn names_apart(words: &mut RowCell, between: &[u8]) -> Option<Few>
-    ensures { MatchOption result (names_apart between.now (cell_words words.old) ≡ None) (IsFrontOf (names_apart between.now (cell_words words.old))) }
+    ensures { IsFewIn (names_apart between.now (cell_words words.old)) result }
 {
     let mut names = Few::new();
     loop {
@@ -189,7 +192,7 @@ fn names_apart(words: &mut RowCell, between: &[u8]) -> Option<Few>
 /// The guards behind a kind: none, or `when guard and guard`.
 #[tactic(auto, unfolding(crate::specs::Cells::condition_of))]
 fn condition_of(words: &mut RowCell) -> Option<Few>
-    ensures { MatchOption result (condition_of (cell_words words.old) ≡ None) (IsFrontOf (condition_of (cell_words words.old))) }
+    ensures { IsFewIn (condition_of (cell_words words.old)) result }
 {
     match words.next() {
         None => Some(Few::new()),
@@ -216,7 +219,7 @@ fn is_dash(mut words: RowCell) -> bool
 /// The actions of a cell.
 #[tactic(auto, unfolding(crate::specs::Cells::actions_of))]
 fn actions_of(mut words: RowCell) -> Option<Few>
-    ensures { MatchOption result (actions_of (cell_words words.entry) ≡ None) (IsFrontOf (actions_of (cell_words words.entry))) }
+    ensures { IsFewIn (actions_of (cell_words words.entry)) result }
 {
     if is_dash(words) {
         Some(Few::new())
@@ -255,7 +258,8 @@ fn is_state(cell: &Name) -> bool
 
 /// Whether the cells of a row that are one name each are made of names.
 fn are_names(state: &Name, kind: &[u8], next: &Name) -> bool
-    ensures { (before after : List ℕ) → IsFront before state.now → IsFront after next.now → result ≡ (is_state before && is_name kind.now && is_name after) }
+    ensures { (before after : List ℕ) → IsFront before state.now → IsFront after next.now
+        → result ≡ (is_state before && is_name kind.now && is_name after) }
 {
     is_state(state) && is_name(kind) && is_named(next)
 }
@@ -263,7 +267,7 @@ fn are_names(state: &Name, kind: &[u8], next: &Name) -> bool
 /// The row that cells spell.
 #[tactic(auto, unfolding(crate::specs::Cells::row_of))]
 fn row_of(cells: RowLines) -> Option<RowNames>
-    ensures row { MatchOption result (row_of (cells_at cells.entry) ≡ None) (IsRowFrontOf (row_of (cells_at cells.entry))) }
+    ensures row { IsRowIn (row_of (cells_at cells.entry)) result }
     ensures line { IfSome result (λ row. row.line ≡ cells.entry.line.number) }
 {
     let mut words = cells.event();
@@ -311,7 +315,7 @@ fn has_many(row: &RowNames) -> bool
 /// The row of cells, or the first fault that it has by itself.
 #[tactic(auto, unfolding(crate::specs::Passing::own_fault))]
 pub(crate) fn read_row(cells: RowLines, is_first: bool) -> Result<RowNames, TextCode>
-    ensures { MatchResult result (IsOwnRow is_first (cells_at cells.entry)) (λ code. own_fault is_first (cells_at cells.entry) ≡ Some code) }
+    ensures { IsOwnRead is_first (cells_at cells.entry) result }
 {
     if lacks_cell(cells, is_first) {
         return Err(TextCode::EmptyCell);

@@ -1,3 +1,4 @@
+//! Why a text is no table.
 ghost use Rattle.std.specs.Prelude.{◌≡◌};
 ghost use Rattle.tab_text.specs.Codes.{number_of};
 ghost use Rattle.tab_text.specs.declared.fault.ParseError.TheVariants.{NoMemory, Fault};
@@ -57,7 +58,8 @@ impl TextCode {
             TextCode::EmptyCell =>
                 "wanted a row with Event, Action and Next, and in the first row with a State",
             TextCode::BadName =>
-                "wanted names of at most 40 bytes, a letter and then letters, digits, - / or _, an Event as `Kind` or `Kind when guard and guard`, and an Action as `-` or names with commas between",
+                "wanted names of at most 40 bytes, a letter and then letters, digits, - / or _, an Event as `Kind` or \
+                 `Kind when guard and guard`, and an Action as `-` or names with commas between",
             TextCode::TooManyRows => "wanted at most 4,096 rows",
             TextCode::TooManyNames =>
                 "wanted at most 64 states, 128 kinds, 64 guards and 64 actions in all rows",

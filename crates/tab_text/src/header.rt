@@ -1,5 +1,6 @@
-ghost use Rattle.std.specs.Prelude.{◌≡◌, true, false, None, Some, MatchOption};
-ghost use Rattle.tab_text.specs.Cells.{is_header, columns_of};
+//! The header of a table: where its columns begin.
+ghost use Rattle.std.specs.Prelude.{None, Some};
+ghost use Rattle.tab_text.specs.Cells.{IsAfter, IsHeader};
 ghost use Rattle.text_parts.specs.Pieces.{words_left, after_word};
 
 use text_parts::Words;
@@ -14,7 +15,7 @@ pub(crate) struct Columns {
 
 /// The byte at which the next word begins, where it is this one.
 fn start_of(words: &mut Words, word: &[u8]) -> Option<usize>
-    ensures { MatchOption result (after_word word.now (words_left words.old) ≡ None) (λ at. after_word word.now (words_left words.old) ≡ Some (at, words_left words.new)) }
+    ensures { IsAfter (after_word word.now (words_left words.old)) (words_left words.new) result }
 {
     let found = words.next()?;
     if found.octets == word {
@@ -26,7 +27,7 @@ fn start_of(words: &mut Words, word: &[u8]) -> Option<usize>
 
 /// The columns' starts, where the line is a header.
 pub(crate) fn header_of(line: &[u8]) -> Option<Columns>
-    ensures { MatchOption result (is_header line.now ≡ false) (λ columns. (is_header line.now ≡ true) × (columns ≡ columns_of line.now)) }
+    ensures { IsHeader line.now result }
 {
     let mut words = Words::new(line);
     let state = start_of(&mut words, b"State")?;

@@ -1,3 +1,4 @@
+//! Names in order of their numbers.
 ghost use Rattle.std.specs.Prelude.{◌≡◌};
 
 use base_list::Octets;

@@ -1,3 +1,4 @@
+//! The table of a text.
 ghost use Rattle.std.specs.Prelude.{◌≡◌, true, None, Some, length, map, IfOk, IfErr, OnOk};
 ghost use Rattle.tab_text.specs.Rows.{rows_of, row_lines, names_of, numbered, table_of};
 ghost use Rattle.tab_text.specs.Faults.{first_fault, has_room};

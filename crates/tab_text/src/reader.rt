@@ -1,6 +1,7 @@
-ghost use Rattle.std.specs.Prelude.{◌≡◌, ◌<◌, Bool, true, false, Ok, Err, Some, List, ◌∷◌, MatchResult, OnOk};
+//! The rows of a text, taken off one after another.
+ghost use Rattle.std.specs.Prelude.{◌≡◌, ◌<◌, true, false, Ok, Err, Some, List, OnOk};
 ghost use Rattle.tab_text.specs.Rows.{state_behind};
-ghost use Rattle.tab_text.specs.Passing.{line_case};
+ghost use Rattle.tab_text.specs.Passing.{IsCase, line_case};
 ghost use Rattle.tab_text.specs.Reading.{octets_in, first_kept, IsFound};
 ghost use Rattle.text_parts.specs.Left.{lines_left};
 
@@ -23,7 +24,7 @@ fn state_behind(before: Name, state: Name) -> Name
 
 /// Whether a row begins on a line behind the header, which else is passed over, or its fault.
 fn begins_row(line: &[u8], some_row: bool) -> Result<bool, TextCode>
-    ensures { MatchResult result (λ begins. line_case some_row line.now ≡ Ok begins) (λ code. line_case some_row line.now ≡ Err code) }
+    ensures { IsCase (line_case some_row line.now) result }
 {
     if !is_plain(line) {
         return Err(TextCode::BadByte);
@@ -49,10 +50,8 @@ fn next_kept<'a>(lines: &mut Lines<'a>) -> Result<Option<TextLine<'a>>, TextFaul
 {
     while let Some(line) = lines.next() {
         if !is_plain(line.octets) {
-            return Err(TextFault {
-                line: line.number,
-                code: TextCode::BadByte,
-            });
+            let (line, code) = (line.number, TextCode::BadByte);
+            return Err(TextFault { line, code });
         }
         if !is_skipped(line.octets) {
             return Ok(Some(line));
@@ -76,36 +75,28 @@ pub(crate) struct Reader<'a> {
 
 impl<'a> Reader<'a> {
     ghost use Rattle.text_parts.specs.Lines.{Line};
-    ghost use Rattle.tab_text.specs.Faults.{first_fault};
     ghost use Rattle.std.specs.Prelude.{not, ◌==◌};
     ghost use Rattle.tab_text.specs.Cells.{Cells};
-    ghost use Rattle.tab_text.specs.Passing.{row_fault};
     ghost use Rattle.tab_text.specs.Reading.{first_row, IsFound, cells_at};
     ghost use Rattle.text_parts.specs.Left.{lines_left};
-    ghost use Rattle.tab_text.specs.Reader.{IsAt, IsRead, TakesCells, IsOpened, IsNextRow};
+    ghost use Rattle.tab_text.specs.Reader.{IsAt, IsOpening, IsRowRead, IsRowTaken, IsNextRow};
 
     /// Reads a text's header.
     pub(crate) fn open(text: &'a [u8]) -> Result<Reader<'a>, TextFault>
-        ensures { MatchResult result (λ reader. (header : Line) × IsOpened text.now header reader) (λ fault. first_fault text.now ≡ Some fault) }
+        ensures { IsOpening text.now result }
     {
         if text.len() > MAX_TEXT {
-            return Err(TextFault {
-                line: 0,
-                code: TextCode::TooLong,
-            });
+            let (line, code) = (0, TextCode::TooLong);
+            return Err(TextFault { line, code });
         }
         let mut lines = Lines::new(text);
         let Some(line) = next_kept(&mut lines)? else {
-            return Err(TextFault {
-                line: 0,
-                code: TextCode::NoHeader,
-            });
+            let (line, code) = (0, TextCode::NoHeader);
+            return Err(TextFault { line, code });
         };
         let Some(columns) = header_of(line.octets) else {
-            return Err(TextFault {
-                line: line.number,
-                code: TextCode::NoHeader,
-            });
+            let (line, code) = (line.number, TextCode::NoHeader);
+            return Err(TextFault { line, code });
         };
         Ok(Reader {
             lines,
@@ -118,7 +109,8 @@ impl<'a> Reader<'a> {
 
     /// The next line on which a row begins.
     fn next_line(&mut self) -> Result<Option<TextLine<'a>>, TextFault>
-        ensures found { IsFound (first_row (not (self.old.count == 0)) (lines_left self.old.lines)) result (lines_left self.new.lines) }
+        ensures found { IsFound (first_row (not (self.old.count == 0)) (lines_left self.old.lines)) result
+            (lines_left self.new.lines) }
         ensures kept { (header : Line) (rows : List Cells) → IsAt header rows self.old → IsAt header rows self.new }
     {
         while let Some(line) = self.lines.next() {
@@ -126,10 +118,8 @@ impl<'a> Reader<'a> {
                 Ok(true) => return Ok(Some(line)),
                 Ok(false) => {}
                 Err(code) => {
-                    return Err(TextFault {
-                        line: line.number,
-                        code,
-                    });
+                    let line = line.number;
+                    return Err(TextFault { line, code });
                 }
             }
         }
@@ -138,7 +128,8 @@ impl<'a> Reader<'a> {
 
     /// The next row, with its state filled in.
     pub(crate) fn next_row(&mut self) -> Result<Option<RowNames>, TextFault>
-        ensures { (header : Line) (rows : List Cells) → IsAt header rows self.old → IsNextRow header rows (lines_left self.old.lines) result self.new }
+        ensures { (header : Line) (rows : List Cells) → IsAt header rows self.old
+            → IsNextRow header rows (lines_left self.old.lines) result self.new }
     {
         match self.next_line()? {
             Some(line) => {
@@ -157,10 +148,8 @@ impl<'a> Reader<'a> {
             }
             None => {
                 if self.count == 0 {
-                    return Err(TextFault {
-                        line: self.header,
-                        code: TextCode::EmptyCell,
-                    });
+                    let (line, code) = (self.header, TextCode::EmptyCell);
+                    return Err(TextFault { line, code });
                 }
                 Ok(None)
             }
@@ -172,7 +161,7 @@ impl<'a> Reader<'a> {
     fn row_at(&self, cells: RowLines) -> Result<RowNames, TextCode>
         ensures room { OnOk result (self.now.count < MAX_ROWS) }
         ensures row { (header : Line) (rows : List Cells) → IsAt header rows self.now
-            → MatchResult result (IsRead rows (cells_at cells.entry)) (λ code. row_fault rows (cells_at cells.entry) ≡ Some code) }
+            → IsRowRead rows (cells_at cells.entry) result }
     {
         let row = read_row(cells, self.count == 0)?;
         if self.count >= MAX_ROWS {
@@ -184,7 +173,7 @@ impl<'a> Reader<'a> {
     /// Takes off a row, with its state filled in.
     fn read(&mut self, cells: RowLines) -> Result<RowNames, TextCode>
         ensures row { (header : Line) (rows : List Cells) → IsAt header rows self.old
-            → MatchResult result (λ row. TakesCells header rows (cells_at cells.entry) row self.new) (λ code. row_fault rows (cells_at cells.entry) ≡ Some code) }
+            → IsRowTaken header rows (cells_at cells.entry) self.new result }
         ensures lines { lines_left self.new.lines ≡ lines_left self.old.lines }
     {
         let row = self.row_at(cells)?;

@@ -1,4 +1,5 @@
-ghost use Rattle.std.specs.Prelude.{◌≡◌, ◌≤◌, ◌∷◌, [], ◌++◌, nat_lt, nat_le, true, List, ℕ, length, map, IfOk};
+//! Room for the names of a table, without memory.
+ghost use Rattle.std.specs.Prelude.{◌≡◌, ◌≤◌, [], nat_le, true, length, map, IfOk};
 ghost use Rattle.std.specs.Bool.{OnTrue};
 ghost use Rattle.tab_text.specs.Rows.{place_of, numbered};
 ghost use Rattle.tab_text.specs.Faults.{has_room};

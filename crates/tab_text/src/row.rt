@@ -1,3 +1,4 @@
+//! A row of a table.
 use crate::limits::MAX_ROW_ACTIONS;
 use base_fixed::FixedList;
 

@@ -1,3 +1,4 @@
+//! How names are spelled.
 ghost use Rattle.std.specs.Prelude.{◌≡◌};
 ghost use Rattle.std.specs.List.{list_all};
 ghost use Rattle.tab_text.specs.Names.{is_letter, is_name_byte, is_spelled, is_name};
@@ -35,7 +36,7 @@ fn is_spelled(octets: &[u8]) -> bool
     }
 }
 
-/// Whether these are the bytes of a name: a letter, then letters, digits, `-`, `/` and `_`, 40 bytes at most, and not `when` or `and`.
+/// Whether these are the bytes of a name: a letter, then letters, digits, `-`, `/`, `_`, 40 at most; not `when`, `and`.
 #[tactic(auto, unfolding(crate::specs::Names::is_name))]
 pub fn is_name(octets: &[u8]) -> bool
     ensures { result ≡ is_name octets.now }

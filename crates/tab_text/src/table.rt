@@ -1,3 +1,4 @@
+//! A table as it is held.
 ghost use Rattle.std.specs.Prelude.{◌≡◌};
 ghost use Rattle.std.specs.List.{slice_get};
 
@@ -17,7 +18,7 @@ pub struct Table {
     lines: Vec<usize>,
 }
 
-// A derived `drop` is proved anew, field by field, at each way out of each function that holds a table; this one is a call.
+// A derived `drop` is proved anew at each way out of each function that holds a table; this one is a call.
 impl Drop for Table {
     fn drop(self) {
         let Table {
@@ -32,18 +33,18 @@ impl Drop for Table {
 }
 
 impl Model for Table {
-    ghost use Rattle.tab_text.specs.Contents.{Contents};
+    ghost use Rattle.tab_text.specs.Contents.{Contents, made_of};
     ghost use Rattle.tab_text.specs.Rows.{IsNumberedTable};
 
     ghost Value = { Contents };
 
-    ghost view = { λ t. record { states = t.states; kinds = t.kinds; guards = t.guards; actions = t.actions; rows = t.rows.items; lines = t.lines.items } };
+    ghost view = { λ t. made_of t.states t.kinds t.guards t.actions t.rows.items t.lines.items };
 
-    ghost invariant = { λ t. IsNumberedTable (record { states = t.states; kinds = t.kinds; guards = t.guards; actions = t.actions; rows = t.rows.items; lines = t.lines.items }) };
+    ghost invariant = { λ t. IsNumberedTable (made_of t.states t.kinds t.guards t.actions t.rows.items t.lines.items) };
 }
 
 impl Table {
-    ghost use Rattle.tab_text.specs.Contents.{Contents, IsTable};
+    ghost use Rattle.tab_text.specs.Contents.{IsTable, made_of};
     ghost use Rattle.tab_text.specs.Rows.{IsNumberedTable};
 
     pub(crate) fn new(
@@ -54,8 +55,8 @@ impl Table {
         rows: Vec<Row>,
         lines: Vec<usize>,
     ) -> Table
-        requires { IsNumberedTable (record { states = states; kinds = kinds; guards = guards; actions = actions; rows = rows.items; lines = lines.items }) }
-        ensures { result ≡ record { states = states; kinds = kinds; guards = guards; actions = actions; rows = rows.items; lines = lines.items } }
+        requires { IsNumberedTable (made_of states kinds guards actions rows.items lines.items) }
+        ensures { result ≡ made_of states kinds guards actions rows.items lines.items }
     {
         Table {
             states,

@@ -1,5 +1,6 @@
 -- What a walk prints: a table, or its image, stepped over a list of events.
-use Rattle.std.specs.Prelude.{◌≡◌, ◌⊎◌, ℕ, Bool, true, false, List, [], ◌∷◌, ◌++◌, replicate, Option, Some, None, codes, decimal, option_map, if◌then◌else◌}
+use Rattle.std.specs.Prelude.{◌≡◌, ◌⊎◌, ℕ, Bool, true, false, List, [], ◌∷◌, ◌++◌, replicate}
+use Rattle.std.specs.Prelude.{Option, Some, None, codes, decimal, option_map, if◌then◌else◌}
 use Rattle.std.specs.List.{flat_map, slice_get}
 use Rattle.std.specs.Option.{option_map_or, option_or}
 use Rattle.tab_law.specs.Books.{Laws, NamedPermits}
@@ -47,7 +48,8 @@ kind_text laws kind = option_map_or (λ entry. entry.name) (slice_get laws.kinds
 -- `CCA-I Wait Done row 0`, and a line for each deed; the names are those of the states
 abbrev pub step_text : (names : List (List ℕ)) → Laws → ℕ → Event → Stepped → List ℕ
 step_text names laws before event step =
-    kind_text laws event.kind ++ state_text names before ++ state_text names step.after.state ++ row_text step.row ++ codes "\n"
+    kind_text laws event.kind ++ state_text names before ++ state_text names step.after.state ++ row_text step.row
+    ++ codes "\n"
     ++ flat_map deed_line step.deeds
 
 -- the texts of steps, each from the state that the one before left
@@ -62,7 +64,8 @@ abbrev pub at_start : MachineState
 at_start = record { state = 0; regs = replicate PLACES 0 }
 
 -- one step for each event, each from where the one before left the machine
-abbrev pub AreSteps : (Step : MachineState → Event → Stepped → Type 0) → MachineState → List Event → List Stepped → Type 0
+abbrev pub AreSteps :
+    (Step : MachineState → Event → Stepped → Type 0) → MachineState → List Event → List Stepped → Type 0
 AreSteps Step s [] [] = Unit {0}
 AreSteps Step s (event ∷ events) (step ∷ steps) = Step s event step × AreSteps Step step.after events steps
 -- lists of different lengths are no run
@@ -70,7 +73,9 @@ AreSteps Step s [] (step ∷ steps) = ⊥
 AreSteps Step s (event ∷ events) [] = ⊥
 
 -- The text of a machine's run on events, by what is a step of it; the names are those of its states.
-pub record RunText (Step : MachineState → Event → Stepped → Type 0) (names : List (List ℕ)) (laws : Laws) (events : List Event) (text : List ℕ) : Type 0 where
+pub record RunText
+    (Step : MachineState → Event → Stepped → Type 0) (names : List (List ℕ)) (laws : Laws) (events : List Event)
+    (text : List ℕ) : Type 0 where
   pub steps : List Stepped
   pub run : AreSteps Step at_start events steps
   pub printed : text ≡ steps_text names laws 0 events steps
@@ -87,7 +92,8 @@ StepByImage program laws = IsRunBy (NamedPermits laws) program laws
 unfoldable pub refusal_of : Laws → (table events : List ℕ) → Option (List ℕ)
 refusal_of laws table events =
     option_or (option_map table_fault (first_fault table))
-    (option_or (option_map unbound_text (slice_get (missing laws (table_of table)) 0)) (option_map bad_text (first_bad laws events)))
+    (option_or (option_map unbound_text (slice_get (missing laws (table_of table)) 0))
+    (option_map bad_text (first_bad laws events)))
 
 -- what is printed of a table's text, and whether it is a refusal
 abbrev pub IsWalked : Laws → (table events text : List ℕ) → Bool → Type 0
@@ -96,7 +102,8 @@ IsWalked laws table events text false =
     (refusal_of laws table events ≡ None)
     × RunText (StepByRows (table_of table) laws) (table_of table).states laws (events_of laws events) text
 
--- the same of an image's text: why it gives no program, or of the program that it gives a line that is no event, or the run
+-- the same of an image's text: why it gives no program, or of the program that it gives a line that is no event, or the
+-- run
 abbrev pub IsImageWalked : Laws → (image events text : List ℕ) → Bool → Type 0
 IsImageWalked laws image events text true =
     ((error : ImageError) × IsNoImage laws image error × (refusal_text error ≡ Some text))
@@ -105,7 +112,8 @@ IsImageWalked laws image events text false =
     (program : Loaded) × IsImageOf laws image program × (first_bad laws events ≡ None)
     × RunText (StepByImage program laws) program.image.states laws (events_of laws events) text
 
--- a text is that of an image where its first character that is no blank is a hexadecimal digit; no table's text begins so
+-- a text is that of an image where its first character that is no blank is a hexadecimal digit; no table's text begins
+-- so
 abbrev pub is_image : List ℕ → Bool
 is_image [] = false
 is_image (c ∷ text) = if is_blank c then is_image text else is_hex_digit c
@@ -145,7 +153,8 @@ names_of (rules.Rows bound) = bound.now.table.states
 names_of (rules.Image program) = program.now.image.states
 
 -- what is printed of a machine's run on the events of a text, or the first line that is no event
-abbrev pub IsRunOver : (Step : MachineState → Event → Stepped → Type 0) → (names : List (List ℕ)) → Laws → (events text : List ℕ) → Bool → Type 0
+abbrev pub IsRunOver : (Step : MachineState → Event → Stepped → Type 0) → (names : List (List ℕ)) → Laws
+    → (events text : List ℕ) → Bool → Type 0
 IsRunOver Step names laws events text true = option_map bad_text (first_bad laws events) ≡ Some text
 IsRunOver Step names laws events text false =
     (first_bad laws events ≡ None) × RunText Step names laws (events_of laws events) text
@@ -156,13 +165,16 @@ walk_status true = statuses.Refused
 walk_status false = statuses.Done
 
 -- A walk's text was taken whole and its status is the answer, or a write fault came; or memory ran out.
-pub record WalkTold {O : Type 0} (contents : O → Option (List ℕ)) (failures idle : O → ℕ) (laws : Laws) (table events : List ℕ) (old new : O) (answer : Status) : Type 0 where
+pub record WalkTold
+    {O : Type 0} (contents : O → Option (List ℕ)) (failures idle : O → ℕ) (laws : Laws) (table events : List ℕ)
+    (old new : O) (answer : Status) : Type 0 where
   pub text : List ℕ
   pub refused : Bool
   pub walked : IsWalkedOf (is_image table) laws table events text refused
   pub told : Tells contents failures idle old new text (walk_status refused) answer
 
-abbrev pub IsWalkedOn : {O : Type 0} → (contents : O → Option (List ℕ)) → (failures idle : O → ℕ) → Laws → (table events : List ℕ) → (old new : O) → Status → Type 0
+abbrev pub IsWalkedOn : {O : Type 0} → (contents : O → Option (List ℕ)) → (failures idle : O → ℕ) → Laws
+    → (table events : List ℕ) → (old new : O) → Status → Type 0
 IsWalkedOn contents failures idle laws table events old new answer =
     WalkTold contents failures idle laws table events old new answer
     ⊎ Tells contents failures idle old new (codes "no memory\n") statuses.NoMemory answer

@@ -3,7 +3,8 @@ ghost use Rattle.std.specs.Prelude.{◌≡◌, ◌≢◌, ◌<◌, ◌≤◌, �
 ghost use Rattle.bench_device.specs.Devices.{HasWriteCause};
 ghost use Rattle.bench_text.specs.Digits.{is_blank};
 ghost use Rattle.hex.specs.Hex.{is_hex_digit};
-ghost use Rattle.tab_walk.specs.Walks.{IsImageWalked, IsReady, IsRefused, IsRunOver, IsWalked, IsWalkedOf, IsWalkedOn, RunText, StepBy, bind_text, is_image, names_of, parse_text};
+ghost use Rattle.tab_walk.specs.Walks.{IsImageWalked, IsReady, IsRefused, IsRunOver, IsWalked, IsWalkedOf};
+ghost use Rattle.tab_walk.specs.Walks.{IsWalkedOn, RunText, StepBy, bind_text, is_image, names_of, parse_text};
 
 use crate::steps::{Rules, names_of, put_step, step_by};
 use bench_device::{ByteSink, MAX_IDLE_WRITES, Status, tell};
@@ -52,7 +53,8 @@ fn run_text(
     events: &[Event],
 ) -> Result<Vec<u8>, AllocError>
     requires { IsReady registry.now.book rules }
-    ensures { IfOk result (λ text. RunText (StepBy registry.now.book rules.entry) (names_of rules.entry) registry.now.book events.now text.items) }
+    ensures { IfOk result (λ text. RunText (StepBy registry.now.book rules.entry) (names_of rules.entry)
+        registry.now.book events.now text.items) }
 {
     let mut text = Vec::new(alloc);
     let mut room = Stepped::new();
@@ -81,7 +83,8 @@ fn walk_by(
     events: &[u8],
 ) -> Result<Outcome, AllocError>
     requires { IsReady registry.now.book rules }
-    ensures { IfOk result (λ walk. IsRunOver (StepBy registry.now.book rules.entry) (names_of rules.entry) registry.now.book events.now walk.text.items walk.refused) }
+    ensures { IfOk result (λ walk. IsRunOver (StepBy registry.now.book rules.entry) (names_of rules.entry)
+        registry.now.book events.now walk.text.items walk.refused) }
 {
     match read_events(alloc, registry.laws(), events) {
         Ok(events) => Ok(Outcome {
@@ -166,7 +169,8 @@ fn text_of(
     registry: &Registry,
     events: &[u8],
 ) -> Result<Outcome, AllocError>
-    ensures { IfOk result (λ walk. IsWalkedOf (is_image input.now) registry.now.book input.now events.now walk.text.items walk.refused) }
+    ensures { IfOk result (λ walk. IsWalkedOf (is_image input.now) registry.now.book input.now events.now
+        walk.text.items walk.refused) }
 {
     if is_image(input) {
         walk_image(alloc, input, registry, events)
@@ -186,14 +190,14 @@ fn walk_status(refused: bool) -> Status
     }
 }
 
-/// Steps a table over events from state 0 with all registers 0, by the callbacks of a registry, and prints each step: the kind, the states before and
-/// after it, the row, and a line for each deed. The table is its text, or its image in hexadecimal digits: that is what a text is whose first character
-/// that is no blank is a digit.
+/// Steps a table over events from state 0 with all registers 0, by the callbacks of a registry, and prints each step:
+/// the kind, the states before and after it, the row, and a line for each deed. The table is its text, or its image in
+/// hexadecimal digits: that is what a text is whose first character that is no blank is a digit.
 ///
-/// A line of `events` is `KIND N=V ..`: a kind of the registry, and facts by number. Refused, with status `Refused`, are a
-/// table with a fault (`line N fault C`), one that names what the registry lacks (`unbound NAME`), and a line of another
-/// form (`bad line N`), each with what was wanted, an image that isn't digits, two for each octet (`bad hex`), and one with a fault
-/// (`at N fault C`); nothing is stepped then.
+/// A line of `events` is `KIND N=V ..`: a kind of the registry, and facts by number. Refused, with status `Refused`,
+/// are a table with a fault (`line N fault C`), one that names what the registry lacks (`unbound NAME`), and a line of
+/// another form (`bad line N`), each with what was wanted, an image that isn't digits, two for each octet (`bad hex`),
+/// and one with a fault (`at N fault C`); nothing is stepped then.
 pub fn walk_on<O: ByteSink>(
     alloc: Global,
     table: &[u8],
@@ -206,7 +210,8 @@ pub fn walk_on<O: ByteSink>(
 
     // What is printed is the text of the table's run on the events, or the first refusal; want of memory aside, it is
     // done exactly where nothing is refused.
-    ensures walk { IsWalkedOn O.contents O.failures O.idle registry.now.book table.now events.now sink.old sink.new result }
+    ensures walk { IsWalkedOn O.contents O.failures O.idle registry.now.book table.now events.now sink.old sink.new
+        result }
     ensures words { result ≢ Status.Usage }
 
     // A fault comes only where the sink failed, or took nothing in as many writes in a row as the bound says.

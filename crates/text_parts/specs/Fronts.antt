@@ -1,3 +1,4 @@
+-- The first values of a list.
 use Rattle.std.specs.Prelude.{ℕ, ◌≡◌, ◌≤◌, nat_lt, List, length, take}
 use Rattle.text_parts.specs.declared.front.Front.{Front}
 

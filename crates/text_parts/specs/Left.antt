@@ -1,3 +1,4 @@
+-- What is left of a text as its lines are taken off.
 use Rattle.std.specs.Prelude.{◌+◌, List}
 use Rattle.text_parts.specs.Lines.{Line, numbered_from, kept, more_lines}
 use Rattle.text_parts.specs.Pieces.{pieces_left}

@@ -1,4 +1,6 @@
-use Rattle.std.specs.Prelude.{ℕ, ◌+◌, ◌==◌, ◌&&◌, ◌||◌, not, nat_le, Bool, false, List, [], ◌∷◌, take, filter, if◌then◌else◌}
+-- The lines of a text.
+use Rattle.std.specs.Prelude.{ℕ, ◌+◌, ◌==◌, ◌&&◌, ◌||◌, not, nat_le, Bool, false}
+use Rattle.std.specs.Prelude.{List, [], ◌∷◌, take, filter, if◌then◌else◌}
 use Rattle.std.specs.List.{list_all, slice_split}
 use Rattle.std.specs.Str.{bytes_eq}
 
@@ -44,7 +46,8 @@ is_more (b ∷ bs) = b == 43
 
 -- behind the header a line has a blank or `+` in byte 0, and a blank in byte 1 where it has one
 abbrev pub is_row_line : List ℕ → Bool
-is_row_line octets = bytes_eq (take 2 octets) (32 ∷ 32 ∷ []) || bytes_eq (take 2 octets) (43 ∷ 32 ∷ []) || bytes_eq octets (43 ∷ [])
+is_row_line octets =
+    bytes_eq (take 2 octets) (32 ∷ 32 ∷ []) || bytes_eq (take 2 octets) (43 ∷ 32 ∷ []) || bytes_eq octets (43 ∷ [])
 
 -- of lines that are kept, those in front that continue the row before
 abbrev pub more_lines : List Line → List Line

@@ -1,4 +1,6 @@
-use Rattle.std.specs.Prelude.{ℕ, ◌+◌, ◌==◌, ◌||◌, Bool, true, false, List, [], ◌∷◌, length, filter, reverse, if◌then◌else◌}
+-- The words of a line.
+use Rattle.std.specs.Prelude.{ℕ, ◌+◌, ◌==◌, ◌||◌, Bool, true, false, List, []}
+use Rattle.std.specs.Prelude.{◌∷◌, length, filter, reverse, if◌then◌else◌}
 use Rattle.std.specs.List.{slice_split, flat_map}
 
 -- a word, and the byte at which it begins

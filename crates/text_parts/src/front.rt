@@ -1,3 +1,4 @@
+//! The first values of a list, without memory.
 ghost use Rattle.std.specs.Prelude.{◌≡◌, ◌≤◌, ◌∷◌, [], ◌++◌, nat_lt, List, length};
 
 /// The first `N` values of a list, and whether it goes on behind them.

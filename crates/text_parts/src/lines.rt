@@ -1,3 +1,4 @@
+//! The lines of a text, taken off one after another.
 ghost use Rattle.std.specs.Prelude.{◌≡◌, ◌≤◌, ◌∷◌, [], MatchOption};
 
 use crate::pieces::Pieces;

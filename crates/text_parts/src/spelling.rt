@@ -1,3 +1,4 @@
+//! Blanks, and what a line is.
 ghost use Rattle.std.specs.Prelude.{◌≡◌};
 ghost use Rattle.text_parts.specs.Lines.{is_plain, is_blank, is_comment, is_skipped, is_more, is_row_line};
 ghost use Rattle.text_parts.specs.Words.{trimmed_front, trimmed_back, trimmed};

@@ -1,5 +1,6 @@
 -- The places of the owners, as the code keeps them: each owner with its timer, if one is armed.
-use Rattle.std.specs.Prelude.{◌≡◌, ℕ, ◌-◌, ◌^◌, ◌≤◌, nat_le, min, map, filter_map, List, [], ◌∷◌, Option, None, Some, if◌then◌else◌}
+use Rattle.std.specs.Prelude.{◌≡◌, ℕ, ◌-◌, ◌^◌, ◌≤◌, nat_le, min, map, filter_map}
+use Rattle.std.specs.Prelude.{List, [], ◌∷◌, Option, None, Some, if◌then◌else◌}
 use Rattle.std.specs.FinMap as fin
 use Rattle.tick_wheel.specs.Timers.{ByOwner, with_timer, is_due, ComesBefore}
 use Rattle.tick_wheel.specs.declared.timer.Armed.{Armed}
@@ -26,7 +27,8 @@ places_at now places = map (λ place. (place.0, left_at now place.1)) places
 abbrev pub firing_of : ℕ → Place → Option Firing
 firing_of now (owner, None) = None
 firing_of now (owner, Some timer) =
-    if nat_le timer.due now then Some (record { due = timer.due; owner = owner; generation = timer.generation }) else None
+    if nat_le timer.due now then Some (record { due = timer.due; owner = owner; generation = timer.generation })
+    else None
 
 -- the firings of all places whose timers are due, in the order of the places
 abbrev pub firings_of : ℕ → List Place → List Firing

@@ -1,5 +1,6 @@
 -- What a wheel is seen as, and what its calls make of that.
-use Rattle.std.specs.Prelude.{◌≡◌, ℕ, ◌+◌, ◌-◌, ◌^◌, ◌<◌, ◌≤◌, ◌⊎◌, Bool, false, not, nat_le, min, max, List, Option, None, Some, Contains, AllPairs, ◌↔◌, refl}
+use Rattle.std.specs.Prelude.{◌≡◌, ℕ, ◌+◌, ◌-◌, ◌^◌, ◌<◌, ◌≤◌, ◌⊎◌, Bool, false, not, nat_le, min}
+use Rattle.std.specs.Prelude.{max, List, Option, None, Some, Contains, AllPairs, ◌↔◌, refl}
 use Rattle.std.specs.Ordering.{nat_cmp}
 use Rattle.std.specs.Coded.{Coded, code_by, coded×, coded_ℕ}
 use Rattle.std.specs.FinMap as map
@@ -20,12 +21,14 @@ pub record Timers : Type 0 where
 -- an armed timer is stored as the pair of its fields
 abbrev pub armed_code : Coded Armed
 armed_code =
-    code_by (ℕ × ℕ) (coded× coded_ℕ coded_ℕ) (λ a. (a.generation, a.due)) (λ p. record { generation = p.0; due = p.1 }) (λ _. refl)
+    code_by (ℕ × ℕ) (coded× coded_ℕ coded_ℕ) (λ a. (a.generation, a.due)) (λ p. record { generation = p.0; due = p.1 })
+    (λ _. refl)
 
 -- a wheel is stored as the pair of its moment with the pair of its collections
 abbrev pub timers_code : Coded Timers
 timers_code =
-    code_by (ℕ × (ByOwner × set.FinSet nat_cmp)) (coded× coded_ℕ (coded× (map.code coded_ℕ armed_code) (set.code coded_ℕ)))
+    code_by (ℕ × (ByOwner × set.FinSet nat_cmp))
+    (coded× coded_ℕ (coded× (map.code coded_ℕ armed_code) (set.code coded_ℕ)))
     (λ w. (w.moment, (w.armed, w.places))) (λ p. record { moment = p.0; armed = p.1.0; places = p.1.1 }) (λ _. refl)
 
 -- no timer is armed, no owner has a place, and no tick has passed
@@ -81,7 +84,8 @@ after_advance old now = record {
 -- the firing is of an armed timer that is due
 abbrev pub IsDueFiring : ByOwner → ℕ → Firing → Type 0
 IsDueFiring armed now firing =
-    (map.get armed firing.owner ≡ Some (record { generation = firing.generation; due = firing.due })) × (firing.due ≤ now)
+    (map.get armed firing.owner ≡ Some (record { generation = firing.generation; due = firing.due }))
+    × (firing.due ≤ now)
 
 -- a firing comes before another: it was due earlier, or at the same moment and its owner is lower
 abbrev pub ComesBefore : Firing → Firing → Type 0

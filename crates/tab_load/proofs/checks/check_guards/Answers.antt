@@ -4,15 +4,15 @@ use Rattle.tab_load.specs.declared.instruction.Step.TheVariants as step
 use Rattle.tab_load.proofs.CheckLemmas.{split-at, code-length}
 use Rattle.tab_load.proofs.checks.check_guards.Goals as goal
 
-pub overflow_add-result : goal.overflow_add-result
-overflow_add-result c =
+pub overflow_add-at : goal.overflow_add-at
+overflow_add-at c =
     let steps = c.args.scan.now.steps.items in
     let at = split-at steps c.loop-step.step-index (step.Begin 0) (rw c.as_slice-step-items.ensures.value at c.loop-step-test.true) in
     let all = code-length c.args.format (instructions_of steps) _ _ at.0 at.1 in
     omega (arith, all, c.loop-step.invariant.at, c.requires.whole, c.requires.small)
 
-pub overflow_add-at : goal.overflow_add-at
-overflow_add-at c =
+pub overflow_add-at-in-loop-step : goal.overflow_add-at-in-loop-step
+overflow_add-at-in-loop-step c =
     let steps = c.args.scan.now.steps.items in
     let at = split-at steps c.loop-step.step-index (step.Begin 0) (rw c.as_slice-step-items.ensures.value at c.loop-step-test.true) in
     let all = code-length c.args.format (instructions_of steps) _ _ at.0 at.1 in

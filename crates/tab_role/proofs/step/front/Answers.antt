@@ -1,4 +1,4 @@
-use Rattle.std.proofs.Common.{◌≤◌, arith, sym}
+use Rattle.std.proofs.Common.{arith, sym}
 use Rattle.std.proofs.lemmas.List.{take_all, length-take-le}
 use Rattle.tab_role.proofs.step.front.Goals as goal
 
