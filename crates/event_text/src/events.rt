@@ -1,5 +1,5 @@
 //! Events as text: a line each, `KIND N=V ..`, a kind by its name and then facts by number.
-ghost use Rattle.std.specs.Prelude.{◌≡◌, ◌==◌, ◌<◌, ◌∷◌, [], None, IfOk, IfErr, IfNone, IfSome, OnOk};
+ghost use Rattle.std.specs.Prelude.{◌≡◌, ◌==◌, ◌<◌, ◌∷◌, [], None, IfOk, IfErr, IfNone, IfSome, IsErrOf, OnOk};
 ghost use Rattle.std.specs.List.{slice_split};
 ghost use Rattle.event_text.specs.Events.{IsBadText, event_of, events_of, fact_between, fact_of, facts_of, first_bad, is_skipped};
 ghost use Rattle.text_parts.specs.Pieces.{words_left};
@@ -117,19 +117,27 @@ pub fn read_events(alloc: Global, book: &LawBook, text: &[u8]) -> Result<Vec<Eve
     ensures events { IfOk result (λ events. events.items ≡ events_of book.now text.now) }
     ensures sound { OnOk result (first_bad book.now text.now ≡ None) }
     ensures bad { IfErr result (IsBadText (first_bad book.now text.now)) }
+
+    // A bad line is told whatever the memory.
+    ensures memory { IsErrOf result LinesError.NoMemory → first_bad book.now text.now ≡ None }
 {
     let mut events = Vec::new(alloc);
     let mut lines = Pieces::new(text, b'\n');
     let mut place = 0;
+    // Where memory ran out the other lines are only looked at.
+    let mut short = false;
     while let Some(line) = lines.next() {
         place += 1;
         if is_skipped(line) {
             continue;
         }
         match event_of(book, line) {
-            Some(event) => events.push(event)?,
+            Some(event) => short |= events.push(event).is_err(),
             None => return Err(LinesError::BadLine(place)),
         }
+    }
+    if short {
+        return Err(LinesError::NoMemory);
     }
     Ok(events)
 }

@@ -5,7 +5,9 @@
 //! | `Meaning` | `meaning`: the first fault, or the command, field by field |
 #![tactic(auto)]
 
-ghost use Rattle.std.specs.Prelude.{◌≡◌, IfOk};
+ghost use Rattle.std.specs.Prelude.{◌≡◌, IfOk, OnErr};
+ghost use Rattle.dia_dict.specs.Dictionary.{known};
+ghost use Rattle.dia_msg.specs.Reading.{MayNeedMemory};
 ghost use Rattle.msg_meaning.specs.Meaning.{meaning};
 
 use dia_command::Command;
@@ -20,7 +22,10 @@ pub fn meant(
     dictionary: &Dictionary,
     octets: &[u8],
 ) -> Result<Result<Command, MsgFault>, AllocError>
-    ensures { IfOk result (λ answer. answer ≡ meaning dictionary.now octets.now) }
+    ensures answer { IfOk result (λ answer. answer ≡ meaning dictionary.now octets.now) }
+
+    // A fault whose failed AVP has at most 32 octets of data is answered whatever the memory.
+    ensures memory { OnErr result (MayNeedMemory (known dictionary.now) octets.now) }
 {
     match read_message(alloc, dictionary, octets) {
         Ok(command) => Ok(Ok(command)),

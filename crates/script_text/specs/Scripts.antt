@@ -1,5 +1,5 @@
 -- What the lines of a script ask for.
-use Rattle.std.specs.Prelude.{ℕ, ◌^◌, not, nat_lt, List, [], ◌∷◌, filter, Option, Some, None, Result, Ok, Err, is_none, option_map, unwrap_or, codes, if◌then◌else◌}
+use Rattle.std.specs.Prelude.{ℕ, ◌^◌, ◌&&◌, not, nat_lt, Bool, true, false, List, [], ◌∷◌, filter, Option, Some, None, Result, Ok, Err, is_none, is_some, option_map, unwrap_or, codes, if◌then◌else◌}
 use Rattle.std.specs.List.{filter_map, find}
 use Rattle.std.specs.Str.{bytes_eq}
 use Rattle.hex.specs.Hex.{decode_of}
@@ -15,7 +15,7 @@ use Rattle.bench_item.specs.declared.source.Source.{Source}
 use Rattle.bench_item.specs.declared.source.Source.TheVariants as sources
 use Rattle.bench_item.specs.declared.step.Step.{Step}
 use Rattle.bench_item.specs.declared.step.Step.TheVariants.{Joined, Dialled, Came, Lost, Told, Lift, Drop, Work}
-use Rattle.script_text.specs.Keys.{key_of}
+use Rattle.script_text.specs.Keys.{key_of, octet_of}
 use Rattle.script_text.specs.declared.asked.Asked.{Asked}
 use Rattle.script_text.specs.declared.asked.Asked.TheVariants as asked
 use Rattle.script_text.specs.declared.asked.TheConstants.{NO_KIND}
@@ -38,6 +38,12 @@ only_short (word ∷ other ∷ others) = None
 abbrev pub decoded : Result (List ℕ) FromHexError → Option (List ℕ)
 decoded (Ok octets) = Some octets
 decoded (Err fault) = None
+
+-- whether a word is pairs of such digits
+abbrev pub is_pairs : List ℕ → Bool
+is_pairs [] = true
+is_pairs (digit ∷ []) = false
+is_pairs (high ∷ low ∷ others) = is_some (octet_of high low) && is_pairs others
 
 unfoldable pub piece_of : List ℕ → Option (List ℕ)
 piece_of word = decoded (decode_of word)

@@ -1,5 +1,5 @@
 //! Keys of machines, read: `p:`, `c:` or `s:` and the name, in which `%` and two hexadecimal digits are an octet.
-ghost use Rattle.std.specs.Prelude.{◌≡◌, ◌<◌, None, length, IfOk, IfNone, IfSome};
+ghost use Rattle.std.specs.Prelude.{◌≡◌, ◌<◌, true, None, is_some, length, IfOk, IfNone, IfSome, OnErr};
 ghost use Rattle.std.specs.Option.{option_map};
 ghost use Rattle.script_text.specs.Keys.{before, key_of, name_of, octet_of, role_of};
 ghost use Rattle.std.specs.Prelude.{Some};
@@ -11,7 +11,7 @@ use std::alloc::{AllocError, Global};
 use step_text::is_plain;
 
 /// The octet of two hexadecimal digits.
-fn octet_of(high: u8, low: u8) -> Option<u8>
+pub(crate) fn octet_of(high: u8, low: u8) -> Option<u8>
     ensures { result ≡ octet_of high low }
 {
     match (digit_value(high), digit_value(low)) {
@@ -53,10 +53,28 @@ fn take_octet(text: &[u8]) -> Option<Taken<'_>>
     }
 }
 
+/// Whether a text is a name. Takes no memory.
+fn is_name(text: &[u8]) -> bool
+    ensures { result ≡ is_some (name_of text.now) }
+{
+    let mut left = text;
+    while !left.is_empty() {
+        let Some(taken) = take_octet(left) else {
+            return false;
+        };
+        left = taken.behind;
+    }
+    true
+}
+
 /// The octets of a name.
 fn name_of(alloc: Global, text: &[u8]) -> Result<Option<Octets>, AllocError>
-    ensures { IfOk result (λ name. name ≡ name_of text.now) }
+    ensures name { IfOk result (λ name. name ≡ name_of text.now) }
+    ensures memory { OnErr result (is_some (name_of text.now) ≡ true) }
 {
+    if !is_name(text) {
+        return Ok(None);
+    }
     let mut octets = Vec::new(alloc);
     let mut left = text;
     while !left.is_empty() {
@@ -83,7 +101,10 @@ fn role_of(mark: u8) -> Option<Role>
 
 /// Reads a key. None where the word is no key.
 pub fn read_key(alloc: Global, word: &[u8]) -> Result<Option<Key>, AllocError>
-    ensures { IfOk result (λ key. key ≡ key_of word.now) }
+    ensures key { IfOk result (λ key. key ≡ key_of word.now) }
+
+    // Memory can be wanting only for a key.
+    ensures memory { OnErr result (is_some (key_of word.now) ≡ true) }
 {
     let [mark, b':', name @ ..] = word else {
         return Ok(None);

@@ -1,5 +1,5 @@
 //! What a line of a script asks for.
-ghost use Rattle.std.specs.Prelude.{◌≡◌, IfOk};
+ghost use Rattle.std.specs.Prelude.{◌≡◌, true, is_some, IfOk, OnErr};
 ghost use Rattle.script_text.specs.Scripts.{asked_of, came_from, came_with, fired_from, joined_from, kind_of, step_from, told_from};
 ghost use Rattle.text_parts.specs.Pieces.{words_left};
 
@@ -37,7 +37,8 @@ fn came_with(line: Option<u32>, piece: Option<Octets>) -> Option<Step>
 
 /// Octets that come on a line.
 fn came_from(alloc: Global, words: &mut Words<'_>) -> Result<Option<Step>, AllocError>
-    ensures { IfOk result (λ step. step ≡ came_from (words_left words.old)) }
+    ensures step { IfOk result (λ step. step ≡ came_from (words_left words.old)) }
+    ensures memory { OnErr result (is_some (came_from (words_left words.old)) ≡ true) }
 {
     let Some(line) = words.next() else {
         return Ok(None);
@@ -47,10 +48,10 @@ fn came_from(alloc: Global, words: &mut Words<'_>) -> Result<Option<Step>, Alloc
         return Ok(came_with(short_of(line.octets), Some(nothing)));
     };
     match words.next() {
-        None => {
-            let piece = piece_of(alloc, piece.octets)?;
-            Ok(came_with(short_of(line.octets), piece))
-        }
+        None => match short_of(line.octets) {
+            Some(line) => Ok(came_with(Some(line), piece_of(alloc, piece.octets)?)),
+            None => Ok(None),
+        },
         Some(_) => Ok(None),
     }
 }
@@ -67,40 +68,49 @@ fn kind_of(book: &LawBook, name: &[u8]) -> u8
 }
 
 /// What a desk tells.
+#[tactic(auto, using(crate::proofs::LineLemmas::lines))]
 fn told_from(
     alloc: Global,
     book: &LawBook,
     words: &mut Words<'_>,
 ) -> Result<Option<Step>, AllocError>
-    ensures { IfOk result (λ step. step ≡ told_from book.now (words_left words.old)) }
+    ensures step { IfOk result (λ step. step ≡ told_from book.now (words_left words.old)) }
+    ensures memory { OnErr result (is_some (told_from book.now (words_left words.old)) ≡ true) }
 {
     let (Some(desk), Some(key), Some(kind)) = (words.next(), words.next(), words.next()) else {
         return Ok(None);
     };
     let kind = kind_of(book, kind.octets);
-    match (
-        short_of(desk.octets),
-        read_key(alloc, key.octets)?,
-        facts_of(words),
-    ) {
-        (Some(desk), Some(key), Some(facts)) => {
+    let Some(desk) = short_of(desk.octets) else {
+        return Ok(None);
+    };
+    let Some(facts) = facts_of(words) else {
+        return Ok(None);
+    };
+    match read_key(alloc, key.octets)? {
+        Some(key) => {
             let event = Event { kind, facts };
             Ok(Some(Step::Told { desk, key, event }))
         }
-        _ => Ok(None),
+        None => Ok(None),
     }
 }
 
 /// A timer that fires.
+#[tactic(auto, using(crate::proofs::LineLemmas::lines))]
 fn fired_from(alloc: Global, words: &mut Words<'_>) -> Result<Option<Asked>, AllocError>
-    ensures { IfOk result (λ asked. asked ≡ fired_from (words_left words.old)) }
+    ensures asked { IfOk result (λ asked. asked ≡ fired_from (words_left words.old)) }
+    ensures memory { OnErr result (is_some (fired_from (words_left words.old)) ≡ true) }
 {
     let (Some(key), Some(generation), None) = (words.next(), words.next(), words.next()) else {
         return Ok(None);
     };
-    match (read_key(alloc, key.octets)?, number_of(generation.octets)) {
-        (Some(key), Some(generation)) => Ok(Some(Asked::Fired { key, generation })),
-        _ => Ok(None),
+    let Some(generation) = number_of(generation.octets) else {
+        return Ok(None);
+    };
+    match read_key(alloc, key.octets)? {
+        Some(key) => Ok(Some(Asked::Fired { key, generation })),
+        None => Ok(None),
     }
 }
 
@@ -112,7 +122,8 @@ fn step_from(
     verb: &[u8],
     words: &mut Words<'_>,
 ) -> Result<Option<Step>, AllocError>
-    ensures { IfOk result (λ step. step ≡ step_from book.now verb.now (words_left words.old)) }
+    ensures step { IfOk result (λ step. step ≡ step_from book.now verb.now (words_left words.old)) }
+    ensures memory { OnErr result (is_some (step_from book.now verb.now (words_left words.old)) ≡ true) }
 {
     if verb == b"join".as_slice() {
         Ok(joined_from(words))
@@ -138,7 +149,10 @@ fn step_from(
 /// What a line asks for. None where it has another form.
 #[tactic(auto, unfolding(crate::specs::Scripts::asked_of))]
 pub fn read_line(alloc: Global, book: &LawBook, line: &[u8]) -> Result<Option<Asked>, AllocError>
-    ensures { IfOk result (λ asked. asked ≡ asked_of book.now line.now) }
+    ensures asked { IfOk result (λ asked. asked ≡ asked_of book.now line.now) }
+
+    // Memory can be wanting only for what a line asks for.
+    ensures memory { OnErr result (is_some (asked_of book.now line.now) ≡ true) }
 {
     let mut words = Words::new(line);
     let Some(verb) = words.next() else {

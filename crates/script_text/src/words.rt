@@ -1,8 +1,9 @@
 //! The parts of a script's lines: numbers, octets, sources.
-ghost use Rattle.std.specs.Prelude.{◌≡◌, IfOk};
-ghost use Rattle.script_text.specs.Scripts.{only_short, piece_of, short_of, source_from, source_with};
+ghost use Rattle.std.specs.Prelude.{◌≡◌, true, is_some, IfOk, OnErr};
+ghost use Rattle.script_text.specs.Scripts.{is_pairs, only_short, piece_of, short_of, source_from, source_with};
 ghost use Rattle.text_parts.specs.Pieces.{words_left};
 
+use crate::keys::octet_of;
 use base_list::Octets;
 use bench_item::Source;
 use bench_text::number_of;
@@ -34,11 +35,28 @@ pub(crate) fn only_short(words: &mut Words<'_>) -> Option<u32>
     }
 }
 
-/// The octets of hexadecimal digits. None where they are no pairs of digits.
-#[tactic(auto, unfolding(crate::specs::Scripts::piece_of))]
-pub(crate) fn piece_of(alloc: Global, word: &[u8]) -> Result<Option<Octets>, AllocError>
-    ensures { IfOk result (λ piece. piece ≡ piece_of word.now) }
+/// Whether a word is pairs of hexadecimal digits. Takes no memory.
+fn is_pairs(word: &[u8]) -> bool
+    ensures { result ≡ is_pairs word.now }
 {
+    let mut left = word;
+    'pairs: while let [high, low, behind @ ..] = left {
+        if octet_of(*high, *low).is_none() {
+            return false;
+        }
+        left = behind;
+    }
+    left.is_empty()
+}
+
+/// The octets of hexadecimal digits. None where they are no pairs of digits.
+pub(crate) fn piece_of(alloc: Global, word: &[u8]) -> Result<Option<Octets>, AllocError>
+    ensures piece { IfOk result (λ piece. piece ≡ piece_of word.now) }
+    ensures memory { OnErr result (is_some (piece_of word.now) ≡ true) }
+{
+    if !is_pairs(word) {
+        return Ok(None);
+    }
     match hex::decode(alloc, word) {
         Ok(octets) => Ok(Some(Octets::new(octets))),
         Err(FromHexError::OutOfMemory) => Err(AllocError),

@@ -1,8 +1,7 @@
 -- Lines with known values: a wrong definition doesn't pass these lines.
-use Rattle.std.specs.Prelude.{◌≡◌, ℕ, List, [], ◌∷◌, ◌++◌, replicate, codes, refl}
+use Rattle.std.specs.Prelude.{◌≡◌, [], ◌∷◌, replicate, codes, refl}
 use Rattle.std.specs.Fmt.{digits}
 use Rattle.hex.specs.Hex.{encode_with}
-use Rattle.bench_item.specs.declared.key.Key.{Key}
 use Rattle.bench_item.specs.declared.key.Role.TheVariants as role
 use Rattle.bench_item.specs.declared.source.Source.TheVariants as source
 use Rattle.bench_item.specs.declared.step.Step.TheVariants as step

@@ -1,11 +1,10 @@
-ghost use Rattle.std.specs.Prelude.{◌≡◌, ◌⊎◌, ◌++◌, ◌∷◌, [], None, OnOk, OnErr, IfErr};
+ghost use Rattle.std.specs.Prelude.{◌≡◌, ◌++◌, ◌∷◌, [], None, OnOk, OnErr, IfErr};
 ghost use Rattle.base_list.specs.Adding.{error_of};
-ghost use Rattle.base_list.specs.Named.{refusal};
-ghost use Rattle.base_list.specs.declared.error.AddError.TheVariants.{NoMemory};
+ghost use Rattle.base_list.specs.Named.{place_of, refusal};
 ghost use Rattle.step_text.specs.Names.{key_name};
 
-use crate::name::key_name;
-use base_list::{AddError, NamedList};
+use crate::name::{is_key_name, key_name};
+use base_list::{AddError, AddFault, Named, NamedList};
 use bench_item::{Key, MAX_MACHINES, MAX_SHARDS};
 use std::alloc::Global;
 use std::marker::Model;
@@ -41,6 +40,15 @@ impl Model for Machines {
     ghost invariant = { λ m. AreMachines m.numbers };
 }
 
+/// The place of a key. Takes no memory.
+fn place_of(numbers: &[Named<u64>], key: &Key) -> Option<usize>
+    ensures { result ≡ place_of (key_name key.now) numbers.now }
+{
+    numbers
+        .iter()
+        .position(|entry| is_key_name(entry.name.as_slice(), key))
+}
+
 impl Machines {
     ghost use Rattle.step_text.specs.Names.{AreMachines};
 
@@ -65,9 +73,15 @@ impl Machines {
     pub fn add(&mut self, key: &Key, number: u64) -> Result<(), AddError>
         ensures ok { OnOk result (self.new ≡ self.old ++ record { name = key_name key.now; value = number } ∷ []) }
         ensures free { OnOk result (refusal MAX_NUMBERED (key_name key.now) self.old ≡ None) }
-        ensures fault { IfErr result (λ e. (e ≡ NoMemory) ⊎ (e ≡ error_of (refusal MAX_NUMBERED (key_name key.now) self.old))) }
+        ensures fault { IfErr result (λ e. e ≡ error_of (refusal MAX_NUMBERED (key_name key.now) self.old)) }
         ensures err { OnErr result (self.new ≡ self.old) }
     {
+        if place_of(self.numbers.as_slice(), key).is_some() {
+            return Err(AddError::Fault(AddFault::Taken));
+        }
+        if MAX_NUMBERED <= self.numbers.len() {
+            return Err(AddError::Fault(AddFault::Full));
+        }
         let Ok(name) = key_name(self.alloc, key) else {
             return Err(AddError::NoMemory);
         };

@@ -1,6 +1,7 @@
 //! Names as words.
 
 ghost use Rattle.std.specs.Prelude.{◌≡◌, ◌++◌, IfOk, OnOk, codes};
+ghost use Rattle.std.specs.Str.{bytes_eq};
 ghost use Rattle.step_text.specs.Names.{is_plain, key_name, prefix_of, shown, shown_octet};
 
 use bench_item::{Key, Role};
@@ -44,6 +45,17 @@ pub(crate) fn prefix_of(role: Role) -> &'static [u8]
         Role::Client => b"c:",
         Role::Server => b"s:",
     }
+}
+
+/// Whether a name is that of a key. Takes no memory.
+pub(crate) fn is_key_name(name: &[u8], key: &Key) -> bool
+    ensures { result ≡ bytes_eq name.now (key_name key.now) }
+{
+    if name.len() < 2 {
+        return false;
+    }
+    let (front, rest) = name.split_at(2);
+    front == prefix_of(key.role) && rest == key.name.as_slice()
 }
 
 /// The name of a key.

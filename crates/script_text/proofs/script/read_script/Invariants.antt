@@ -1,13 +1,13 @@
-use Rattle.std.proofs.Common.{◌≡◌, ◌≤◌, ◌+◌, ◌++◌, length}
+use Rattle.std.proofs.Common.{◌≡◌, ◌≤◌, ◌+◌, ◌++◌, false, length}
 use Rattle.text_parts.specs.Lines.{numbered_from}
 use Rattle.text_parts.specs.Pieces.{pieces_left}
 use Rattle.script_text.specs.Scripts.{asked_in, bad_in, first_bad, script_of}
 use Rattle.script_text.proofs.script.read_script.Given as goal
 
--- what was asked so far and what the lines that are left ask make the whole, and no line before was bad
+-- unless memory ran out, what was asked so far and what the lines that are left ask make the whole; and no line before was bad
 abbrev pub invariant-loop-line : goal.invariant-loop-line
 invariant-loop-line l =
-    (l.asked.items ++ asked_in l.book (numbered_from (l.place + 1) (pieces_left l.lines)) ≡ script_of l.book l.text)
+    (l.short ≡ false → l.asked.items ++ asked_in l.book (numbered_from (l.place + 1) (pieces_left l.lines)) ≡ script_of l.book l.text)
     × (bad_in l.book (numbered_from (l.place + 1) (pieces_left l.lines)) ≡ first_bad l.book l.text)
     × (l.place ≤ l.lines.from)
 
