@@ -1,0 +1,4 @@
+pub mod Names
+pub mod View
+pub mod Settling
+pub mod Stands
