@@ -23,6 +23,15 @@ settled_states names states key state = by (place_of names (key_octets key))
     by (Some place) = set states place state
     by None = states ++ state ∷ []
 
+-- the same where the machine comes to stand somewhere; else all stays
+abbrev pub names_left : List (List ℕ) → Key → Option MachineState → List (List ℕ)
+names_left names key None = names
+names_left names key (Some state) = settled_names names key
+
+abbrev pub states_left : List (List ℕ) → List MachineState → Key → Option MachineState → List MachineState
+states_left names states key None = states
+states_left names states key (Some state) = settled_states names states key state
+
 -- the names and the states as they were before
 abbrev pub unsettled_names : Settled → List (List ℕ) → List (List ℕ)
 unsettled_names Untouched names = names

@@ -8,6 +8,8 @@
 //! | `open` | a shard is made |
 //! | `queues` | what comes, what is carried on, pauses |
 //! | `settle` | a machine comes, or stands elsewhere, and that is taken back |
+//! | `task` | what the shard is to do next, and why it does not work |
+//! | `work` | work is written, and taken back |
 #![tactic(auto)]
 
 mod fault;
@@ -16,7 +18,11 @@ mod open;
 mod queues;
 mod settle;
 mod state;
+mod task;
+mod work;
 
-pub use fault::PutError;
+pub use fault::{PutError, WorkFault};
 pub use settle::Settled;
 pub use state::ShardState;
+pub use task::{Fate, Task};
+pub use work::{ShardRecord, Work};

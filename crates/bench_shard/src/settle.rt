@@ -1,9 +1,9 @@
 //! A machine comes to a shard, or stands elsewhere; and that is taken back.
-ghost use Rattle.std.specs.Prelude.{◌≡◌, ◌<◌, ◌++◌, ◌∷◌, [], None, IfOk, OnOk, OnErr, length, set};
+ghost use Rattle.std.specs.Prelude.{◌≡◌, ◌<◌, ◌++◌, ◌∷◌, [], None, IsSome, IfOk, OnOk, OnErr, length, set};
 ghost use Rattle.sess_dir.specs.Names.{place_of};
 ghost use Rattle.sess_dir.specs.declared.directory.TheConstants.{MAX_NAMES};
 ghost use Rattle.bench_shard.specs.Names.{key_octets};
-ghost use Rattle.bench_shard.specs.Settling.{IsStood, settled_names, settled_states, unsettled_names, unsettled_states};
+ghost use Rattle.bench_shard.specs.Settling.{IsStood, names_left, settled_names, settled_states, states_left, unsettled_names, unsettled_states};
 
 use crate::name::key_octets;
 use bench_item::Key;
@@ -69,7 +69,7 @@ pub(crate) fn come(
 }
 
 /// The machine stands so, in its place or behind the others.
-pub(crate) fn settle(
+fn settle(
     alloc: Global,
     names: &mut Directory,
     states: &mut Vec<KeptState>,
@@ -93,6 +93,29 @@ pub(crate) fn settle(
             come(names, states, &octets, kept)?;
             Ok(Settled::Came)
         }
+    }
+}
+
+/// The machine stands so, in its place or behind the others; or all stays.
+pub(crate) fn settle_left(
+    alloc: Global,
+    names: &mut Directory,
+    states: &mut Vec<KeptState>,
+    key: &Key,
+    left: &Option<MachineState>,
+) -> Result<Settled, AllocError>
+    requires each { length states.old.items ≡ length names.old }
+    requires room { IsSome left.now → place_of names.old (key_octets key.now) ≡ None → length names.old < MAX_NAMES }
+    ensures names { OnOk result (names.new ≡ names_left names.old key.now left.now) }
+    ensures states { OnOk result (states.new.items ≡ states_left names.old states.old.items key.now left.now) }
+    ensures undone { IfOk result (λ settled. (unsettled_names settled names.new ≡ names.old)
+        × (unsettled_states settled states.new.items ≡ states.old.items)) }
+    ensures each { length states.new.items ≡ length names.new }
+    ensures err { OnErr result ((names.new ≡ names.old) × (states.new.items ≡ states.old.items)) }
+{
+    match left {
+        None => Ok(Settled::Untouched),
+        Some(state) => settle(alloc, names, states, key, state),
     }
 }
 

@@ -1,5 +1,5 @@
 //! A shard without its tables and callbacks.
-ghost use Rattle.std.specs.Prelude.{◌≡◌, ◌≤◌, ◌<◌, IfOk, OnOk, length, option_map, slice_get};
+ghost use Rattle.std.specs.Prelude.{◌≡◌, ◌≤◌, ◌<◌, IfOk, IfSome, OnOk, length, option_map, slice_get};
 ghost use Rattle.bench_item.specs.declared.limit.TheConstants.{MAX_MACHINES, MAX_SHARDS};
 ghost use Rattle.bench_queue.specs.Inbox.{items_in};
 ghost use Rattle.bench_queue.specs.Outbox.{items_out};
@@ -77,7 +77,8 @@ impl ShardState {
 
     /// The place of a machine, if it is there.
     pub fn find(&self, alloc: Global, key: &Key) -> Result<Option<usize>, AllocError>
-        ensures { IfOk result (λ place. place ≡ place_in self.now key.now) }
+        ensures place { IfOk result (λ place. place ≡ place_in self.now key.now) }
+        ensures within { IfOk result (λ place. IfSome place (λ place. place < length self.now.names)) }
     {
         let octets = key_octets(alloc, key)?;
         Ok(self.names.find(&octets))
