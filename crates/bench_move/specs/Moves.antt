@@ -16,14 +16,18 @@ use Rattle.bench_spec.specs.Items.{doer_of}
 use Rattle.bench_move.specs.Tables.{Tables, table_of}
 use Rattle.bench_move.specs.declared.deciding.Decided.{Decided}
 
--- a move of the machine of that number, which stands there, at an item: at the item's event with the book's quote, by the first row of
--- the table that takes it, with registers and deeds that the row's actions may leave, and with the outcomes that the book allows
+-- a move is a step by a table: by the first row that takes the event, with registers and deeds that the row's actions may leave
+pub record HasStep (laws : Laws) (table : Contents) (moved : Moved) : Type 0 where
+  pub row : moved.row ≡ option_map (λ numbered. numbered.0) (row_taken table laws moved.before moved.event)
+  pub moves : MovesBy (NamedPermits laws) table moved.before moved.event (row_taken table laws moved.before moved.event) moved.after moved.chain moved.deeds
+
+-- a move of the machine of that number, which stands there, at an item: a step at the item's event with the book's quote, with the
+-- outcomes that the book allows
 pub record IsMoveOf (laws : Laws) (table : Contents) (book : Book) (number : ℕ) (before : MachineState) (item : MachineItem) (moved : Moved) : Type 0 where
   pub machine : moved.machine ≡ number
   pub before_is : moved.before ≡ before
   pub event : moved.event ≡ event_with_quote book (want_of laws item before) item.event
-  pub row : moved.row ≡ option_map (λ numbered. numbered.0) (row_taken table laws moved.before moved.event)
-  pub moves : MovesBy (NamedPermits laws) table moved.before moved.event (row_taken table laws moved.before moved.event) moved.after moved.chain moved.deeds
+  pub step : HasStep laws table moved
   pub outcomes : moved.outcomes ≡ outcomes_for book (want_of laws item before) moved.deeds
 
 -- what the deeds of a move that an item led to post

@@ -5,6 +5,7 @@
 //! | `book` | a copy of a book of laws |
 //! | `booking` | the operations of deeds, and the outcomes that the account book allows |
 //! | `deciding` | one move, by the callbacks |
+//! | `judging` | whether a given move is one |
 //! | `kinds` | which kinds of a book are a server's |
 //! | `posting` | what deeds post |
 //! | `quoting` | the event with the book's quote |
@@ -15,6 +16,7 @@
 mod book;
 mod booking;
 mod deciding;
+mod judging;
 mod kinds;
 mod posting;
 mod quoting;
