@@ -1,5 +1,5 @@
 -- A move by a table's row has a place for each of the row's actions, and four deeds at most for each.
-use Rattle.std.proofs.Common.{◌≡◌, ℕ, ◌+◌, ◌*◌, ◌≤◌, Bool, true, false, List, [], ◌∷◌, ◌++◌, Option, Some, None, length, map, filter, take, min, refl, sym, ap, ◌∙◌, suc, arith, length-append, subst}
+use Rattle.std.proofs.Common.{◌≡◌, ℕ, ◌+◌, ◌*◌, ◌≤◌, Bool, true, false, List, [], ◌∷◌, Option, Some, None, length, map, filter, take, refl, arith, length-append, subst}
 use Rattle.std.specs.Prelude.{All, IsSomeAnd}
 use Rattle.std.specs.List.{slice_get, enumerate_from, filter_map, cons_option}
 use Rattle.std.proofs.lemmas.List.{length-take, length-map}

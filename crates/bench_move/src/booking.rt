@@ -5,11 +5,13 @@ ghost use Rattle.acct_book.specs.Book.{after, with_book};
 ghost use Rattle.acct_totals.specs.declared.op.Outcome.TheVariants.{Refused};
 ghost use Rattle.server_book.specs.Deeds.{op_of};
 ghost use Rattle.bench_spec.specs.Booked.{is_booking, ops_of, outcomes_for, outcomes_of};
-ghost use Rattle.bench_move.specs.Moves.{without_last};
+ghost use Rattle.bench_move.specs.Moves.{ops_for, without_last};
 
+use crate::roles::Roles;
 use acct_book::Page;
 use acct_totals::{Op, Outcome};
 use base_codes::DeedCode;
+use bench_item::{MachineItem, Moved, Series};
 use server_book::op_of;
 use server_wants::Want;
 use std::alloc::{AllocError, Global};
@@ -40,6 +42,22 @@ pub(crate) fn ops_of(
         add_ops(&mut ops, want, deeds)?;
     }
     Ok(ops)
+}
+
+impl Roles {
+    /// The operations of the account book that the deeds of a move ask for that an item led to, in order.
+    pub fn ops_for(
+        &self,
+        alloc: Global,
+        item: &MachineItem,
+        moved: &Moved,
+    ) -> Result<Series<Op>, AllocError>
+        ensures { IfOk result (λ ops. ops ≡ ops_for self.now.laws item.now moved.now) }
+    {
+        let want = self.want(item, &moved.before);
+        let ops = ops_of(alloc, &want, moved.deeds.as_slice())?;
+        Ok(Series::new(ops))
+    }
 }
 
 /// Whether a deed is one of the book.

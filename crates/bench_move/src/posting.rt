@@ -3,8 +3,10 @@
 ghost use Rattle.std.specs.Prelude.{◌≡◌, flat_map, IfOk};
 ghost use Rattle.bench_item.specs.Posts.{posts_of};
 ghost use Rattle.bench_post.specs.Nodes.{doer_of, node_of};
+ghost use Rattle.bench_move.specs.Moves.{posts_for};
 
-use bench_item::{Item, MachineItem};
+use crate::roles::Roles;
+use bench_item::{Item, MachineItem, Moved, Series};
 use bench_post::{Peers, posts_of};
 use std::alloc::{AllocError, Global};
 use tab_law::{Deed, LawBook};
@@ -27,4 +29,21 @@ pub(crate) fn posts_of_all(
         }
     }
     Ok(posts)
+}
+
+impl Roles {
+    /// What the deeds of a move post that an item led to, in order.
+    pub fn posts_for(
+        &self,
+        alloc: Global,
+        peers: &Peers,
+        item: &MachineItem,
+        moved: &Moved,
+    ) -> Result<Series<Item>, AllocError>
+        ensures { IfOk result (λ posts. posts ≡ posts_for self.now.laws peers.now item.now moved.now) }
+    {
+        let deeds = moved.deeds.as_slice();
+        let posts = posts_of_all(alloc, self.laws(), peers, moved.machine, item, deeds)?;
+        Ok(Series::new(posts))
+    }
 }

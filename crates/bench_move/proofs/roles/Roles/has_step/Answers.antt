@@ -1,4 +1,3 @@
-use Rattle.std.proofs.Common.{rules, ◌≡◌, true, false}
 use Rattle.bench_move.proofs.FitLemmas.{step-fits}
 use Rattle.bench_move.proofs.roles.Roles.has_step.Goals as goal
 
