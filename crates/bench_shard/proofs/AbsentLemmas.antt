@@ -25,19 +25,19 @@ Misses p (x ∷ xs) = (p x ≡ false) × Misses p xs
 -- where no element is the first that passes
 misses-end : {X : Type 0} (p : X → Bool) (xs : List X) → position_or_len p xs ≡ length xs → Misses p xs
 misses-end p [] e = tt
-misses-end {X = X} p (x ∷ xs) e = by (p x) refl e
+misses-end {X = X} p (x ∷ xs) e = by (p x) refl e (λ n. misses-end p xs n)
   where
-    by : (b : Bool) → p x ≡ b → cond (not b) (1 + position_or_len p xs) 0 ≡ suc (length xs) → Misses p (x ∷ xs)
-    by true h n = absurd (omega (arith, n))
-    by false h n = (h, misses-end p xs (omega (arith, n)))
+    by : (b : Bool) → p x ≡ b → cond (not b) (1 + position_or_len p xs) 0 ≡ suc (length xs) → (position_or_len p xs ≡ length xs → Misses p xs) → Misses p (x ∷ xs)
+    by true h n again = absurd (omega (arith, n))
+    by false h n again = (h, again (omega (arith, n)))
 
 pub first-within : {X : Type 0} (p : X → Bool) (xs : List X) → position_or_len p xs ≤ length xs
 first-within p [] = omega arith
-first-within {X = X} p (x ∷ xs) = by (p x)
+first-within {X = X} p (x ∷ xs) = by (p x) (first-within p xs)
   where
-    by : (b : Bool) → cond (not b) (1 + position_or_len p xs) 0 ≤ suc (length xs)
-    by true = omega arith
-    by false = omega (arith, first-within p xs)
+    by : (b : Bool) → position_or_len p xs ≤ length xs → cond (not b) (1 + position_or_len p xs) 0 ≤ suc (length xs)
+    by true again = omega arith
+    by false again = omega (arith, again)
 
 -- the first place that passes, or that behind all, is the place
 pub first-or_len : {X : Type 0} (p : X → Bool) (xs : List X) → unwrap_or (position p xs) (length xs) ≡ position_or_len p xs
@@ -61,49 +61,49 @@ misses-right p (x ∷ xs) ys m = misses-right p xs ys m.1
 -- keys of which each stands once, where it stands first
 misses-unfiltered : (key x : Key) (ys : List Key) → is_same_key x key ≡ false → Misses (λ k. is_same_key k key) (filter (λ y. not (is_same_key x y)) ys) → Misses (λ k. is_same_key k key) ys
 misses-unfiltered key x [] h m = tt
-misses-unfiltered key x (y ∷ ys) h m = by (is_same_key x y) refl m
+misses-unfiltered key x (y ∷ ys) h m = by (is_same_key x y) refl m (misses-unfiltered key x ys h)
   where
-    by : (b : Bool) → is_same_key x y ≡ b → Misses (λ k. is_same_key k key) (cond (not b) (y ∷ filter (λ z. not (is_same_key x z)) ys) (filter (λ z. not (is_same_key x z)) ys)) → Misses (λ k. is_same_key k key) (y ∷ ys)
-    by true e n = (subst (λ (k : Key). is_same_key k key ≡ false) (same-key x y e) h, misses-unfiltered key x ys h n)
-    by false e n = (n.0, misses-unfiltered key x ys h n.1)
+    by : (b : Bool) → is_same_key x y ≡ b → Misses (λ k. is_same_key k key) (cond (not b) (y ∷ filter (λ z. not (is_same_key x z)) ys) (filter (λ z. not (is_same_key x z)) ys))
+        → (Misses (λ k. is_same_key k key) (filter (λ z. not (is_same_key x z)) ys) → Misses (λ k. is_same_key k key) ys) → Misses (λ k. is_same_key k key) (y ∷ ys)
+    by true e n again = (subst (λ (k : Key). is_same_key k key ≡ false) (same-key x y e) h, again n)
+    by false e n again = (n.0, again n.1)
 
 misses-distinct : (key : Key) (xs : List Key) → Misses (λ k. is_same_key k key) (distinct is_same_key xs) → Misses (λ k. is_same_key k key) xs
 misses-distinct key [] m = tt
 misses-distinct key (x ∷ xs) m = (m.0, misses-distinct key xs (misses-unfiltered key x (distinct is_same_key xs) m.0 m.1))
 
--- items that are none of the machine's
-flat-none : (key : Key) (xs : List MachineItem) → flat_map (λ item. if is_same_key key item.key then ([] : List Moved) else []) xs ≡ []
-flat-none key [] = refl
-flat-none key (x ∷ xs) = by (is_same_key key x.key)
+-- items that led to no moves
+flat-none : (key : Key) (moves : List Moved) → moves ≡ [] → (xs : List MachineItem) → flat_map (λ item. if is_same_key key item.key then moves else []) xs ≡ []
+flat-none key moves e [] = refl
+flat-none key moves e (x ∷ xs) = by (is_same_key key x.key) (flat-none key moves e xs)
   where
-    by : (b : Bool) → (if b then ([] : List Moved) else []) ++ flat_map (λ item. if is_same_key key item.key then ([] : List Moved) else []) xs ≡ []
-    by true = flat-none key xs
-    by false = flat-none key xs
+    by : (b : Bool) → flat_map (λ item. if is_same_key key item.key then moves else []) xs ≡ [] → (if b then moves else []) ++ flat_map (λ item. if is_same_key key item.key then moves else []) xs ≡ []
+    by true again = ap (λ (ms : List Moved). ms ++ flat_map (λ item. if is_same_key key item.key then moves else []) xs) e ∙ again
+    by false again = again
 
 items-none : (node : Node) (shard : ℕ) (key : Key) (moves : List Moved) (xs : List MachineItem) → home node.shards key.name ≡ shard
     → Misses (λ k. is_same_key k key) (map (λ item. item.key) (filter (is_for node shard) xs)) → flat_map (λ item. if is_same_key key item.key then moves else []) xs ≡ []
 items-none node shard key moves [] here m = refl
-items-none node shard key moves (x ∷ xs) here m = by (is_same_key key x.key) refl (is_for node shard x) refl m
+items-none node shard key moves (x ∷ xs) here m = by (is_same_key key x.key) refl (is_for node shard x) refl m (items-none node shard key moves xs here)
   where
-    rest : List Moved
-    rest = flat_map (λ item. if is_same_key key item.key then moves else []) xs
     by : (b : Bool) → is_same_key key x.key ≡ b → (t : Bool) → is_for node shard x ≡ t
         → Misses (λ k. is_same_key k key) (map (λ item. item.key) (cond t (x ∷ filter (is_for node shard) xs) (filter (is_for node shard) xs)))
+        → (Misses (λ k. is_same_key k key) (map (λ item. item.key) (filter (is_for node shard) xs)) → flat_map (λ item. if is_same_key key item.key then moves else []) xs ≡ [])
         → (if b then moves else []) ++ flat_map (λ item. if is_same_key key item.key then moves else []) xs ≡ []
-    by true same true own n =
+    by true same true own n again =
         let wrong : is_same_key x.key key ≡ true = subst (λ (k : Key). is_same_key k key ≡ true) (same-key key x.key same) (key-itself key) in
         absurd (true≢false (sym wrong ∙ n.0))
-    by true same false own n =
+    by true same false own n again =
         let is : (home node.shards x.key.name == shard) ≡ true = eq-eqb _ _ (ap (λ (k : Key). home node.shards k.name) (sym (same-key key x.key same)) ∙ here) in
         absurd (true≢false (sym is ∙ own))
-    by false same true own n = items-none node shard key moves xs here n.1
-    by false same false own n = items-none node shard key moves xs here n
+    by false same true own n again = again n.1
+    by false same false own n again = again n
 
 entry-none : (node : Node) (shard : ℕ) (key : Key) (step : Step) (item : Option Item) (handled : Option Handled) → home node.shards key.name ≡ shard
     → Misses (λ k. is_same_key k key) (keys_in node shard (record { step = step; item = item; handled = handled })) → moves_in key (record { step = step; item = item; handled = handled }) ≡ []
-entry-none node shard key step item None here m = flat-none key (flat_map machine_item (option_to_list item))
-entry-none node shard key step item (Some TooBusy) here m = flat-none key (flat_map machine_item (option_to_list item))
-entry-none node shard key step item (Some (Stale state)) here m = flat-none key (flat_map machine_item (option_to_list item))
+entry-none node shard key step item None here m = flat-none key [] refl (flat_map machine_item (option_to_list item))
+entry-none node shard key step item (Some TooBusy) here m = flat-none key [] refl (flat_map machine_item (option_to_list item))
+entry-none node shard key step item (Some (Stale state)) here m = flat-none key [] refl (flat_map machine_item (option_to_list item))
 entry-none node shard key step item (Some (Move moved)) here m = items-none node shard key (moved ∷ []) (flat_map machine_item (option_to_list item)) here m
 
 log-none : (node : Node) (shard : ℕ) (key : Key) (log : List Entry) → home node.shards key.name ≡ shard
