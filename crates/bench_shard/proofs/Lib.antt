@@ -1,0 +1,7 @@
+pub mod OpenLemmas
+pub mod SettleLemmas
+pub mod KeyLemmas
+pub mod AbsentLemmas
+pub mod ViewLemmas
+pub mod LegalLemmas
+pub mod NewLemmas
