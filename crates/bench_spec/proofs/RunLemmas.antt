@@ -53,12 +53,12 @@ both_true false b h = absurd (false≢true h)
 same_fields : (r s : Role) (n m : List ℕ) → r ≡ s → n ≡ m → key_of r n ≡ key_of s m
 same_fields r s n m e f = rw (e, f) refl
 
-key_sound : (a b : Key) → is_same_key a b ≡ true → a ≡ b
+pub key_sound : (a b : Key) → is_same_key a b ≡ true → a ≡ b
 key_sound a b h =
     let parts = both_true (is_same_role a.role b.role) (bytes_eq a.name b.name) h in
     same_fields a.role b.role a.name b.name (role_sound a.role b.role parts.0) ((bytes_eq-Decides a.name b.name).0 parts.1)
 
-key_itself : (a : Key) → is_same_key a a ≡ true
+pub key_itself : (a : Key) → is_same_key a a ≡ true
 key_itself a = rw (role_itself a.role, (bytes_eq-Decides a.name a.name).1 refl) refl
 
 itself : (n : ℕ) → (n == n) ≡ true
@@ -89,7 +89,7 @@ run_append : (settings : Settings) (table : Contents) (s : MachineState) (xs ys 
 run_append settings table s [] ys h k = k
 run_append settings table s (x ∷ xs) ys h k = (h.0, h.1, run_append settings table x.after xs ys h.2 k)
 
-after_append : (s : MachineState) (xs ys : List Moved) → state_after s (xs ++ ys) ≡ state_after (state_after s xs) ys
+pub after_append : (s : MachineState) (xs ys : List Moved) → state_after s (xs ++ ys) ≡ state_after (state_after s xs) ys
 after_append s [] ys = refl
 after_append s (x ∷ xs) ys = after_append x.after xs ys
 
