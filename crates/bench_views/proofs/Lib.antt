@@ -1,3 +1,4 @@
 pub mod Distinct
 pub mod Directories
 pub mod Standing
+pub mod Order
