@@ -2,3 +2,4 @@ pub mod Distinct
 pub mod Directories
 pub mod Standing
 pub mod Order
+pub mod Handled
