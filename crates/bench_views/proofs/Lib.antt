@@ -3,3 +3,4 @@ pub mod Directories
 pub mod Standing
 pub mod Order
 pub mod Handled
+pub mod Keys
