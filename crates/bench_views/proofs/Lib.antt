@@ -1,3 +1,6 @@
 pub mod Distinct
 pub mod Directories
 pub mod Standing
+pub mod LinePasts
+pub mod LineStands
+pub mod LinePosts
