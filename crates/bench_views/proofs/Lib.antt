@@ -4,3 +4,4 @@ pub mod Standing
 pub mod LinePasts
 pub mod LineStands
 pub mod LinePosts
+pub mod Timers

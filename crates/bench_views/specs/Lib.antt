@@ -1,1 +1,2 @@
 pub mod LinePasts
+pub mod Timers
