@@ -4,3 +4,7 @@ pub mod Standing
 pub mod Order
 pub mod Handled
 pub mod Keys
+pub mod LinePasts
+pub mod LineStands
+pub mod LinePosts
+pub mod Timers

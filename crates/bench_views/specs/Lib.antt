@@ -1,1 +1,3 @@
 pub mod Shards
+pub mod LinePasts
+pub mod Timers
