@@ -4,7 +4,6 @@ pub mod Standing
 pub mod Order
 pub mod Handled
 pub mod Keys
+pub mod Each
 pub mod LinePasts
-pub mod LineStands
-pub mod LinePosts
 pub mod Timers
