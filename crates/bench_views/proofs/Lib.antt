@@ -5,5 +5,6 @@ pub mod Order
 pub mod Handled
 pub mod Keys
 pub mod Each
+pub mod Carrying
 pub mod LinePasts
 pub mod Timers

@@ -21,6 +21,7 @@ use Rattle.bench_spec.specs.Machines.{is_for, is_work, machine_item}
 use Rattle.bench_spec.specs.Settings.{Settings}
 use Rattle.bench_spec.proofs.AfterLemmas.{flat_map-snoc}
 use Rattle.bench_spec.proofs.BookLemmas.{entry_of}
+use Rattle.bench_views.specs.Carried.{arrives, drops, lifts, works}
 
 -- fronts of longer lists
 pub front-itself : {X : Type 0} (xs : List X) → IsFront xs xs
@@ -73,19 +74,7 @@ carried-drop ps ps' ls ds item h more held = rw (append-nil ls) (record {
   one_between = omega (arith, h.one_between, length-append ds (item ∷ []));
 })
 
--- what an entry lifts from a source, drops from it, drops into a shard, and handles there
-abbrev pub lifts : Source → Entry → List Item
-lifts source e = if is_lift source e.step then option_to_list e.item else []
-
-abbrev pub drops : Source → Entry → List Item
-drops source e = if is_drop_from source e.step then option_to_list e.item else []
-
-abbrev pub arrives : Node → ℕ → Entry → List MachineItem
-arrives node shard e = if is_drop e.step then filter (is_for node shard) (flat_map machine_item (option_to_list e.item)) else []
-
-abbrev pub works : ℕ → Entry → List MachineItem
-works shard e = if is_work shard e.step then flat_map machine_item (option_to_list e.item) else []
-
+-- what each source and each shard has behind one more entry
 pub lifted-snoc : (log : List Entry) (e : Entry) (source : Source) → lifted (log ++ e ∷ []) source ≡ lifted log source ++ lifts source e
 lifted-snoc log e source = flat_map-snoc (lifts source) log e
 

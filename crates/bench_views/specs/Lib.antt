@@ -1,3 +1,4 @@
 pub mod Shards
+pub mod Carried
 pub mod LinePasts
 pub mod Timers
