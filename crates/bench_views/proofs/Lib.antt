@@ -5,3 +5,5 @@ pub mod LinePasts
 pub mod LineStands
 pub mod LinePosts
 pub mod Timers
+pub mod Pages
+pub mod PageSteps

@@ -1,2 +1,3 @@
 pub mod LinePasts
 pub mod Timers
+pub mod Pages
