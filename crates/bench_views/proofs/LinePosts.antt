@@ -33,11 +33,11 @@ use Rattle.bench_line.proofs.ReceiveLemmas.{alive-fault, alive_open, more_posts,
 use Rattle.bench_line.proofs.TurnLemmas.{turns_by-append}
 use Rattle.bench_spec.specs.Items.{IsFront}
 use Rattle.bench_spec.specs.Lines as lines
-use Rattle.bench_spec.specs.Lines.{line_posts, line_state, line_step, line_steps, opened_in, opening_of, since_opening}
+use Rattle.bench_spec.specs.Lines.{line_step, line_steps, opened_in, opening_of, since_opening}
 use Rattle.bench_spec.proofs.AfterLemmas.{flat_map-snoc}
 use Rattle.bench_spec.proofs.BookLemmas.{entry_of}
 use Rattle.bench_spec.proofs.LineLemmas.{line_steps-snoc}
-use Rattle.bench_views.specs.LinePasts.{EachMayCome, StandsAt, past_of, pasts_of}
+use Rattle.bench_views.specs.LinePasts.{EachMayCome, StandsAt, line_posts_by, line_state_by, past_of, pasts_of}
 use Rattle.bench_views.proofs.LinePasts.{not_zero}
 use Rattle.bench_views.proofs.LineStands.{stands_at}
 
@@ -183,22 +183,22 @@ is_there log line opening = by (line == 0) refl
         }
 
 posts_at : (m : Meaning) (log : List Entry) (line : ℕ) (opening : Opening) → opening_of log line ≡ Some opening
-    → line_posts (rules_of m) log line ≡ posts_of m line opening (line_steps log line)
+    → line_posts_by m log line ≡ posts_of m line opening (line_steps log line)
 posts_at m log line opening there = ap (λ o. option_map_or (λ x. posts_of m line x (line_steps log line)) o []) there
 
 -- With one more entry, which may come to each line, what each put out stays and goes on behind.
 pub line_posts-go_on : (m : Meaning) (ls : List LineView) (log : List Entry) (e : Entry) → StandFor m ls (pasts_of log)
     → EachMayCome m log e → (line : ℕ)
-    → IsFront (line_posts (rules_of m) log line) (line_posts (rules_of m) (log ++ e ∷ []) line)
+    → IsFront (line_posts_by m log line) (line_posts_by m (log ++ e ∷ []) line)
 line_posts-go_on m ls log e s comes line = by (line_at ls line) (opening_of log line) refl (stands_at m ls log line s)
   where
     by : (l : Option LineView) (o : Option Opening) → opening_of log line ≡ o
         → StandsAt m line l (option_map (λ x. past_of x (line_steps log line)) o)
-        → IsFront (line_posts (rules_of m) log line) (line_posts (rules_of m) (log ++ e ∷ []) line)
+        → IsFront (line_posts_by m log line) (line_posts_by m (log ++ e ∷ []) line)
     by l None is stands =
-        let none : line_posts (rules_of m) log line ≡ [] =
+        let none : line_posts_by m log line ≡ [] =
         ap (λ o. option_map_or (λ x. posts_of m line x (line_steps log line)) o []) is in
-        let all = line_posts (rules_of m) (log ++ e ∷ []) line in
+        let all = line_posts_by m (log ++ e ∷ []) line in
         (all, ap (λ items. items ++ all) none)
     by None (Some opening) is stands = elim stands [ ]
     by (Some l) (Some opening) is stands =
@@ -238,14 +238,14 @@ one_may_come m log e line step one comes n opening there =
 
 -- where a line stands that is there
 state_there : (m : Meaning) (log : List Entry) (line : ℕ) (opening : Opening) → opening_of log line ≡ Some opening
-    → line_state (rules_of m) log line ≡ Some (state_of (rules_of m line) opening (line_steps log line))
+    → line_state_by m log line ≡ Some (state_of (rules_of m line) opening (line_steps log line))
 state_there m log line opening there =
     ap (option_map (λ x. state_of (rules_of m line) x (line_steps log line))) there
 
 -- where octets come on a line that is open,
 pub may_come-came : (m : Meaning) (log : List Entry) (line : ℕ) (piece : List ℕ) (item : Option Item)
     (handled : Option Handled)
-    → line_state (rules_of m) log line ≡ Some at.Open → EachMayCome m log (entry_of (Came line piece) item handled)
+    → line_state_by m log line ≡ Some at.Open → EachMayCome m log (entry_of (Came line piece) item handled)
 may_come-came m log line piece item handled is_open =
     one_may_come m log (entry_of (Came line piece) item handled) line (Received piece) (λ n. refl)
     (λ opening there. same_Some (state_of (rules_of m line) opening (line_steps log line)) at.Open
@@ -253,7 +253,7 @@ may_come-came m log line piece item handled is_open =
 
 -- where one is acknowledged that is being dialled,
 pub may_come-dialled : (m : Meaning) (log : List Entry) (line peer : ℕ) (item : Option Item) (handled : Option Handled)
-    → line_state (rules_of m) log line ≡ Some (at.Dialling peer)
+    → line_state_by m log line ≡ Some (at.Dialling peer)
     → EachMayCome m log (entry_of (Dialled line) item handled)
 may_come-dialled m log line peer item handled dialling =
     one_may_come m log (entry_of (Dialled line) item handled) line Acknowledged (λ n. refl)
@@ -265,7 +265,7 @@ may_come-dialled m log line peer item handled dialling =
 
 -- where one is lost that is not closed,
 pub may_come-lost : (m : Meaning) (log : List Entry) (line : ℕ) (item : Option Item) (handled : Option Handled)
-    → (line_state (rules_of m) log line ≡ Some at.Closed → ⊥) → EachMayCome m log (entry_of (Lost line) item handled)
+    → (line_state_by m log line ≡ Some at.Closed → ⊥) → EachMayCome m log (entry_of (Lost line) item handled)
 may_come-lost m log line item handled unclosed =
     one_may_come m log (entry_of (Lost line) item handled) line Gone (λ n. refl)
     (λ opening there closed. unclosed (state_there m log line opening there ∙ ap Some closed))

@@ -9,8 +9,8 @@ use Rattle.bench_line.specs.Line.{LineView, Stands}
 use Rattle.bench_line.specs.Lines.{Past, StandFor, StandFrom, line_at, sent_on, state_on}
 use Rattle.bench_line.specs.Talk.{Meaning, posts_of, rules_of}
 use Rattle.bench_spec.specs.Lines as lines
-use Rattle.bench_spec.specs.Lines.{line_posts, line_state, line_step, line_steps, opened_in, opening_of, since_opening}
-use Rattle.bench_views.specs.LinePasts.{StandsAt, line_sent, outbox_on, past_in, past_of, pasts_by, pasts_of}
+use Rattle.bench_spec.specs.Lines.{line_step, line_steps, opened_in, opening_of, since_opening}
+use Rattle.bench_views.specs.LinePasts.{StandsAt, line_posts_by, line_sent_by, line_state_by, outbox_on, past_in, past_of, pasts_by, pasts_of}
 use Rattle.bench_views.proofs.LinePasts.{length-pasts_of, not_zero}
 
 -- lines that stand for a log: as many as were opened
@@ -72,7 +72,7 @@ state_by m line steps (Some l) None s = elim s [ ]
 state_by m line steps (Some l) (Some o) s = ap Some s.state
 
 pub state_on-stands : (m : Meaning) (ls : List LineView) (log : List Entry) (line : ℕ) → StandFor m ls (pasts_of log)
-    → state_on ls line ≡ line_state (rules_of m) log line
+    → state_on ls line ≡ line_state_by m log line
 state_on-stands m ls log line s =
     state_by m line (line_steps log line) (line_at ls line) (opening_of log line) (stands_at m ls log line s)
 
@@ -86,7 +86,7 @@ sent_by m line steps (Some l) None s = elim s [ ]
 sent_by m line steps (Some l) (Some o) s = s.sent
 
 pub sent_on-stands : (m : Meaning) (ls : List LineView) (log : List Entry) (line : ℕ) → StandFor m ls (pasts_of log)
-    → sent_on ls line ≡ line_sent m log line
+    → sent_on ls line ≡ line_sent_by m log line
 sent_on-stands m ls log line s =
     sent_by m line (line_steps log line) (line_at ls line) (opening_of log line) (stands_at m ls log line s)
 
@@ -100,6 +100,6 @@ put_out_by m line steps (Some l) None s = elim s [ ]
 put_out_by m line steps (Some l) (Some o) s = s.outbox
 
 pub outbox_on-stands : (m : Meaning) (ls : List LineView) (log : List Entry) (line : ℕ) → StandFor m ls (pasts_of log)
-    → outbox_on ls line ≡ line_posts (rules_of m) log line
+    → outbox_on ls line ≡ line_posts_by m log line
 outbox_on-stands m ls log line s =
     put_out_by m line (line_steps log line) (line_at ls line) (opening_of log line) (stands_at m ls log line s)
