@@ -8,3 +8,5 @@ pub mod Each
 pub mod Carrying
 pub mod LinePasts
 pub mod Timers
+pub mod Pages
+pub mod PageSteps

@@ -2,3 +2,4 @@ pub mod Shards
 pub mod Carried
 pub mod LinePasts
 pub mod Timers
+pub mod Pages

@@ -4,7 +4,8 @@ use Rattle.std.specs.Option.{option_map_or}
 use Rattle.bench_item.specs.declared.entry.Entry.{Entry}
 use Rattle.bench_item.specs.declared.item.Item.{Item}
 use Rattle.bench_item.specs.declared.opening.Opening.{Opening}
-use Rattle.bench_item.specs.Lines.{LineStep, sent_of}
+use Rattle.bench_item.specs.declared.line_state.LineState.{LineState}
+use Rattle.bench_item.specs.Lines.{LineStep, sent_of, state_of}
 use Rattle.bench_line.specs.Line.{EachCanCome, LineView, Stands}
 use Rattle.bench_line.specs.Lines.{Past, line_at}
 use Rattle.bench_line.specs.Talk.{Meaning, rules_of}
@@ -41,9 +42,17 @@ StandsAt m line l past = ⊥
 abbrev pub outbox_on : List LineView → ℕ → List Item
 outbox_on lines line = option_map_or (λ l. l.outbox) (line_at lines line) []
 
--- all that a line has sent, by what messages mean to it
-abbrev pub line_sent : Meaning → List Entry → ℕ → List ℕ
-line_sent m log line =
+-- where a line stands, if there is one of that number, what it has put out and what it has sent, by what messages mean to it
+abbrev pub line_state_by : Meaning → List Entry → ℕ → Option LineState
+line_state_by m log line =
+    option_map (λ opening. state_of (rules_of m line) opening (line_steps log line)) (opening_of log line)
+
+abbrev pub line_posts_by : Meaning → List Entry → ℕ → List Item
+line_posts_by m log line =
+    option_map_or (λ opening. (rules_of m line).posts opening (line_steps log line)) (opening_of log line) []
+
+abbrev pub line_sent_by : Meaning → List Entry → ℕ → List ℕ
+line_sent_by m log line =
     option_map_or (λ opening. sent_of (rules_of m line) m.octets_of opening (line_steps log line)) (opening_of log line) []
 
 -- to each line of the log the steps may come that one more entry is to it
