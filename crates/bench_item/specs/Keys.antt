@@ -25,6 +25,11 @@ key_of role name = record { role = role; name = name }
 abbrev pub home : ℕ → List ℕ → ℕ
 home shards name = sum name % shards
 
+-- the hosts of the configured peers in their order, and how many shards there are
+pub record Configured : Type 0 where
+  pub hosts : List (List ℕ)
+  pub shards : ℕ
+
 -- what the places of machines and the kinds of events depend on: the laws, the hosts of the configured peers in their order, and
 -- how many shards there are
 pub record Node : Type 0 where
@@ -32,9 +37,19 @@ pub record Node : Type 0 where
   pub peers : List (List ℕ)
   pub shards : ℕ
 
--- the peers whose machines are in a shard
+-- the node of these laws and these peers, and the peers of a node
+abbrev pub node_of : Laws → Configured → Node
+node_of laws configured = record { laws = laws; peers = configured.hosts; shards = configured.shards }
+
+abbrev pub peers_of : Node → Configured
+peers_of node = record { hosts = node.peers; shards = node.shards }
+
+-- the hosts whose machines are in a shard
+abbrev pub in_shard : ℕ → ℕ → List (List ℕ) → List (List ℕ)
+in_shard shards shard hosts = filter (λ host. home shards host == shard) hosts
+
 abbrev pub peers_in : Node → ℕ → List (List ℕ)
-peers_in node shard = filter (λ host. home node.shards host == shard) node.peers
+peers_in node shard = in_shard node.shards shard node.peers
 
 -- the number of the machine at a place of a shard's directory
 abbrev pub number_at : ℕ → ℕ → ℕ
@@ -47,6 +62,10 @@ shard_of number = number / MAX_MACHINES
 abbrev pub place_of : ℕ → ℕ
 place_of number = number % MAX_MACHINES
 
--- the peer whose machine has this number, if one has: a shard's peers come first in its directory
+-- the host of the peer whose machine has this number, if one has: a shard's peers come first in its directory
+abbrev pub numbered : Configured → ℕ → Option (List ℕ)
+numbered configured number =
+    slice_get (in_shard configured.shards (shard_of number) configured.hosts) (place_of number)
+
 abbrev pub peer_numbered : Node → ℕ → Option (List ℕ)
-peer_numbered node number = slice_get (peers_in node (shard_of number)) (place_of number)
+peer_numbered node number = numbered (peers_of node) number

@@ -5,3 +5,5 @@ pub mod Lines
 pub mod Posts
 pub mod Steps
 pub mod PostExamples
+pub mod Peers
+pub mod PeerExamples

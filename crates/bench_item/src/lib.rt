@@ -4,6 +4,8 @@
 //! |---|---|
 //! | `source` | who puts items out |
 //! | `key` | which machine: its role and its name |
+//! | `peers` | the configured peers, and the numbers of their machines |
+//! | `shard` | the shard where a machine has its place |
 //! | `item` | what is on its way, and where to |
 //! | `step` | the steps, and why one is refused |
 //! | `line_state` | where a connection stands |
@@ -19,7 +21,9 @@ mod key;
 mod limit;
 mod line_state;
 mod opening;
+mod peers;
 mod series;
+mod shard;
 mod source;
 mod step;
 
@@ -33,6 +37,8 @@ pub use limit::{
 };
 pub use line_state::LineState;
 pub use opening::Opening;
+pub use peers::{Peers, is_same_host};
 pub use series::Series;
+pub use shard::home;
 pub use source::Source;
 pub use step::{Step, StepFault};

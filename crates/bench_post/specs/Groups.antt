@@ -9,9 +9,9 @@ use Rattle.bench_item.specs.declared.item.Item.{Item}
 use Rattle.bench_item.specs.declared.item.Item.TheVariants.{Dial}
 use Rattle.bench_item.specs.declared.item.MachineItem.{MachineItem}
 use Rattle.bench_item.specs.declared.key.Role.TheVariants.{Client}
-use Rattle.bench_item.specs.Keys.{Node, key_of}
+use Rattle.bench_item.specs.Keys.{Configured, Node, key_of, numbered}
 use Rattle.bench_item.specs.Posts.{busy_facts, event_for, handed_on, has_session, is_message, no_facts, to_line, to_peer, to_session}
-use Rattle.bench_post.specs.Nodes.{Configured, doer_of, numbered}
+use Rattle.bench_post.specs.Nodes.{doer_of}
 
 -- a deed for a connection
 abbrev pub line_posts : MachineItem → Deed → List Item

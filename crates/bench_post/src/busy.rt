@@ -4,12 +4,11 @@ ghost use Rattle.std.specs.Prelude.{◌≡◌};
 ghost use Rattle.bench_item.specs.Posts.{busy_facts, busy_posts};
 ghost use Rattle.bench_post.specs.Groups.{answer_posts};
 ghost use Rattle.bench_post.specs.Made.{Makes};
-ghost use Rattle.bench_post.specs.Nodes.{node_of};
+ghost use Rattle.bench_item.specs.Keys.{node_of};
 
 use crate::message::to_peer;
-use crate::peers::Peers;
 use base_codes::session_fact;
-use bench_item::{Item, MachineItem, Role};
+use bench_item::{Item, MachineItem, Peers, Role};
 use std::alloc::{AllocError, Global};
 use tab_law::{LawBook, PLACES};
 

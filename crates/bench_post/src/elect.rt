@@ -2,12 +2,11 @@
 
 ghost use Rattle.bench_post.specs.Made.{Makes};
 ghost use Rattle.bench_post.specs.Groups.{elect_posts};
-ghost use Rattle.bench_post.specs.Nodes.{node_of};
+ghost use Rattle.bench_item.specs.Keys.{node_of};
 
 use crate::event::{carry, event_of};
-use crate::peers::Peers;
 use base_codes::peer_register;
-use bench_item::{Condition, Item, MachineItem};
+use bench_item::{Condition, Item, MachineItem, Peers};
 use std::alloc::{AllocError, Global};
 use tab_law::{Deed, LawBook, PLACES};
 

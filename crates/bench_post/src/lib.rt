@@ -2,8 +2,6 @@
 //!
 //! | File | What it has |
 //! |---|---|
-//! | `shard` | the shard where a machine has its place |
-//! | `peers` | the configured peers, and which of them has a number |
 //! | `event` | an event of a name, and the item that carries it to a machine |
 //! | `session` | the events of credit control for sessions |
 //! | `message` | messages to peers and to sessions |
@@ -20,14 +18,11 @@ mod elect;
 mod event;
 mod line;
 mod message;
-mod peers;
 mod post;
 mod session;
-mod shard;
 mod timer;
 mod unsent;
 
+pub use bench_item::{Peers, home};
 pub use busy::busy_posts;
-pub use peers::Peers;
 pub use post::posts_of;
-pub use shard::home;

@@ -2,12 +2,12 @@
 
 ghost use Rattle.bench_item.specs.Posts.{to_peer, to_session, has_session};
 ghost use Rattle.bench_post.specs.Made.{Makes};
-ghost use Rattle.bench_post.specs.Nodes.{node_of, doer_of};
+ghost use Rattle.bench_item.specs.Keys.{node_of};
+ghost use Rattle.bench_post.specs.Nodes.{doer_of};
 
 use crate::event::{carry, event_of};
-use crate::peers::Peers;
 use crate::session::session_event;
-use bench_item::{Item, Role};
+use bench_item::{Item, Peers, Role};
 use std::alloc::{AllocError, Global};
 use tab_law::{LawBook, PLACES};
 

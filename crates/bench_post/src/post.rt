@@ -3,16 +3,16 @@
 ghost use Rattle.bench_item.specs.Posts.{posts_of, posts_by};
 ghost use Rattle.bench_post.specs.Made.{Makes};
 ghost use Rattle.bench_post.specs.Groups.{peer_posts, session_posts};
-ghost use Rattle.bench_post.specs.Nodes.{node_of, doer_of};
+ghost use Rattle.bench_item.specs.Keys.{node_of};
+ghost use Rattle.bench_post.specs.Nodes.{doer_of};
 
 use crate::elect::elect;
 use crate::line::{handed_on, message_to_line, to_line};
 use crate::message::{to_peer, to_session};
-use crate::peers::Peers;
 use crate::timer::{arm, dial, undial};
 use crate::unsent::unsent;
 use base_codes::{DeedCode, session_fact};
-use bench_item::{Item, MachineItem};
+use bench_item::{Item, MachineItem, Peers};
 use std::alloc::{AllocError, Global};
 use tab_law::{Deed, LawBook};
 

@@ -4,8 +4,7 @@ ghost use Rattle.std.specs.Prelude.{◌≡◌, option_to_list, slice_index};
 ghost use Rattle.bench_item.specs.declared.item.Item.TheVariants.{Undial, Arm};
 ghost use Rattle.bench_post.specs.Groups.{dial_posts};
 
-use crate::peers::Peers;
-use bench_item::Item;
+use bench_item::{Item, Peers};
 use tab_law::Deed;
 
 /// Opens a connection to the peer whose machine has the number of argument 0; nothing where no peer's has. Takes no memory.

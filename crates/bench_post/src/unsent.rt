@@ -3,13 +3,12 @@
 ghost use Rattle.std.specs.Prelude.{◌≡◌};
 ghost use Rattle.bench_post.specs.Made.{Makes};
 ghost use Rattle.bench_post.specs.Groups.{is_unsent, unsent_posts};
-ghost use Rattle.bench_post.specs.Nodes.{node_of};
+ghost use Rattle.bench_item.specs.Keys.{node_of};
 
 use crate::event::{carry, event_of, is_kind_of};
 use crate::line::handed_on;
-use crate::peers::Peers;
 use base_codes::session_fact;
-use bench_item::{Item, MachineItem, Role};
+use bench_item::{Item, MachineItem, Peers, Role};
 use std::alloc::{AllocError, Global};
 use tab_law::{Deed, LawBook};
 

@@ -3,6 +3,8 @@ pub mod LegalLemmas
 pub mod BookLemmas
 pub mod PlaceLemmas
 pub mod RunLemmas
+pub mod OwnLemmas
+pub mod BackLemmas
 pub mod PauseLemmas
 pub mod LineLemmas
 pub mod ExampleLemmas

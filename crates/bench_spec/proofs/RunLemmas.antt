@@ -30,7 +30,7 @@ use Rattle.bench_spec.proofs.AfterLemmas.{flat_map-snoc}
 use Rattle.bench_spec.proofs.BookLemmas.{entry_of, moves_next}
 use Rattle.bench_spec.proofs.PlaceLemmas.{place_stays}
 
-role_sound : (a b : Role) → is_same_role a b ≡ true → a ≡ b
+pub role_sound : (a b : Role) → is_same_role a b ≡ true → a ≡ b
 role_sound Peer Peer h = refl
 role_sound Peer Client h = absurd (false≢true h)
 role_sound Peer Server h = absurd (false≢true h)
@@ -41,12 +41,12 @@ role_sound Server Peer h = absurd (false≢true h)
 role_sound Server Client h = absurd (false≢true h)
 role_sound Server Server h = refl
 
-role_itself : (a : Role) → is_same_role a a ≡ true
+pub role_itself : (a : Role) → is_same_role a a ≡ true
 role_itself Peer = refl
 role_itself Client = refl
 role_itself Server = refl
 
-both_true : (a b : Bool) → (a && b) ≡ true → (a ≡ true) × (b ≡ true)
+pub both_true : (a b : Bool) → (a && b) ≡ true → (a ≡ true) × (b ≡ true)
 both_true true b h = (refl, h)
 both_true false b h = absurd (false≢true h)
 

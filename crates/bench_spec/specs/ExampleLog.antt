@@ -83,6 +83,8 @@ settings = record {
   client = peer_table;
   server = server_table;
   identity = record { host = codes "n"; realm = codes "n"; address = 127 ∷ 0 ∷ 0 ∷ 1 ∷ [] };
+  dictionary = [];
+  default_units = 0;
   accounts = record { id = 100; given = 100 } ∷ [];
   pages = 1;
   desks = 1;

@@ -49,7 +49,7 @@ world_of settings log = record {
   timer_of = armed log;
   outbox_of = outbox settings log;
   hand_of = hand log;
-  line_of = line_state settings.rules log;
+  line_of = line_state settings log;
   sent_of = sent settings log;
   totals_at = totals_of (book_at settings log);
 }

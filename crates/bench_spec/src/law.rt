@@ -1,6 +1,8 @@
 //! Laws of legal logs, over all settings and logs.
 ghost use Rattle.bench_spec.specs.ExampleLog as example;
 ghost use Rattle.bench_spec.specs.Legal.{BookIsAnswered, EachIsRun, FrontsAreLegal, GoesBack, GoesOn, IsLegal, NoneIsOver, PauseOnlyRefuses};
+ghost use Rattle.bench_spec.specs.Own.{EachIsOwnRun};
+ghost use Rattle.bench_spec.specs.Taken.{ReplayThenBack, StepThenBack};
 
 /// One more entry that may follow keeps a log legal.
 pub fn legal_goes_on()
@@ -32,6 +34,23 @@ pub fn legal_never_over()
 /// section 7).
 pub fn legal_is_run()
     ensures { EachIsRun }
+{}
+
+/// In a legal log, for every machine: the events of its moves are its own, those of the items that came to its shard as far as they were
+/// handled, for it and neither busy nor stale, each with what the account book says to it, in order; and its moves are a run of the
+/// table of its role, from its start.
+pub fn legal_is_own_run()
+    ensures { EachIsOwnRun }
+{}
+
+/// A step and then back is no step: whatever the step was, the world is the one before it, and so is all that it shows.
+pub fn step_then_back()
+    ensures { StepThenBack }
+{}
+
+/// Nor is an entry that is replayed, and then back.
+pub fn replay_then_back()
+    ensures { ReplayThenBack }
 {}
 
 /// A step that may be taken while shards are paused may be taken while none is.

@@ -13,8 +13,11 @@
 #![tactic(auto)]
 
 mod law;
+mod opening;
 
 pub use law::{
     example_is_legal, fronts_are_legal, legal_book_is_answered, legal_goes_back, legal_goes_on,
-    legal_is_run, legal_never_over,
+    legal_is_own_run, legal_is_run, legal_never_over, pause_only_refuses, replay_then_back,
+    step_then_back,
 };
+pub use opening::OpeningError;

@@ -1,3 +1,5 @@
+pub mod Shards
+pub mod Carried
 pub mod LinePasts
 pub mod Timers
 pub mod Pages

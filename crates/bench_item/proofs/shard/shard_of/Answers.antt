@@ -2,7 +2,7 @@ use Rattle.std.proofs.Common.{◌≡◌, ◌<◌, ℕ, ◌+◌, ◌%◌, List, l
 use Rattle.std.proofs.lemmas.List.Sums.{sum_by_more}
 use Rattle.std.proofs.Math.Nat.{mod-add-mod}
 use Rattle.std.specs.Prelude.{sum}
-use Rattle.bench_post.proofs.shard.shard_of.Goals as goal
+use Rattle.bench_item.proofs.shard.shard_of.Goals as goal
 
 -- the sum of one octet more
 sum_more : (octets : List ℕ) (i octet : ℕ) → i < length octets → octet ≡ get_or octets i 0 → sum (take (i + 1) octets) ≡ sum (take i octets) + octet

@@ -3,13 +3,15 @@
 ghost use Rattle.std.specs.Prelude.{◌≡◌, ◌<◌, ◌≤◌};
 ghost use Rattle.bench_item.specs.Keys.{home};
 
-use bench_item::{Key, MAX_SHARDS};
+use crate::key::Key;
+use crate::limit::MAX_SHARDS;
 
 /// The shard of a name, from 0: the sum of its octets, divided by the count of shards, leaves its number.
 pub(crate) fn shard_of(shards: usize, name: &[u8]) -> usize
     requires some { 0 < shards }
     requires few { shards ≤ MAX_SHARDS }
-    ensures { result ≡ home shards name.now }
+    ensures is { result ≡ home shards name.now }
+    ensures within { result < shards }
 {
     let mut left = 0;
     for octet in name {
@@ -22,7 +24,8 @@ pub(crate) fn shard_of(shards: usize, name: &[u8]) -> usize
 pub fn home(shards: usize, key: &Key) -> usize
     requires some { 0 < shards }
     requires few { shards ≤ MAX_SHARDS }
-    ensures { result ≡ home shards key.now.name }
+    ensures is { result ≡ home shards key.now.name }
+    ensures within { result < shards }
 {
     shard_of(shards, key.name.as_slice())
 }
