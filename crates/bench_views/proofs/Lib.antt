@@ -7,6 +7,8 @@ pub mod Keys
 pub mod Each
 pub mod Carrying
 pub mod LinePasts
+pub mod LineStands
+pub mod LinePosts
 pub mod Timers
 pub mod Pages
 pub mod PageSteps
