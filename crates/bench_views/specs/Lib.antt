@@ -3,3 +3,4 @@ pub mod Carried
 pub mod LinePasts
 pub mod Timers
 pub mod Pages
+pub mod Stored
