@@ -1,33 +1,27 @@
 -- The plain values that the kept ones are.
 use Rattle.bench_item.specs.declared.item.Item.{Item}
-use Rattle.bench_item.specs.declared.item.MachineItem.{MachineItem}
 use Rattle.bench_item.specs.declared.item.LineItem.{LineItem}
 use Rattle.bench_item.specs.declared.item.Item.TheVariants as plain
 use Rattle.bench_item.specs.declared.step.Step.{Step}
 use Rattle.bench_item.specs.declared.step.Step.TheVariants as steps
 use Rattle.bench_item.specs.declared.entry.Handled.{Handled}
 use Rattle.bench_item.specs.declared.entry.Handled.TheVariants as handled
-use Rattle.bench_log.specs.declared.item.KeptMachineItem.{KeptMachineItem}
 use Rattle.bench_log.specs.declared.item.KeptLineItem.{KeptLineItem}
-use Rattle.bench_log.specs.declared.item.KeptItem.{KeptItem}
-use Rattle.bench_log.specs.declared.item.KeptItem.TheVariants.{ToMachine, ToLine, Dial, Undial, Arm, Disarm}
+use Rattle.bench_log.specs.declared.item.ItemForm.{ItemForm}
+use Rattle.bench_log.specs.declared.item.ItemForm.TheVariants.{ToMachine, ToLine, Dial, Undial, Arm, Disarm}
 use Rattle.bench_log.specs.declared.step.KeptTold.{KeptTold}
 use Rattle.bench_log.specs.declared.step.KeptStep.{KeptStep}
 use Rattle.bench_log.specs.declared.step.KeptStep.TheVariants.{Joined, Dialled, Came, Lost, Told, Fired, Lift, Drop, Work}
 use Rattle.bench_log.specs.declared.entry.KeptHandled.{KeptHandled}
 use Rattle.bench_log.specs.declared.entry.KeptHandled.TheVariants.{TooBusy, Stale, Move}
 
--- an item for a machine
-abbrev pub machine_item_of : KeptMachineItem → MachineItem
-machine_item_of k = record { key = k.key; event = k.event; condition = k.condition; session = k.session }
-
 -- an item for a connection
 abbrev pub line_item_of : KeptLineItem → LineItem
 line_item_of k = record { line = k.line; deed = k.deed; session = k.session }
 
 -- an item
-abbrev pub item_of : KeptItem → Item
-item_of (ToMachine k) = plain.ToMachine (machine_item_of k)
+abbrev pub item_of : ItemForm → Item
+item_of (ToMachine k) = plain.ToMachine k
 item_of (ToLine k) = plain.ToLine (line_item_of k)
 item_of (Dial peer generation) = plain.Dial peer generation
 item_of (Undial peer generation) = plain.Undial peer generation

@@ -1,8 +1,7 @@
 //! Entries as the log keeps them.
-ghost use Rattle.std.specs.Prelude.{◌≡◌, IfOk, Option};
+ghost use Rattle.std.specs.Prelude.{◌≡◌, IfOk};
 ghost use Rattle.std.specs.Option.{option_map};
-ghost use Rattle.bench_item.specs.declared.item.Item.{Item};
-ghost use Rattle.bench_log.specs.Twins.{step_of, item_of, handled_of};
+ghost use Rattle.bench_log.specs.Twins.{step_of, handled_of};
 ghost use Rattle.bench_log.specs.Moves.{machine_in, moves};
 
 use crate::item::KeptItem;
@@ -44,9 +43,9 @@ impl Model for KeptEntry {
 
     ghost Value = { Entry };
 
-    ghost use Rattle.bench_log.specs.Twins.{step_of, item_of, handled_of};
+    ghost use Rattle.bench_log.specs.Twins.{step_of, handled_of};
 
-    ghost view = { λ k. record { step = step_of k.step; item = option_map item_of k.item; handled = option_map handled_of k.handled } };
+    ghost view = { λ k. record { step = step_of k.step; item = k.item; handled = option_map handled_of k.handled } };
 }
 
 impl KeptHandled {
@@ -74,7 +73,7 @@ impl KeptHandled {
 }
 
 fn keep_item(alloc: Global, plain: &Option<Item>) -> Result<Option<KeptItem>, AllocError>
-    ensures { IfOk result (λ kept. option_map item_of kept ≡ plain.now) }
+    ensures { IfOk result (λ kept. kept ≡ plain.now) }
 {
     match plain {
         None => Ok(None),
@@ -83,7 +82,7 @@ fn keep_item(alloc: Global, plain: &Option<Item>) -> Result<Option<KeptItem>, Al
 }
 
 fn show_item(alloc: Global, kept: &Option<KeptItem>) -> Result<Option<Item>, AllocError>
-    ensures { IfOk result (λ plain. plain ≡ option_map item_of kept.now) }
+    ensures { IfOk result (λ plain. plain ≡ kept.now) }
 {
     match kept {
         None => Ok(None),

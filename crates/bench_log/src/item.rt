@@ -1,25 +1,46 @@
 //! Items as the log keeps them.
 ghost use Rattle.std.specs.Prelude.{◌≡◌, IfOk};
 ghost use Rattle.bench_item.specs.declared.item.Item.TheVariants.{ToMachine, ToLine};
-ghost use Rattle.bench_log.specs.Twins.{item_of, machine_item_of, line_item_of};
+ghost use Rattle.bench_log.specs.Twins.{item_of, line_item_of};
 
 use crate::state::{KeptDeed, KeptEvent, copy_key};
 use base_list::Octets;
 use bench_item::{Condition, Item, Key, LineItem, MachineItem};
 use std::alloc::{AllocError, Global};
+use std::marker::Model;
 
-/// An event on its way to a machine.
-#[derive(Drop)]
-pub(crate) struct KeptMachineItem {
+/// An event on its way to a machine, kept small. A contract sees the plain item.
+pub struct KeptMachineItem {
     key: Key,
     event: KeptEvent,
     condition: Option<Condition>,
     session: Octets,
 }
 
+// A derived `drop` is proved anew in each crate that holds such an item; this one is a call.
+impl Drop for KeptMachineItem {
+    fn drop(self) {
+        let KeptMachineItem {
+            key,
+            event,
+            condition: _,
+            session,
+        } = self;
+    }
+}
+
+impl Model for KeptMachineItem {
+    ghost use Rattle.bench_item.specs.declared.item.MachineItem.{MachineItem};
+
+    ghost Value = { MachineItem };
+
+    ghost view = { λ k. record { key = k.key; event = k.event; condition = k.condition; session = k.session } };
+}
+
 impl KeptMachineItem {
-    fn keep(alloc: Global, plain: &MachineItem) -> Result<KeptMachineItem, AllocError>
-        ensures { IfOk result (λ kept. machine_item_of kept ≡ plain.now) }
+    /// Keeps an item.
+    pub fn keep(alloc: Global, plain: &MachineItem) -> Result<KeptMachineItem, AllocError>
+        ensures { IfOk result (λ kept. kept ≡ plain.now) }
     {
         let key = copy_key(alloc, &plain.key)?;
         let event = KeptEvent::keep(alloc, &plain.event)?;
@@ -32,8 +53,9 @@ impl KeptMachineItem {
         })
     }
 
-    fn show(&self, alloc: Global) -> Result<MachineItem, AllocError>
-        ensures { IfOk result (λ plain. plain ≡ machine_item_of self.now) }
+    /// The item.
+    pub fn show(&self, alloc: Global) -> Result<MachineItem, AllocError>
+        ensures { IfOk result (λ plain. plain ≡ self.now) }
     {
         let key = copy_key(alloc, &self.key)?;
         let session = self.session.copy(alloc)?;
@@ -81,7 +103,7 @@ impl KeptLineItem {
 
 /// What is on its way from a source: an item of each form.
 #[derive(Drop)]
-pub(crate) enum KeptItem {
+pub(crate) enum ItemForm {
     ToMachine(KeptMachineItem),
     ToLine(KeptLineItem),
     Dial {
@@ -102,19 +124,18 @@ pub(crate) enum KeptItem {
     },
 }
 
-impl KeptItem {
-    /// Keeps an item.
-    pub(crate) fn keep(alloc: Global, plain: &Item) -> Result<KeptItem, AllocError>
+impl ItemForm {
+    fn keep(alloc: Global, plain: &Item) -> Result<ItemForm, AllocError>
         ensures { IfOk result (λ kept. item_of kept ≡ plain.now) }
     {
         Ok(match plain {
-            Item::ToMachine(item) => KeptItem::ToMachine(KeptMachineItem::keep(alloc, item)?),
-            Item::ToLine(item) => KeptItem::ToLine(KeptLineItem::keep(alloc, item)?),
-            Item::Dial { peer, generation } => KeptItem::Dial {
+            Item::ToMachine(item) => ItemForm::ToMachine(KeptMachineItem::keep(alloc, item)?),
+            Item::ToLine(item) => ItemForm::ToLine(KeptLineItem::keep(alloc, item)?),
+            Item::Dial { peer, generation } => ItemForm::Dial {
                 peer: *peer,
                 generation: *generation,
             },
-            Item::Undial { peer, generation } => KeptItem::Undial {
+            Item::Undial { peer, generation } => ItemForm::Undial {
                 peer: *peer,
                 generation: *generation,
             },
@@ -122,31 +143,30 @@ impl KeptItem {
                 machine,
                 generation,
                 ticks,
-            } => KeptItem::Arm {
+            } => ItemForm::Arm {
                 machine: *machine,
                 generation: *generation,
                 ticks: *ticks,
             },
-            Item::Disarm { machine } => KeptItem::Disarm { machine: *machine },
+            Item::Disarm { machine } => ItemForm::Disarm { machine: *machine },
         })
     }
 
-    /// The item.
-    pub(crate) fn show(&self, alloc: Global) -> Result<Item, AllocError>
+    fn show(&self, alloc: Global) -> Result<Item, AllocError>
         ensures { IfOk result (λ plain. plain ≡ item_of self.now) }
     {
         Ok(match self {
-            KeptItem::ToMachine(item) => Item::ToMachine(item.show(alloc)?),
-            KeptItem::ToLine(item) => Item::ToLine(item.show(alloc)?),
-            KeptItem::Dial { peer, generation } => Item::Dial {
+            ItemForm::ToMachine(item) => Item::ToMachine(item.show(alloc)?),
+            ItemForm::ToLine(item) => Item::ToLine(item.show(alloc)?),
+            ItemForm::Dial { peer, generation } => Item::Dial {
                 peer: *peer,
                 generation: *generation,
             },
-            KeptItem::Undial { peer, generation } => Item::Undial {
+            ItemForm::Undial { peer, generation } => Item::Undial {
                 peer: *peer,
                 generation: *generation,
             },
-            KeptItem::Arm {
+            ItemForm::Arm {
                 machine,
                 generation,
                 ticks,
@@ -155,7 +175,45 @@ impl KeptItem {
                 generation: *generation,
                 ticks: *ticks,
             },
-            KeptItem::Disarm { machine } => Item::Disarm { machine: *machine },
+            ItemForm::Disarm { machine } => Item::Disarm { machine: *machine },
         })
+    }
+}
+
+/// What is on its way from a source, kept small. A contract sees the plain item.
+pub struct KeptItem {
+    form: ItemForm,
+}
+
+impl Drop for KeptItem {
+    fn drop(self) {
+        let KeptItem { form } = self;
+    }
+}
+
+impl Model for KeptItem {
+    ghost use Rattle.bench_item.specs.declared.item.Item.{Item};
+
+    ghost Value = { Item };
+
+    ghost use Rattle.bench_log.specs.Twins.{item_of};
+
+    ghost view = { λ k. item_of k.form };
+}
+
+impl KeptItem {
+    /// Keeps an item.
+    pub fn keep(alloc: Global, plain: &Item) -> Result<KeptItem, AllocError>
+        ensures { IfOk result (λ kept. kept ≡ plain.now) }
+    {
+        let form = ItemForm::keep(alloc, plain)?;
+        Ok(KeptItem { form })
+    }
+
+    /// The item.
+    pub fn show(&self, alloc: Global) -> Result<Item, AllocError>
+        ensures { IfOk result (λ plain. plain ≡ self.now) }
+    {
+        self.form.show(alloc)
     }
 }

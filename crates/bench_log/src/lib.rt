@@ -25,4 +25,6 @@ mod state;
 mod step;
 
 pub use entry::KeptEntry;
+pub use item::{KeptItem, KeptMachineItem};
 pub use log::{Log, LogError};
+pub use state::KeptState;

@@ -8,11 +8,16 @@ use std::marker::Model;
 use tab_law::Deed;
 use tab_step::{Event, MachineState};
 
-/// Where a machine stands.
-#[derive(Drop)]
-pub(crate) struct KeptState {
+/// Where a machine stands, kept small. A contract sees the plain state.
+pub struct KeptState {
     state: u8,
     regs: Places,
+}
+
+impl Drop for KeptState {
+    fn drop(self) {
+        let KeptState { state: _, regs } = self;
+    }
 }
 
 impl Model for KeptState {
@@ -25,7 +30,7 @@ impl Model for KeptState {
 
 impl KeptState {
     /// Keeps where a machine stands.
-    pub(crate) fn keep(alloc: Global, plain: &MachineState) -> Result<KeptState, AllocError>
+    pub fn keep(alloc: Global, plain: &MachineState) -> Result<KeptState, AllocError>
         ensures { IfOk result (λ kept. kept ≡ plain.now) }
     {
         let regs = Places::keep(alloc, &plain.regs)?;
@@ -34,7 +39,7 @@ impl KeptState {
     }
 
     /// Where the machine stands. Takes no memory.
-    pub(crate) fn show(&self) -> MachineState
+    pub fn show(&self) -> MachineState
         ensures { result ≡ self.now }
     {
         let regs = self.regs.show();

@@ -1,0 +1,14 @@
+pub mod Distinct
+pub mod Directories
+pub mod Standing
+pub mod Order
+pub mod Handled
+pub mod Keys
+pub mod Each
+pub mod Carrying
+pub mod LinePasts
+pub mod LineStands
+pub mod LinePosts
+pub mod Timers
+pub mod Pages
+pub mod PageSteps

@@ -1,0 +1,6 @@
+pub mod Shards
+pub mod Carried
+pub mod LinePasts
+pub mod Timers
+pub mod Pages
+pub mod Stored
