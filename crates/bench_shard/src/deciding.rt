@@ -41,12 +41,7 @@ fn no_effects(alloc: Global) -> Effects
 
 impl ShardState {
     // What is to become of an item, and what it asks.
-    fn task_of(
-        &self,
-        alloc: Global,
-        roles: &Roles,
-        item: MachineItem,
-    ) -> Result<Task, AllocError>
+    fn task_of(&self, alloc: Global, roles: &Roles, item: MachineItem) -> Result<Task, AllocError>
         requires { next_in self.now.inbox ≡ Some item }
         ensures task { IfOk result (IsTask roles.now.laws self.now) }
         ensures item { IfOk result (λ task. task.item ≡ item) }
@@ -124,7 +119,12 @@ impl ShardState {
     }
 
     // The work on an item whose machine finds no room.
-    fn prepare_busy(&self, alloc: Global, roles: &Roles, item: MachineItem) -> Result<Work, AllocError>
+    fn prepare_busy(
+        &self,
+        alloc: Global,
+        roles: &Roles,
+        item: MachineItem,
+    ) -> Result<Work, AllocError>
         requires next { next_in self.now.inbox ≡ Some item }
         requires fate { fate_of self.now item ≡ Fate.Busy }
         ensures work { (book : Book) → IfOk result (IsWork roles.now book self.now) }

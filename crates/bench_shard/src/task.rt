@@ -106,7 +106,12 @@ impl ShardState {
     }
 
     // What is to become of an item for the machine at that place, if it is there, which stands there.
-    pub(crate) fn fate(&self, place: Option<usize>, item: &MachineItem, before: &MachineState) -> Fate
+    pub(crate) fn fate(
+        &self,
+        place: Option<usize>,
+        item: &MachineItem,
+        before: &MachineState,
+    ) -> Fate
         requires place { place ≡ place_in self.now item.now.key }
         requires before { before.now ≡ state_for self.now item.now.key }
         ensures { result ≡ fate_of self.now item.now }

@@ -48,7 +48,11 @@ fn keep_items(alloc: Global, plain: &[Item]) -> Result<Vec<KeptItem>, AllocError
 
 impl ShardState {
     // Where the machine of a handled item comes to stand.
-    fn left(&self, item: &MachineItem, handled: &Handled) -> Result<Option<MachineState>, AllocError>
+    fn left(
+        &self,
+        item: &MachineItem,
+        handled: &Handled,
+    ) -> Result<Option<MachineState>, AllocError>
         ensures { IfOk result (λ left. left ≡ state_left self.now item.now handled.now) }
     {
         match handled {
