@@ -12,3 +12,4 @@ pub mod LinePosts
 pub mod Timers
 pub mod Pages
 pub mod PageSteps
+pub mod WorkStands
