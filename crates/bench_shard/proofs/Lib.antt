@@ -2,3 +2,5 @@ pub mod OpenLemmas
 pub mod SettleLemmas
 pub mod KeyLemmas
 pub mod AbsentLemmas
+pub mod ViewLemmas
+pub mod LegalLemmas

@@ -14,6 +14,7 @@
 
 mod deciding;
 mod fault;
+mod law;
 mod name;
 mod open;
 mod queues;
@@ -23,6 +24,7 @@ mod task;
 mod work;
 
 pub use fault::{PutError, WorkFault};
+pub use law::becomes_as_logged;
 pub use settle::Settled;
 pub use state::ShardState;
 pub use task::{Fate, Task};
