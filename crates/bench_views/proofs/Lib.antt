@@ -13,3 +13,4 @@ pub mod Timers
 pub mod Pages
 pub mod PageSteps
 pub mod WorkStands
+pub mod TiedWork

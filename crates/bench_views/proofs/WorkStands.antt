@@ -134,23 +134,23 @@ within (y ∷ xs) (suc n) x e = next_place n (length xs) (within xs n x e)
 abbrev in_with : List MachineItem → ℕ → InboxView
 in_with items worked = record { items = items; worked = worked }
 
-abbrev out_with : List Item → ℕ → ℕ → OutboxView
+abbrev pub out_with : List Item → ℕ → ℕ → OutboxView
 out_with posts lifted dropped = record { posts = posts; lifted = lifted; dropped = dropped }
 
 in-fields : (xs ys : List MachineItem) (m n : ℕ) → xs ≡ ys → m ≡ n → in_with xs m ≡ in_with ys n
 in-fields xs ys m n a b = rw (a, b) refl
 
-out-fields : (ps qs : List Item) (l m d n : ℕ) → ps ≡ qs → l ≡ m → d ≡ n → out_with ps l d ≡ out_with qs m n
+pub out-fields : (ps qs : List Item) (l m d n : ℕ) → ps ≡ qs → l ≡ m → d ≡ n → out_with ps l d ≡ out_with qs m n
 out-fields ps qs l m d n a b c = rw (a, b, c) refl
 
 -- what came to a shard does not change, nor what was lifted and dropped
 arrived-after : (settings : Settings) (log : List Entry) (k shard : ℕ) (item : MachineItem) (handled : Handled) → arrived settings.node (log ++ work_entry shard item handled ∷ []) k ≡ arrived settings.node log k
 arrived-after settings log k shard item handled = arrived-snoc settings.node log (work_entry shard item handled) k ∙ append-nil (arrived settings.node log k)
 
-lifted-after : (log : List Entry) (source : Source) (shard : ℕ) (item : MachineItem) (handled : Handled) → lifted (log ++ work_entry shard item handled ∷ []) source ≡ lifted log source
+pub lifted-after : (log : List Entry) (source : Source) (shard : ℕ) (item : MachineItem) (handled : Handled) → lifted (log ++ work_entry shard item handled ∷ []) source ≡ lifted log source
 lifted-after log source shard item handled = lifted-snoc log (work_entry shard item handled) source ∙ append-nil (lifted log source)
 
-dropped-after : (log : List Entry) (source : Source) (shard : ℕ) (item : MachineItem) (handled : Handled) → dropped (log ++ work_entry shard item handled ∷ []) source ≡ dropped log source
+pub dropped-after : (log : List Entry) (source : Source) (shard : ℕ) (item : MachineItem) (handled : Handled) → dropped (log ++ work_entry shard item handled ∷ []) source ≡ dropped log source
 dropped-after log source shard item handled = dropped-snoc log (work_entry shard item handled) source ∙ append-nil (dropped log source)
 
 -- the oldest item is handled
