@@ -1,5 +1,6 @@
 pub mod Shards
 pub mod Carried
 pub mod LinePasts
+pub mod LineLifts
 pub mod Timers
 pub mod Pages
