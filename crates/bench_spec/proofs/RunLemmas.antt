@@ -69,8 +69,8 @@ keys_of_move : (node : Node) (step : Step) (item : MachineItem) (moved : Moved) 
 keys_of_move node step item moved = ap (λ (b : Bool). map (λ (i : MachineItem). i.key) (if b then item ∷ [] else [])) (itself (home node.shards item.key.name))
 
 -- so its number stays from there on
-number_stays : (node : Node) (past rest : List Entry) (step : Step) (item : MachineItem) (moved : Moved) → number_for node (past ++ entry_of step (Some (ToMachine item)) (Some (Move moved)) ∷ rest) item.key ≡ number_for node past item.key
-number_stays node past rest step item moved = ap (number_at shard) (ap (λ ks. position_or_len (λ k. is_same_key k item.key) (distinct is_same_key ks)) in_order ∙ place_stays is_same_key key_sound (peers ++ flat_map (keys_in node shard) past) item.key (flat_map (keys_in node shard) rest) (key_itself item.key))
+pub keys_apart : (node : Node) (past rest : List Entry) (step : Step) (item : MachineItem) (moved : Moved) → map (key_of Peer) (peers_in node (home node.shards item.key.name)) ++ flat_map (keys_in node (home node.shards item.key.name)) (past ++ entry_of step (Some (ToMachine item)) (Some (Move moved)) ∷ rest) ≡ (map (key_of Peer) (peers_in node (home node.shards item.key.name)) ++ flat_map (keys_in node (home node.shards item.key.name)) past) ++ item.key ∷ flat_map (keys_in node (home node.shards item.key.name)) rest
+keys_apart node past rest step item moved = ap (λ ks. peers ++ ks) (flat_map-append (keys_in node shard) past (e ∷ rest) ∙ ap (λ ks. flat_map (keys_in node shard) past ++ (ks ++ flat_map (keys_in node shard) rest)) (keys_of_move node step item moved)) ∙ sym (append_assoc peers (flat_map (keys_in node shard) past) (item.key ∷ flat_map (keys_in node shard) rest))
   where
     shard : ℕ
     shard = home node.shards item.key.name
@@ -81,8 +81,14 @@ number_stays node past rest step item moved = ap (number_at shard) (ap (λ ks. p
     e : Entry
     e = entry_of step (Some (ToMachine item)) (Some (Move moved))
 
-    in_order : peers ++ flat_map (keys_in node shard) (past ++ e ∷ rest) ≡ (peers ++ flat_map (keys_in node shard) past) ++ item.key ∷ flat_map (keys_in node shard) rest
-    in_order = ap (λ ks. peers ++ ks) (flat_map-append (keys_in node shard) past (e ∷ rest) ∙ ap (λ ks. flat_map (keys_in node shard) past ++ (ks ++ flat_map (keys_in node shard) rest)) (keys_of_move node step item moved)) ∙ sym (append_assoc peers (flat_map (keys_in node shard) past) (item.key ∷ flat_map (keys_in node shard) rest))
+pub number_stays : (node : Node) (past rest : List Entry) (step : Step) (item : MachineItem) (moved : Moved) → number_for node (past ++ entry_of step (Some (ToMachine item)) (Some (Move moved)) ∷ rest) item.key ≡ number_for node past item.key
+number_stays node past rest step item moved = ap (number_at shard) (ap (λ ks. position_or_len (λ k. is_same_key k item.key) (distinct is_same_key ks)) (keys_apart node past rest step item moved) ∙ place_stays is_same_key key_sound (peers ++ flat_map (keys_in node shard) past) item.key (flat_map (keys_in node shard) rest) (key_itself item.key))
+  where
+    shard : ℕ
+    shard = home node.shards item.key.name
+
+    peers : List Key
+    peers = map (key_of Peer) (peers_in node shard)
 
 -- runs, one behind the other
 run_append : (settings : Settings) (table : Contents) (s : MachineState) (xs ys : List Moved) → IsRun settings table s xs → IsRun settings table (state_after s xs) ys → IsRun settings table s (xs ++ ys)

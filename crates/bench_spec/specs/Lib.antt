@@ -10,9 +10,13 @@ pub mod Sent
 pub mod Refusal
 pub mod Legal
 pub mod Own
+pub mod Numbers
 pub mod World
 pub mod Merged
 pub mod ExampleLog
+pub mod SessionLog
+pub mod ChargeLog
 pub mod LineExamples
 pub mod Examples
+pub mod OpeningExamples
 pub mod Taken

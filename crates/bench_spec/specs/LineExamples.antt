@@ -9,6 +9,10 @@ use Rattle.bench_item.specs.declared.line_state.LineState.TheVariants as at
 use Rattle.bench_item.specs.declared.source.Source.TheVariants.{Shard}
 use Rattle.bench_item.specs.declared.step.Step.TheVariants as steps
 use Rattle.bench_item.specs.declared.step.StepFault.TheVariants as faults
+use Rattle.bench_line.specs.Messages.{cut_by, messages, rest_of}
+use Rattle.bench_line.specs.Talk.{posts_by, turns}
+use Rattle.line_message.specs.Posts.{at_line, event_for}
+use Rattle.line_message.specs.Turned.{told, turned}
 use Rattle.bench_spec.specs.ExampleLog.{carried, settings}
 use Rattle.bench_spec.specs.Lines.{line_state, openings}
 use Rattle.bench_spec.specs.Refusal.{refusal}
@@ -64,6 +68,7 @@ pub came_nowhere : refusal settings lines [] (steps.Came 3 []) ≡ Some faults.U
 came_nowhere = refl
 
 pub came : refusal settings lines [] (steps.Came 2 []) ≡ None
+unfolding posts_by turns messages cut_by rest_of turned told event_for at_line
 came = refl
 
 -- an acknowledgement that comes twice
@@ -71,6 +76,7 @@ pub dialled_twice : refusal settings lines [] (steps.Dialled 2) ≡ Some faults.
 dialled_twice = refl
 
 pub dialled : refusal settings (take 3 lines) [] (steps.Dialled 2) ≡ None
+unfolding posts_by turns messages cut_by rest_of turned told event_for at_line
 dialled = refl
 
 pub lost_twice : refusal settings lines [] (steps.Lost 1) ≡ Some faults.Closed

@@ -1,7 +1,6 @@
 -- What a bench is opened with as it is handed in, and why it is not opened.
 use Rattle.std.specs.Prelude.{ℕ, ◌==◌, ◌%◌, ◌&&◌, ◌||◌, not, nat_le, nat_lt, Bool, true, false, List, [], ◌∷◌, ◌++◌, map, filter, find, flat_map, length, is_some, option_map, slice_index_or, unwrap_or, Option}
 use Rattle.std.specs.List.{list_all, list_any}
-use Rattle.std.specs.Str.{str_eq_ignore_ascii_case}
 use Rattle.acct_book.specs.Book.{Opened, refusal_of}
 use Rattle.client_rules.specs.Kinds as client
 use Rattle.dia_dict.specs.declared.definition.Definition.{Definition}
@@ -13,14 +12,12 @@ use Rattle.tab_step.specs.Bind.{lacking, missing}
 use Rattle.tab_text.specs.Contents.{Contents}
 use Rattle.bench_item.specs.declared.limit.TheConstants.{MAX_DESKS, MAX_PAGES, MAX_PEERS, MAX_SHARDS}
 use Rattle.bench_item.specs.Past.{any_after}
+use Rattle.bench_item.specs.Peers.{is_same_host}
 use Rattle.bench_spec.specs.SameLaws.{is_same_book}
 use Rattle.bench_spec.specs.Settings.{Settings}
 use Rattle.bench_spec.specs.declared.opening.OpeningError.{OpeningError}
 use Rattle.bench_spec.specs.declared.opening.OpeningError.TheVariants as errors
 
--- whether two hosts are one, in which the case of ASCII letters does not count (RFC 6733 section 4.3.1)
-abbrev pub is_same_host : List ℕ → List ℕ → Bool
-is_same_host one other = str_eq_ignore_ascii_case one other
 
 -- what a bench is opened with, as it is handed in: who it is, its peers and accounts, how many shards, pages and desks, the octets that
 -- a request for units without an amount asks for, the definitions that its dictionary has besides those of the standard, the table of
@@ -58,7 +55,6 @@ settings_of config = record {
   accounts = config.accounts;
   pages = config.pages;
   desks = config.desks;
-  rules = λ line. record { posts = λ opening happened. []; ends = λ opening happened piece. false; answers = λ opening happened piece. [] };
 }
 
 -- whether a number is 1 at least and within a limit

@@ -1,5 +1,6 @@
 -- Whether two books of laws are the same; a law of this crate (`same_laws`) says that it is so exactly where they are equal.
-use Rattle.std.specs.Prelude.{ℕ, ◌==◌, ◌&&◌, Bool, true, false, List}
+use Rattle.std.specs.Prelude.{◌≡◌, ℕ, ◌==◌, ◌&&◌, Bool, true, false, List}
+use Rattle.std.specs.Bool.{Decides}
 use Rattle.std.specs.Cmp.Lexicographic.{pointwise}
 use Rattle.std.specs.Str.{bytes_eq}
 use Rattle.base_list.specs.declared.named.Named.{Named}
@@ -58,3 +59,7 @@ is_same_book one other =
     pointwise (is_same_entry (λ a b. true)) one.kinds other.kinds
     && pointwise (is_same_entry (pointwise is_same_test)) one.guards other.guards
     && pointwise (is_same_entry (pointwise is_same_change)) one.acts other.acts
+
+-- the test tells equal books from others
+abbrev pub SameLaws : Type 0
+SameLaws = (one other : Laws) → Decides (is_same_book one other) (one ≡ other)

@@ -5,7 +5,6 @@ use Rattle.dia_dict.specs.declared.definition.Definition.{Definition}
 use Rattle.dia_write.specs.declared.answer.Identity.{Identity}
 use Rattle.tab_text.specs.Contents.{Contents}
 use Rattle.bench_item.specs.Keys.{Node}
-use Rattle.bench_item.specs.Lines.{LineRules}
 use Rattle.bench_item.specs.declared.key.Role.{Role}
 use Rattle.bench_item.specs.declared.key.Role.TheVariants.{Peer, Client, Server}
 
@@ -23,7 +22,6 @@ pub record Settings : Type 0 where
   pub accounts : List Opened
   pub pages : ℕ
   pub desks : ℕ
-  pub rules : ℕ → LineRules
 
 -- the table of a role
 abbrev pub table_of : Settings → Role → Contents

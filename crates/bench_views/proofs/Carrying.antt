@@ -19,7 +19,10 @@ use Rattle.bench_spec.specs.Settings.{Settings}
 use Rattle.bench_spec.proofs.AfterLemmas.{flat_map-snoc}
 use Rattle.bench_spec.proofs.BookLemmas.{entry_of}
 use Rattle.bench_views.specs.Carried.{arrives, carried_in, carried_out, carried_shard, drops, gives, lifts, works}
-use Rattle.bench_views.specs.Shards.{ShardView, Stands, inbox_at, key_octets, outbox_at}
+use Rattle.bench_shard.specs.Names.{key_octets}
+use Rattle.bench_shard.specs.Stands.{Stands}
+use Rattle.bench_shard.specs.View.{ShardView}
+use Rattle.bench_views.specs.Shards.{inbox_at, outbox_at}
 use Rattle.bench_views.proofs.Directories.{directory-same}
 use Rattle.bench_views.proofs.Handled.{moves-none}
 use Rattle.bench_views.proofs.Order.{arrived-snoc, dropped-snoc, lifted-snoc, worked-snoc}

@@ -2,10 +2,7 @@
 use Rattle.std.proofs.Common.{◌≡◌, ◌+◌, ◌<◌, ◌≤◌, ℕ, List, [], ◌∷◌, ◌++◌, Bool, true, false, Option, Some, None, refl, sym, ◌∙◌, ap, subst, arith, length, suc, zero}
 use Rattle.std.specs.Prelude.{map, slice_set, ◌≢◌}
 use Rattle.std.specs.List.{slice_get}
-
--- a fact of each item, by its place
-abbrev pub EachAt : {X : Type 0} → (ℕ → X → Type 0) → List X → Type 0
-EachAt {X} P xs = (k : ℕ) (x : X) → slice_get xs k ≡ Some x → P k x
+use Rattle.bench_views.specs.Stored.{EachAt}
 
 -- items by their places, the first of which is n
 abbrev pub map_at : {X Y : Type 0} → (ℕ → X → Y) → ℕ → List X → List Y

@@ -10,7 +10,7 @@ use Rattle.bench_item.specs.declared.key.Key.{Key}
 use Rattle.bench_item.specs.declared.key.Role.{Role}
 use Rattle.bench_item.specs.declared.key.Role.TheVariants.{Client, Peer, Server}
 use Rattle.bench_item.specs.Keys.{is_same_key, is_same_role}
-use Rattle.bench_views.specs.Shards.{key_octets, role_octet}
+use Rattle.bench_shard.specs.Names.{key_octets, role_octet}
 use Rattle.bench_views.proofs.Distinct.{with_new}
 
 -- two tests that say yes to each other are one

@@ -10,7 +10,7 @@ use Rattle.bench_queue.specs.Inbox.{InboxView}
 use Rattle.bench_queue.specs.Outbox.{OutboxView}
 use Rattle.bench_spec.specs.Items.{desk_posts, is_drop, is_drop_from, is_firing, is_lift}
 use Rattle.bench_spec.specs.Machines.{is_for, is_work, machine_item}
-use Rattle.bench_views.specs.Shards.{ShardView}
+use Rattle.bench_shard.specs.View.{ShardView}
 
 -- what an entry lifts from a source, drops from it, drops into a shard, and handles there
 abbrev pub lifts : Source → Entry → List Item

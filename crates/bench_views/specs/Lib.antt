@@ -4,3 +4,4 @@ pub mod LinePasts
 pub mod LineLifts
 pub mod Timers
 pub mod Pages
+pub mod Stored

@@ -1,0 +1,7 @@
+use Rattle.std.proofs.Common.{◌≡◌, ◌++◌, take}
+use Rattle.std.specs.List.{filter_map}
+use Rattle.server_book.specs.Deeds.{op_of}
+use Rattle.bench_move.proofs.booking.add_ops.Given as goal
+
+abbrev pub invariant-loop-deed : goal.invariant-loop-deed
+invariant-loop-deed l = l.ops.items ≡ l.initial.ops.items ++ filter_map (op_of l.want) (take l.deed-index l.deeds)

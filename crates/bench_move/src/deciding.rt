@@ -1,0 +1,122 @@
+//! One move of a machine, decided by the callbacks.
+
+ghost use Rattle.std.specs.Prelude.{◌≡◌, IfOk};
+ghost use Rattle.acct_book.specs.Book.{with_book};
+ghost use Rattle.tab_law.specs.Books.{NamedPermits};
+ghost use Rattle.tab_step.specs.Moves.{IsStep};
+ghost use Rattle.bench_move.specs.Moves.{IsDecided};
+ghost use Rattle.bench_move.specs.Tables.{table_of};
+
+use crate::booking::{ops_of, outcomes_for};
+use crate::posting::posts_of_all;
+use crate::quoting::event_with_quote;
+use crate::roles::Roles;
+use acct_book::Page;
+use acct_totals::{Op, Outcome};
+use bench_item::{Item, MachineItem, Moved, Role, Series};
+use bench_post::Peers;
+use std::alloc::{AllocError, Global};
+use tab_call::Registry;
+use tab_image::run_event_into;
+use tab_step::{Event, MachineState, Stepped};
+
+/// A move of a machine, with what its deeds post and ask of the account book.
+pub struct Decided {
+    pub moved: Moved,
+    /// What the deeds post, in order.
+    pub posts: Series<Item>,
+    /// The operations of the account book that the deeds ask for, in order.
+    pub ops: Series<Op>,
+}
+
+impl Drop for Decided {
+    fn drop(self) {
+        let Decided { moved, posts, ops } = self;
+    }
+}
+
+/// The move of the machine of that number from what a step left.
+fn moved_of(
+    alloc: Global,
+    number: u64,
+    before: &MachineState,
+    event: &Event,
+    stepped: &Stepped,
+    outcomes: Vec<Outcome>,
+) -> Result<Moved, AllocError>
+    ensures { IfOk result (λ moved. moved ≡ record {
+      machine = number;
+      event = event.now;
+      before = before.now;
+      after = stepped.now.after;
+      row = stepped.now.row;
+      chain = stepped.now.chain;
+      deeds = stepped.now.deeds;
+      outcomes = outcomes.items;
+    }) }
+{
+    let chain = Vec::from_slice(alloc, stepped.chain.as_slice())?;
+    let deeds = Vec::from_slice(alloc, stepped.deeds.as_slice())?;
+    Ok(Moved {
+        machine: number,
+        event: *event,
+        before: *before,
+        after: stepped.after,
+        row: stepped.row,
+        chain: Series::new(chain),
+        deeds: Series::new(deeds),
+        outcomes: Series::new(outcomes),
+    })
+}
+
+impl Roles {
+    /// Has a machine of a role step by its program.
+    fn step(
+        &self,
+        registry: &Registry,
+        role: Role,
+        before: &MachineState,
+        event: &Event,
+        room: &mut Stepped,
+    )
+        requires { registry.now.book ≡ self.now.laws }
+        ensures { IsStep (NamedPermits self.now.laws) (table_of self.now role) self.now.laws before.now event.now room.new }
+    {
+        let ready = self.ready(role);
+        run_event_into(&ready.program, registry, before, event, room);
+    }
+
+    /// Decides the move of the machine of that number, which stands there, at an item for it: what the account book says to
+    /// what the item asks becomes facts of the event, the role's program is run with the registry's callbacks, and the book
+    /// tells what it allows to the deeds. The page is that of the account which the item asks for, any other where it asks for
+    /// none; its book stays as it is. `room` is what the step is written into, for the caller to keep.
+    pub fn decide(
+        &self,
+        alloc: Global,
+        registry: &Registry,
+        peers: &Peers,
+        page: &mut Page,
+        number: u64,
+        before: &MachineState,
+        item: &MachineItem,
+        room: &mut Stepped,
+    ) -> Result<Decided, AllocError>
+        requires { registry.now.book ≡ self.now.laws }
+        ensures decided { IfOk result (IsDecided self.now peers.now page.old.book number before.now item.now) }
+        ensures page { page.new ≡ with_book page.old page.old.book page.new.room }
+    {
+        let want = self.want(item, before);
+        let event = event_with_quote(page, &want, &item.event);
+        self.step(registry, item.key.role, before, &event, room);
+        let deeds = room.deeds.as_slice();
+        let posts = posts_of_all(alloc, self.laws(), peers, number, item, deeds)?;
+        let ops = ops_of(alloc, &want, deeds)?;
+        let outcomes = outcomes_for(alloc, page, &want, deeds, ops.as_slice())?;
+        let moved = moved_of(alloc, number, before, &event, room, outcomes)?;
+        Ok(Decided {
+            moved,
+            posts: Series::new(posts),
+            ops: Series::new(ops),
+        })
+    }
+}

@@ -1,0 +1,7 @@
+pub mod Names
+pub mod View
+pub mod Settling
+pub mod Tasks
+pub mod Refusal
+pub mod Works
+pub mod Stands

@@ -1,0 +1,164 @@
+//! What a shard is to do next.
+ghost use Rattle.std.specs.Prelude.{◌≡◌, ◌<◌, ◌≤◌, ◌==◌, IfOk, IfSome, length, slice_get, slice_index, unwrap_or};
+ghost use Rattle.bench_item.specs.Keys.{number_at};
+ghost use Rattle.bench_item.specs.declared.limit.TheConstants.{MAX_MACHINES, MAX_SHARDS};
+ghost use Rattle.bench_spec.specs.Machines.{holds, start};
+ghost use Rattle.bench_spec.specs.Refusal.{is_empty};
+ghost use Rattle.bench_queue.specs.Inbox.{items_in};
+ghost use Rattle.bench_shard.specs.Refusal.{lacks_work_room, work_refusal};
+ghost use Rattle.bench_shard.specs.Tasks.{fate_of, page_of};
+ghost use Rattle.bench_shard.specs.View.{lacks_room, place_in, state_for};
+
+use crate::fault::WorkFault;
+use crate::open::{number_at, start};
+use crate::state::ShardState;
+use bench_item::{Condition, Key, MAX_MACHINES, MAX_WAITING, MachineItem, WORK_ROOM};
+use server_wants::Want;
+use std::alloc::{AllocError, Global};
+use tab_law::PLACES;
+use tab_step::MachineState;
+
+/// What is to become of an item.
+#[derive(Clone, Copy)]
+pub enum Fate {
+    /// There is no room for its machine.
+    Busy,
+    /// Its condition fails.
+    Stale,
+    /// Its machine moves.
+    Moves,
+}
+
+/// What a shard is to do next: its oldest item, and the item's machine.
+pub struct Task {
+    pub item: MachineItem,
+    /// The number that the machine has, or gets where it is not there yet.
+    pub number: u64,
+    /// Where it stands: at its start where it is not there yet.
+    pub before: MachineState,
+    pub fate: Fate,
+    /// What the item asks of the account book: only one that moves its machine asks something.
+    pub want: Option<Want>,
+}
+
+impl Drop for Task {
+    fn drop(self) {
+        let Task {
+            item,
+            number: _,
+            before: _,
+            fate: _,
+            want: _,
+        } = self;
+    }
+}
+
+impl Task {
+    /// The page of the account book that it needs, of so many; none where it asks nothing of the book.
+    pub fn page(&self, pages: u64) -> Option<u64>
+        requires { 0 < pages }
+        ensures { result ≡ page_of pages self.now.want }
+    {
+        match &self.want {
+            None => None,
+            Some(want) => Some(want.account % pages),
+        }
+    }
+}
+
+/// The number in a register, 0 where there is no such register.
+fn register(regs: &[u64; PLACES], place: u8) -> u64
+    ensures { result ≡ slice_index regs.now place }
+{
+    match regs.get(usize::from(place)) {
+        None => 0,
+        Some(value) => *value,
+    }
+}
+
+/// Whether an item's condition holds in a machine.
+fn holds(condition: &Option<Condition>, state: &MachineState) -> bool
+    ensures { result ≡ holds condition.now state.now }
+{
+    match condition {
+        None => true,
+        Some(condition) => register(&state.regs, condition.register) == condition.value,
+    }
+}
+
+impl ShardState {
+    // The number of the machine at a place, or behind all.
+    fn number_for(&self, place: usize) -> u64
+        requires { place ≤ length self.now.names }
+        ensures { result ≡ number_at self.now.number place }
+    {
+        let _shards = self.peers.shards();
+        let _machines = self.names.len();
+        number_at(self.number, place)
+    }
+
+    // Where the machine at a place stands: at its start behind all.
+    fn state_for(&self, place: usize) -> MachineState
+        requires { place ≤ length self.now.names }
+        ensures { result ≡ unwrap_or (slice_get self.now.states place) (start (number_at self.now.number place)) }
+    {
+        match self.state(place) {
+            Some(state) => state,
+            None => start(self.number_for(place)),
+        }
+    }
+
+    // Where a machine stands: at its start where it is not there.
+    pub(crate) fn before(&self, key: &Key) -> Result<MachineState, AllocError>
+        ensures { IfOk result (λ state. state ≡ state_for self.now key.now) }
+    {
+        let place = self.find(self.alloc, key)?.unwrap_or(self.names.len());
+        Ok(self.state_for(place))
+    }
+
+    // What is to become of an item for the machine at that place, if it is there, which stands there.
+    fn fate(&self, place: Option<usize>, item: &MachineItem, before: &MachineState) -> Fate
+        requires place { place ≡ place_in self.now item.now.key }
+        requires before { before.now ≡ state_for self.now item.now.key }
+        ensures { result ≡ fate_of self.now item.now }
+    {
+        if place.is_none() && self.names.len() >= MAX_MACHINES {
+            return Fate::Busy;
+        }
+        if holds(&item.condition, before) {
+            Fate::Moves
+        } else {
+            Fate::Stale
+        }
+    }
+
+    // Whether no item waits.
+    fn is_idle(&self) -> bool
+        ensures { result ≡ is_empty (items_in self.now.inbox) }
+    {
+        self.waiting() == 0
+    }
+
+    // Whether its outbox lacks the room for the deeds of a step.
+    fn lacks_work_room(&self) -> bool
+        ensures { result ≡ lacks_work_room self.now }
+    {
+        self.posted() > MAX_WAITING - WORK_ROOM
+    }
+
+    /// Why it does not work, memory and the account book's page aside; none where it may. Takes no memory.
+    pub fn work_refusal(&self) -> Option<WorkFault>
+        ensures { result ≡ work_refusal self.now }
+    {
+        if self.paused {
+            return Some(WorkFault::Paused);
+        }
+        if self.is_idle() {
+            return Some(WorkFault::Nothing);
+        }
+        if self.lacks_work_room() {
+            return Some(WorkFault::Full);
+        }
+        None
+    }
+}

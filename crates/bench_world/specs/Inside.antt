@@ -1,0 +1,1 @@
+-- What a world is, by what it keeps.

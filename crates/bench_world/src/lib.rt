@@ -1,0 +1,2 @@
+//! The whole bench in one value.
+#![tactic(auto)]
