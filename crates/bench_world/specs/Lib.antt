@@ -1,3 +1,4 @@
+pub mod Entries
 pub mod Undone
 pub mod Whole
 pub mod Inside
