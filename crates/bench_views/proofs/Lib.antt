@@ -9,6 +9,8 @@ pub mod Carrying
 pub mod LinePasts
 pub mod LineStands
 pub mod LinePosts
+pub mod LineLifts
+pub mod LineViews
 pub mod Timers
 pub mod Pages
 pub mod PageSteps
