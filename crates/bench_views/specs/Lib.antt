@@ -5,3 +5,4 @@ pub mod LineLifts
 pub mod Timers
 pub mod Pages
 pub mod Stored
+pub mod Behind
