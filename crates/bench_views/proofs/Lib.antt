@@ -14,3 +14,5 @@ pub mod LineViews
 pub mod Timers
 pub mod Pages
 pub mod PageSteps
+pub mod Acting
+pub mod Behind

@@ -23,7 +23,7 @@ use Rattle.bench_spec.specs.Settings.{Settings}
 use Rattle.bench_spec.proofs.BookLemmas.{entry_of}
 use Rattle.bench_views.specs.LineLifts.{IsLiftedSo}
 use Rattle.bench_views.specs.LinePasts.{EachMayCome, outbox_on, pasts_of}
-use Rattle.bench_views.specs.Meanings.{meaning_of}
+use Rattle.bench_views.specs.Stored.{meaning_of}
 use Rattle.bench_views.proofs.LineLifts.{next_on-lifted}
 use Rattle.bench_views.proofs.LinePosts.{line_posts-go_on, may_come-came, may_come-dialled, may_come-dropped, may_come-lost, may_come-quiet}
 use Rattle.bench_views.proofs.LineStands.{outbox_on-stands, sent_on-stands, state_on-stands}
