@@ -9,8 +9,12 @@ pub mod Carrying
 pub mod LinePasts
 pub mod LineStands
 pub mod LinePosts
+pub mod LineLifts
+pub mod LineViews
 pub mod Timers
 pub mod Pages
 pub mod PageSteps
 pub mod WorkStands
 pub mod TiedWork
+pub mod Acting
+pub mod Behind
