@@ -120,7 +120,7 @@ run_append : (settings : Settings) (table : Contents) (s : MachineState) (xs ys 
 run_append settings table s [] ys h k = k
 run_append settings table s (x ∷ xs) ys h k = (h.0, h.1, run_append settings table x.after xs ys h.2 k)
 
-after_append : (s : MachineState) (xs ys : List Moved) → state_after s (xs ++ ys) ≡ state_after (state_after s xs) ys
+pub after_append : (s : MachineState) (xs ys : List Moved) → state_after s (xs ++ ys) ≡ state_after (state_after s xs) ys
 after_append s [] ys = refl
 after_append s (x ∷ xs) ys = after_append x.after xs ys
 
