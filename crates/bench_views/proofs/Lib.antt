@@ -16,3 +16,4 @@ pub mod Pages
 pub mod PageSteps
 pub mod Acting
 pub mod Behind
+pub mod Lifting
