@@ -17,3 +17,5 @@ pub mod PageSteps
 pub mod Acting
 pub mod Behind
 pub mod Lifting
+pub mod Opened
+pub mod Dropping
