@@ -23,7 +23,7 @@ use Rattle.bench_line.specs.Lines.{Past, StandFor, one_more, opened, with_step}
 use Rattle.bench_queue.specs.Inbox.{put_in}
 use Rattle.bench_queue.specs.Outbox.{OutboxView, dropped_one, has_hand}
 use Rattle.bench_shard.specs.View.{ShardView, with_inbox, with_outbox}
-use Rattle.bench_spec.specs.Items.{InOrder, dropped, lifted}
+use Rattle.bench_spec.specs.Items.{InOrder, dropped, lifted, timer_change}
 use Rattle.bench_spec.specs.Refusal.{is_source}
 use Rattle.bench_spec.specs.Settings.{Settings}
 use Rattle.bench_spec.proofs.BookLemmas.{entry_of}
@@ -46,7 +46,7 @@ abbrev pub HasNumber : Source → Type 0
 HasNumber (Line line) = 0 < line
 HasNumber source = Unit {0}
 
-both_true : (a b : Bool) → (a && b) ≡ true → (a ≡ true) × (b ≡ true)
+pub both_true : (a b : Bool) → (a && b) ≡ true → (a ≡ true) × (b ≡ true)
 both_true true b h = (refl, h)
 both_true false b h = absurd (false≢true h)
 
@@ -189,7 +189,7 @@ module _ (settings : Settings) (log : List Entry) (source : Source) (item : Item
           sym (carried_out-none (source_at p) e v (no_gift p) refl (ap (λ b. if b then item ∷ [] else []) differs))
 
   -- the counts of lines
-  counts_of : EachAt (λ n c. c ≡ length (dropped (log ++ e ∷ []) (Line (suc n)))) (dropped_from source s).carried
+  pub counts_of : EachAt (λ n c. c ≡ length (dropped (log ++ e ∷ []) (Line (suc n)))) (dropped_from source s).carried
   unfolding count_by
   counts_of =
       each-acts (λ n c. c ≡ length (dropped log (Line (suc n)))) (λ n c. c ≡ length (dropped (log ++ e ∷ []) (Line (suc n)))) (count_by source)
@@ -207,11 +207,11 @@ module _ (settings : Settings) (log : List Entry) (source : Source) (item : Item
           ∙ sym (ap length (dropped-snoc log e (Line (suc n)) ∙ ap (λ b. dropped log (Line (suc n)) ++ (if b then item ∷ [] else [])) differs
           ∙ append-nil (dropped log (Line (suc n)))))
 
-  count_count : length (dropped_from source s).carried ≡ length s.lines
+  pub count_count : length (dropped_from source s).carried ≡ length s.lines
   count_count = (counts-dropped source s some).count ∙ tied.carried_count
 
   -- lines of which as many are lifted as before
-  lines_by : (ls : List LineView) → StandFor (meaning_of settings) ls (pasts_of (log ++ e ∷ [])) → map (λ l. l.lifted) ls ≡ map (λ l. l.lifted) s.lines
+  pub lines_by : (ls : List LineView) → StandFor (meaning_of settings) ls (pasts_of (log ++ e ∷ [])) → map (λ l. l.lifted) ls ≡ map (λ l. l.lifted) s.lines
       → length ls ≡ length s.lines → AreLinesTied settings (log ++ e ∷ []) ls (dropped_from source s).carried
   lines_by ls stand same count = record {
     stand = stand;
@@ -221,7 +221,7 @@ module _ (settings : Settings) (log : List Entry) (source : Source) (item : Item
   }
 
   -- an item that comes to no shard
-  tied-dropped : (ls : List LineView) (cs : List ℕ) (timers : ByOwner) → ((shard : ℕ) → arrives settings.node shard e ≡ [])
+  pub tied-dropped : (ls : List LineView) (cs : List ℕ) (timers : ByOwner) → ((shard : ℕ) → arrives settings.node shard e ≡ [])
       → AreLinesTied settings (log ++ e ∷ []) ls cs → IsArmedSo timers (log ++ e ∷ [])
       → IsTied settings (log ++ e ∷ []) (record (dropped_from source s) { lines = ls; carried = cs; timers = timers })
   tied-dropped ls cs timers quiet lines so =
@@ -236,3 +236,49 @@ module _ (settings : Settings) (log : List Entry) (source : Source) (item : Item
         books = books-kept source s;
         timers = so;
       })
+
+  -- the lines where the item is none of theirs
+  pub lines_kept : pasts_of (log ++ e ∷ []) ≡ pasts_of log → AreLinesTied settings (log ++ e ∷ []) (dropped_from source s).lines (dropped_from source s).carried
+  lines_kept same =
+      lines_by (dropped_from source s).lines
+      (subst (StandFor (meaning_of settings) (dropped_from source s).lines) (sym same) (subst (λ ls. StandFor (meaning_of settings) ls (pasts_of log)) (sym (lines-kept source s)) tied.lines))
+      (ap (map (λ l. l.lifted)) (lines-kept source s)) (ap length (lines-kept source s))
+
+  pub timers_kept : ((machine : ℕ) → timer_change machine e ≡ []) → IsArmedSo (dropped_from source s).timers (log ++ e ∷ [])
+  timers_kept none = subst (λ ts. IsArmedSo ts (log ++ e ∷ [])) (sym (timers-kept source s)) (is_armed_so-kept s.timers log e none tied.timers)
+
+same_test : (a b : ℕ) → (a == b) ≡ (b == a)
+same_test a b = grind (arith, nat_tests)
+
+-- An event for a machine comes to its shard.
+pub tied-drop_event : (settings : Settings) (log : List Entry) (source : Source) (i : MachineItem) (s : Stored) → IsTied settings log s
+    → has_hand (outbox_at settings log source) ≡ true → HasNumber source
+    → IsTied settings (log ++ entry_of (Drop source) (Some (ToMachine i)) None ∷ []) (came_to (home settings.node.shards i.key.name) i (dropped_from source s))
+tied-drop_event settings log source i s tied has some =
+    tied-behind settings log (Drop source) (Some (ToMachine i)) s (came_to shard i (dropped_from source s)) (λ n. refl) tied (record {
+      shard_by = λ k v. if k == shard then put (shard_by source k v) else shard_by source k v;
+      shards = acts-changed (shard_by source) s.shards (dropped_from source s).shards shard put (shards-dropped source s);
+      each_shard = λ k v is. each k v is (k == shard) refl;
+      outbox_by = outbox_by source;
+      outboxes = outboxes-dropped source s;
+      each_outbox = outbox_behind settings log source (ToMachine i) s tied has some;
+      lines = lines_kept settings log source (ToMachine i) s tied has some (pasts_of-dropped_event log source i None);
+      books = books-kept source s;
+      timers = timers_kept settings log source (ToMachine i) s tied has some (keeps-dropped_event source i None);
+    })
+  where
+    shard : ℕ
+    shard = home settings.node.shards i.key.name
+
+    put : ShardView → ShardView
+    put v = with_inbox v (put_in v.inbox (i ∷ []))
+
+    e' : Entry
+    e' = entry_of (Drop source) (Some (ToMachine i)) None
+
+    each : (k : ℕ) (v : ShardView) → IsShardAt settings log k v → (b : Bool) → (k == shard) ≡ b
+        → (if b then put (shard_by source k v) else shard_by source k v) ≡ carried_shard settings.node e' v
+    each k v is true here =
+        shard_event settings log source (ToMachine i) s tied has some v k i is (ap (λ b. if b then i ∷ [] else []) (same_test shard k ∙ here))
+    each k v is false elsewhere =
+        shard_quiet settings log source (ToMachine i) s tied has some v k is (ap (λ b. if b then i ∷ [] else []) (same_test shard k ∙ elsewhere))

@@ -19,3 +19,4 @@ pub mod Behind
 pub mod Lifting
 pub mod Opened
 pub mod Dropping
+pub mod Drops
