@@ -59,7 +59,7 @@ tied-disarm settings log source machine s tied has some =
     (is_armed_so-changed s.timers log (entry_of (Drop source) (Some (Disarm machine)) None) machine None (changes-disarm source machine None) tied.timers)
 
 -- lines that are as many as before, as far as their counts are the same
-same_count : (ls ms : List LineView) → map (λ l. l.lifted) ls ≡ map (λ l. l.lifted) ms → length ls ≡ length ms
+pub same_count : (ls ms : List LineView) → map (λ l. l.lifted) ls ≡ map (λ l. l.lifted) ms → length ls ≡ length ms
 same_count ls ms same = sym (length-map ls (λ l. l.lifted)) ∙ ap length same ∙ length-map ms (λ l. l.lifted)
 
 -- a deed comes to a line

@@ -20,3 +20,4 @@ pub mod Lifting
 pub mod Opened
 pub mod Dropping
 pub mod Drops
+pub mod LineSteps
