@@ -17,6 +17,7 @@ pub mod OctetLegal
 pub mod SessionLemmas
 pub mod ChargeLemmas
 pub mod MergedLemmas
+pub mod GatherLemmas
 pub mod BusyLemmas
 pub mod PauseLemmas
 pub mod LineLemmas

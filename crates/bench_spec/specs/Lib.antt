@@ -29,3 +29,4 @@ pub mod OctetExamples
 pub mod Taken
 pub mod Debug
 pub mod Desks
+pub mod DebugExamples
