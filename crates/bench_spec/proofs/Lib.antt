@@ -11,9 +11,13 @@ pub mod SameLemmas
 pub mod OrderLemmas
 pub mod PermitLemmas
 pub mod TextLemmas
+pub mod PlayedLemmas
+pub mod OctetLemmas
+pub mod OctetLegal
 pub mod SessionLemmas
 pub mod ChargeLemmas
 pub mod MergedLemmas
+pub mod GatherLemmas
 pub mod BusyLemmas
 pub mod PauseLemmas
 pub mod LineLemmas

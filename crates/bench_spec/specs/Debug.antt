@@ -17,8 +17,7 @@ use Rattle.bench_spec.specs.Taken.{GoesBackTo, Run, Takes, shown}
 use Rattle.bench_spec.specs.World.{Breakpoint, first_met}
 
 -- a debugger: its world; its script and the place in it of the next step; of each step that it took and did not take
--- back the place in
--- the script; and the breakpoints that are set, with how many ever were
+-- back the place in the script; and the breakpoints that are set, with how many ever were
 pub record Debugging : Type 0 where
   pub world : Run
   pub script : List Step
@@ -40,8 +39,8 @@ pub data Command : Type 0 where
   Where : Command
 
 -- what is replied: an entry; the end of the script; a place; a place where a breakpoint was met, or the script's end;
--- the number of a
--- breakpoint that was set or cleared; a machine; a row; totals; the place, and the places in the script and at its end
+-- the number of a breakpoint that was set or cleared; a machine; a row; totals; the place, and the places in the script
+-- and at its end
 pub data Reply : Type 0 where
   Did : Entry → Reply
   End : Reply

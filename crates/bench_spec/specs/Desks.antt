@@ -17,8 +17,7 @@ use Rattle.bench_spec.specs.Settings.{Settings}
 use Rattle.bench_spec.specs.Taken.{Run, opened, with_log}
 
 -- why a tell or a look is refused: there is no such machine or event, the inbox has as many items as may wait, or the
--- shard's counts
--- contradict the desk's own
+-- shard's counts contradict the desk's own
 pub data DeskFault : Type 0 where
   Unknown : DeskFault
   Full : DeskFault
@@ -74,8 +73,7 @@ pub record IsLongest (settings : Settings) (log : List Entry) (n : ℕ) : Type 0
   pub longest : n < length log → IsLegal settings (take (n + 1) log) → ⊥
 
 -- what parts are gathered to: the world of the log as which they are merged, where that is legal; else the length of
--- its longest front
--- that is, or 0 where the stamps give no such log
+-- its longest front that is, or 0 where the stamps give no such log
 abbrev pub Gathers : Settings → Parts → Result Run ℕ → Type 0
 Gathers settings parts (Ok world) =
     (log : List Entry) × IsMerged settings parts log × IsLegal settings log × (world ≡ with_log (opened settings) log)

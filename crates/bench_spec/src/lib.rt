@@ -2,7 +2,7 @@
 //!
 //! | File of `specs/` | What it has |
 //! |---|---|
-//! | `Settings`, `Rules`, `Opening` | what a bench is opened with, what octets mean to its lines, why it is not opened |
+//! | `Settings`, `Rules`, `Opening` | what a bench is opened with, what octets mean to it, why it is not opened |
 //! | `Lines`, `Machines`, `Items`, `Booked`, `Sent`, `Own` | views of a log: each is what one entry gives, joined |
 //! | `Refusal` | why a step is refused |
 //! | `Legal` | which logs are right |
@@ -17,8 +17,8 @@ mod law;
 mod opening;
 
 pub use example::{
-    busy_log_is_legal, charge_log_is_legal, charge_log_is_merged, example_is_legal,
-    refused_log_is_legal, session_log_is_legal,
+    busy_log_is_legal, charge_log_is_gathered, charge_log_is_legal, charge_log_is_merged,
+    example_is_legal, octet_log_is_legal, refused_log_is_legal, session_log_is_legal,
 };
 pub use law::{
     fronts_are_legal, legal_book_is_answered, legal_goes_back, legal_goes_on, legal_is_own_run,
