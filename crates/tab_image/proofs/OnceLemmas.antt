@@ -3,7 +3,8 @@ use Rattle.tab_asm.specs.Formats.{Instruction}
 use Rattle.tab_asm.specs.Paths.{StandsAt, IsPath, GoesOn, next_of, Outcome, end_of, LeadsTo, Reaches}
 use Rattle.tab_load.specs.Faults.{format_of, code_limit}
 use Rattle.tab_load.specs.declared.counts.Format.{Format}
-use Rattle.tab_image.proofs.OctetLemmas.{same-instruction, whole-fits}
+use Rattle.tab_image.proofs.OctetLemmas.{whole-fits}
+use Rattle.tab_load.proofs.OnlyLemmas.{same-instruction}
 
 -- at an offset stands one instruction at most
 stands-once : (format : Format) (code : List ℕ) (offset : ℕ) (one other : Instruction) → length code < code_limit format → StandsAt (format_of format) code offset one → StandsAt (format_of format) code offset other → one ≡ other

@@ -19,7 +19,7 @@ use Rattle.tab_load.proofs.ScanLemmas.{count-more}
 use Rattle.tab_image.specs.RunBy.{says}
 use Rattle.tab_image.specs.Walks.{ArePlaces, IsAt}
 use Rattle.tab_image.specs.declared.walk.Walk.{Walk}
-use Rattle.tab_image.proofs.OctetLemmas.{same-instruction}
+use Rattle.tab_load.proofs.OnlyLemmas.{same-instruction}
 
 -- an offset to which a jump may lead lies in the code
 lands-in : (program : Loaded) (instructions : List Instruction) (offset : ℕ) → IsSound program.format (counts_of program.image) program.image.code program.image.entries instructions → lands (landings program.format instructions) offset ≡ true → offset < length program.image.code

@@ -5,3 +5,4 @@ pub mod CheckLemmas
 pub mod RefusalLemmas
 pub mod BodyLemmas
 pub mod PromiseLemmas
+pub mod OnlyLemmas

@@ -123,6 +123,10 @@ abbrev pub IsRefusal : (ℕ → ImageFault → Type 0) → LoadError → Type 0
 IsRefusal Wrong (Refused fault) = Wrong fault.at fault.code
 IsRefusal Wrong NoMemory = Unit {0}
 
+-- no other fault is in that relation to the image, and it is in no other place
+abbrev pub IsOnly : (ℕ → ImageFault → Type 0) → ℕ → ImageFault → Type 0
+IsOnly Wrong at fault = (other_at : ℕ) (other : ImageFault) → Wrong other_at other → (other_at ≡ at) × (other ≡ fault)
+
 -- what holds where memory was wanting
 abbrev pub AtNoMemory : Type 0 → LoadError → Type 0
 AtNoMemory Holds NoMemory = Holds

@@ -3,7 +3,7 @@
 ghost use Rattle.std.specs.Prelude.{◌≡◌, ◌++◌, ◌<◌, ◌+◌, ◌-◌, ◌≤◌, length, false, None, Some, OnOk, IfOk, IfErr};
 ghost use Rattle.tab_load.specs.Code.{StandsAt, StepWrong, IsStepFine, marks_of, end_at};
 ghost use Rattle.tab_load.specs.Code.{instruction_of, Fits, size_of, is_landing, landings, IsScanned};
-ghost use Rattle.tab_load.specs.Code.{ScanWrong, IsRefusal, instruction_fault, octets_fault};
+ghost use Rattle.tab_load.specs.Code.{ScanWrong, IsOnly, IsRefusal, instruction_fault, octets_fault};
 
 use crate::counts::{Counts, Format};
 use crate::fault::{ImageFault, LoadError, fault_at};
@@ -109,6 +109,7 @@ pub(crate) fn read_code(
     ensures ok { IfOk result (λ scan. IsScanned format counts.now code.now scan) }
     ensures end { IfOk result (λ scan. scan.at ≡ length code.now) }
     ensures err { IfErr result (IsRefusal (ScanWrong format counts.now code.now begin whole)) }
+    ensures only { IfErr result (IsRefusal (IsOnly (ScanWrong format counts.now code.now begin whole))) }
 {
     let mut scan = Scan {
         at: 0,

@@ -1,5 +1,5 @@
 //! Steps over a list of events.
-ghost use Rattle.std.specs.Prelude.{map, IfOk};
+ghost use Rattle.std.specs.Prelude.{◌≡◌, [], map, IfOk, IsOk};
 ghost use Rattle.tab_step.specs.Bind.{IsBoundTo};
 ghost use Rattle.tab_law.specs.Books.{NamedPermits};
 ghost use Rattle.tab_step.specs.Runs.{IsRun, AreSteps};
@@ -11,7 +11,7 @@ use std::alloc::{AllocError, Global};
 use tab_call::Registry;
 
 /// The steps of a machine over a list of events, from a first state, one for each event. Each holds
-/// room for all its deeds, some kilobytes: a long list takes much memory.
+/// room for all its deeds, some kilobytes: a long list takes much memory. No events take none.
 pub fn run(
     alloc: Global,
     bound: &Bound,
@@ -24,6 +24,7 @@ pub fn run(
         (map (λ step. step.after) steps.items) (map (λ step. step.deeds) steps.items)) }
     ensures steps { IfOk result (λ steps. AreSteps (NamedPermits registry.now.book) bound.now.table registry.now.book
         first.now events.now steps.items) }
+    ensures none { events.now ≡ [] → IsOk result }
 {
     let mut steps = Vec::with_capacity(alloc, events.len())?;
     let mut now = *first;
