@@ -1,5 +1,5 @@
 -- The answer that tells a fault (RFC 6733 sections 6.2, 7.1.3, 7.2 and 7.5).
-use Rattle.std.specs.Prelude.{ℕ, ◌/◌, ◌==◌, true, false, List, [], Option}
+use Rattle.std.specs.Prelude.{ℕ, ◌⊎◌, ◌<◌, ◌/◌, ◌==◌, true, false, List, [], length, Option, IsSome}
 use Rattle.std.specs.Option.{option_map}
 use Rattle.dia_avp.specs.Encoding.{encoded}
 use Rattle.base_codes.specs.ResultCodes.{number_of}
@@ -24,6 +24,10 @@ answer_header request code = record {
   hop_by_hop = request.hop_by_hop;
   end_to_end = request.end_to_end;
 }
+
+-- a session is named, or one of the node's names has more than 32 octets
+abbrev pub HasLongNames : Identity → Option (List ℕ) → Type 0
+HasLongNames identity session = IsSome session ⊎ (32 < length identity.host) ⊎ (32 < length identity.realm)
 
 -- the answer of a node to a request with this header, of this session, for this fault; Failed-AVP holds the AVP's encoding
 abbrev pub answer_to : Identity → Header → Option (List ℕ) → MsgFault → Command

@@ -1,9 +1,9 @@
 //! The answer that tells the fault of a request.
 
-ghost use Rattle.std.specs.Prelude.{◌≡◌, ◌≤◌, ◌^◌, ◌↔◌, IfOk, IsErrOf, IsSomeAnd};
+ghost use Rattle.std.specs.Prelude.{◌≡◌, ◌≤◌, ◌^◌, ◌↔◌, ◌⊎◌, IfOk, IsErrOf, IsSome, IsSomeAnd, OnErr};
 ghost use Rattle.std.specs.Option.{option_map, option_copied};
 ghost use Rattle.dia_avp.specs.Encoding.{length_of, encoded};
-ghost use Rattle.dia_write.specs.Answer.{made, answer_header, answer_to};
+ghost use Rattle.dia_write.specs.Answer.{made, answer_header, answer_to, HasLongNames};
 
 use dia_avp::{Avp, AvpList, Octets, WriteError, write_avp};
 use dia_command::{Command, ErrorAnswer, Flags, Header, Text, TypedAvp};
@@ -57,6 +57,7 @@ fn failed_value(alloc: Global, avp: &Avp) -> Result<Octets, WriteError>
 
 fn failed_field(alloc: Global, failed: &Option<Avp>) -> Result<Option<TypedAvp<Octets>>, WriteError>
     ensures value { IfOk result (λ f. f ≡ option_map (λ a. made (encoded a)) failed.now) }
+    ensures memory { OnErr result (IsSome failed.now) }
     ensures too_long { IsErrOf result WriteError.LengthOver24Bits ↔ IsSomeAnd failed.now (λ a. 2 ^ 24 ≤ length_of a) }
 {
     match failed {
@@ -66,7 +67,8 @@ fn failed_field(alloc: Global, failed: &Option<Avp>) -> Result<Option<TypedAvp<O
 }
 
 fn session_field(alloc: Global, session: Option<&str>) -> Result<Option<TypedAvp<Text>>, AllocError>
-    ensures { IfOk result (λ s. s ≡ option_map made (option_copied session.entry)) }
+    ensures value { IfOk result (λ s. s ≡ option_map made (option_copied session.entry)) }
+    ensures memory { OnErr result (IsSome (option_copied session.entry)) }
 {
     match session {
         None => Ok(None),
@@ -80,7 +82,8 @@ fn named(
     identity: &Identity,
     session: Option<&str>,
 ) -> Result<(Option<TypedAvp<Text>>, TypedAvp<Octets>, TypedAvp<Octets>), AllocError>
-    ensures { IfOk result (λ n. n ≡ (option_map made (option_copied session.entry), made identity.now.host, made identity.now.realm)) }
+    ensures value { IfOk result (λ n. n ≡ (option_map made (option_copied session.entry), made identity.now.host, made identity.now.realm)) }
+    ensures memory { OnErr result (HasLongNames identity.now (option_copied session.entry)) }
 {
     let session_id = session_field(alloc, session)?;
     let host = identity.host.copy(alloc)?;
@@ -103,6 +106,9 @@ pub fn error_answer(
 
     // A failed AVP too long for 24 bits is refused, whatever the memory.
     ensures too_long { IsErrOf result WriteError.LengthOver24Bits ↔ IsSomeAnd fault.now.failed (λ a. 2 ^ 24 ≤ length_of a) }
+
+    // No memory is needed without a session and a failed AVP, where the node's names have at most 32 octets each.
+    ensures memory { OnErr result (IsSome fault.now.failed ⊎ HasLongNames identity.now (option_copied session.entry)) }
 {
     let failed_avp = failed_field(alloc, &fault.failed)?;
     let (session_id, origin_host, origin_realm) = named(alloc, identity, session)?;
