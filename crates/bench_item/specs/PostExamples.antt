@@ -88,8 +88,8 @@ pub not_told : posts_of node (peer_at 1) (deed_of deeds.Unlisted (4096 ∷ 0 ∷
 unfolding coded
 not_told = refl
 
--- an election that is won, for as long as register 1 is line 7; one that is lost
-pub won : posts_of node (peer_at 0) (deed_of deeds.Elect (1 ∷ 7 ∷ []) 62) ≡ ToMachine (record { key = key_of Peer (codes "c.example"); event = record { kind = 4; facts = no_facts }; condition = Some (record { register = 1; value = 7 }); session = [] }) ∷ []
+-- an election that is won, for as long as register 1 is line 7, with the session of its event; one that is lost
+pub won : posts_of node (peer_at 0) (deed_of deeds.Elect (1 ∷ 7 ∷ []) 62) ≡ ToMachine (record { key = key_of Peer (codes "c.example"); event = record { kind = 4; facts = no_facts }; condition = Some (record { register = 1; value = 7 }); session = codes "c1;1" }) ∷ []
 unfolding coded
 won = refl
 

@@ -107,10 +107,11 @@ posts_by node doer deed deeds.SndDwa = to_line doer deed
 posts_by node doer deed deeds.SndDpr = to_line doer deed
 posts_by node doer deed deeds.SndDpa = to_line doer deed
 posts_by node doer deed deeds.SndMsg = if has_session doer && is_message deed.a then to_line doer deed else []
--- the election is won (RFC 6733 section 5.6.4), for as long as the machine keeps that line
+-- the election is won (RFC 6733 section 5.6.4), for as long as the machine keeps that line; what its event handed on is handed on
 posts_by node doer deed deeds.Elect =
     if slice_index deed.a 0 == 1
-    then event_for node doer.key (codes "Win-Election") no_facts (Some (record { register = R_LINE; value = slice_index deed.a 1 })) [] else []
+    then event_for node doer.key (codes "Win-Election") no_facts (Some (record { register = R_LINE; value = slice_index deed.a 1 })) (handed_on doer)
+    else []
 posts_by node doer deed code = []
 
 abbrev pub posts_of : Node → Doer → Deed → List Item

@@ -106,7 +106,7 @@ pub end_none : (m : Meaning) (line : ℕ) (opening : Opening) (acknowledged : Bo
 end_none m line opening acknowledged stream c f = rw (c, f) refl
 
 -- what a piece adds to the posts
-more_posts : (m : Meaning) (line : ℕ) (opening : Opening) (acknowledged : Bool) (stream piece : List ℕ) (new : List Turn) (at : Heard) → end_event opening acknowledged ≡ event.Disconnected
+pub more_posts : (m : Meaning) (line : ℕ) (opening : Opening) (acknowledged : Bool) (stream piece : List ℕ) (new : List Turn) (at : Heard) → end_event opening acknowledged ≡ event.Disconnected
     → list_any does_close (turns m line opening stream) ≡ false → fault_in stream ≡ None
     → at ≡ after_turns (at_first line opening) (turns m line opening stream)
     → turns m line opening (stream ++ piece) ≡ turns m line opening stream ++ new

@@ -45,7 +45,9 @@ session_posts node item deed =
 abbrev pub elect_posts : Node → MachineItem → Deed → List Item
 elect_posts node item deed =
     if slice_index deed.a 0 == 1
-    then event_for node item.key (codes "Win-Election") no_facts (Some (record { register = R_LINE; value = slice_index deed.a 1 })) [] else []
+    then event_for node item.key (codes "Win-Election") no_facts (Some (record { register = R_LINE; value = slice_index deed.a 1 }))
+        (handed_on (doer_of 0 item))
+    else []
 
 -- a connection to the peer whose machine has that number
 abbrev pub dial_posts : Configured → Deed → List Item

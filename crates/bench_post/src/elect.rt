@@ -5,12 +5,13 @@ ghost use Rattle.bench_post.specs.Groups.{elect_posts};
 ghost use Rattle.bench_item.specs.Keys.{node_of};
 
 use crate::event::{carry, event_of};
+use crate::line::handed_on;
 use base_codes::peer_register;
 use bench_item::{Condition, Item, MachineItem, Peers};
 use std::alloc::{AllocError, Global};
 use tab_law::{Deed, LawBook, PLACES};
 
-/// Tells the machine itself that it won, for as long as it keeps the line that argument 1 names.
+/// Tells the machine itself that it won, for as long as it keeps the line that argument 1 names. What its event handed on is handed on.
 pub(crate) fn elect(
     alloc: Global,
     laws: &LawBook,
@@ -35,6 +36,6 @@ pub(crate) fn elect(
         item.key.name.as_slice(),
         event,
         Some(kept),
-        b"",
+        handed_on(item),
     )
 }

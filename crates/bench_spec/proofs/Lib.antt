@@ -3,6 +3,15 @@ pub mod LegalLemmas
 pub mod BookLemmas
 pub mod PlaceLemmas
 pub mod RunLemmas
+pub mod OwnLemmas
+pub mod NumberLemmas
+pub mod BackLemmas
+pub mod SameLemmas
+pub mod OrderLemmas
+pub mod PermitLemmas
+pub mod TextLemmas
+pub mod SessionLemmas
+pub mod ChargeLemmas
 pub mod PauseLemmas
 pub mod LineLemmas
 pub mod ExampleLemmas

@@ -30,7 +30,7 @@ use Rattle.bench_spec.proofs.AfterLemmas.{flat_map-snoc}
 use Rattle.bench_spec.proofs.BookLemmas.{entry_of, moves_next}
 use Rattle.bench_spec.proofs.PlaceLemmas.{place_stays}
 
-role_sound : (a b : Role) → is_same_role a b ≡ true → a ≡ b
+pub role_sound : (a b : Role) → is_same_role a b ≡ true → a ≡ b
 role_sound Peer Peer h = refl
 role_sound Peer Client h = absurd (false≢true h)
 role_sound Peer Server h = absurd (false≢true h)
@@ -41,24 +41,24 @@ role_sound Server Peer h = absurd (false≢true h)
 role_sound Server Client h = absurd (false≢true h)
 role_sound Server Server h = refl
 
-role_itself : (a : Role) → is_same_role a a ≡ true
+pub role_itself : (a : Role) → is_same_role a a ≡ true
 role_itself Peer = refl
 role_itself Client = refl
 role_itself Server = refl
 
-both_true : (a b : Bool) → (a && b) ≡ true → (a ≡ true) × (b ≡ true)
+pub both_true : (a b : Bool) → (a && b) ≡ true → (a ≡ true) × (b ≡ true)
 both_true true b h = (refl, h)
 both_true false b h = absurd (false≢true h)
 
 same_fields : (r s : Role) (n m : List ℕ) → r ≡ s → n ≡ m → key_of r n ≡ key_of s m
 same_fields r s n m e f = rw (e, f) refl
 
-key_sound : (a b : Key) → is_same_key a b ≡ true → a ≡ b
+pub key_sound : (a b : Key) → is_same_key a b ≡ true → a ≡ b
 key_sound a b h =
     let parts = both_true (is_same_role a.role b.role) (bytes_eq a.name b.name) h in
     same_fields a.role b.role a.name b.name (role_sound a.role b.role parts.0) ((bytes_eq-Decides a.name b.name).0 parts.1)
 
-key_itself : (a : Key) → is_same_key a a ≡ true
+pub key_itself : (a : Key) → is_same_key a a ≡ true
 key_itself a = rw (role_itself a.role, (bytes_eq-Decides a.name a.name).1 refl) refl
 
 itself : (n : ℕ) → (n == n) ≡ true
@@ -69,8 +69,8 @@ keys_of_move : (node : Node) (step : Step) (item : MachineItem) (moved : Moved) 
 keys_of_move node step item moved = ap (λ (b : Bool). map (λ (i : MachineItem). i.key) (if b then item ∷ [] else [])) (itself (home node.shards item.key.name))
 
 -- so its number stays from there on
-number_stays : (node : Node) (past rest : List Entry) (step : Step) (item : MachineItem) (moved : Moved) → number_for node (past ++ entry_of step (Some (ToMachine item)) (Some (Move moved)) ∷ rest) item.key ≡ number_for node past item.key
-number_stays node past rest step item moved = ap (number_at shard) (ap (λ ks. position_or_len (λ k. is_same_key k item.key) (distinct is_same_key ks)) in_order ∙ place_stays is_same_key key_sound (peers ++ flat_map (keys_in node shard) past) item.key (flat_map (keys_in node shard) rest) (key_itself item.key))
+pub keys_apart : (node : Node) (past rest : List Entry) (step : Step) (item : MachineItem) (moved : Moved) → map (key_of Peer) (peers_in node (home node.shards item.key.name)) ++ flat_map (keys_in node (home node.shards item.key.name)) (past ++ entry_of step (Some (ToMachine item)) (Some (Move moved)) ∷ rest) ≡ (map (key_of Peer) (peers_in node (home node.shards item.key.name)) ++ flat_map (keys_in node (home node.shards item.key.name)) past) ++ item.key ∷ flat_map (keys_in node (home node.shards item.key.name)) rest
+keys_apart node past rest step item moved = ap (λ ks. peers ++ ks) (flat_map-append (keys_in node shard) past (e ∷ rest) ∙ ap (λ ks. flat_map (keys_in node shard) past ++ (ks ++ flat_map (keys_in node shard) rest)) (keys_of_move node step item moved)) ∙ sym (append_assoc peers (flat_map (keys_in node shard) past) (item.key ∷ flat_map (keys_in node shard) rest))
   where
     shard : ℕ
     shard = home node.shards item.key.name
@@ -81,15 +81,21 @@ number_stays node past rest step item moved = ap (number_at shard) (ap (λ ks. p
     e : Entry
     e = entry_of step (Some (ToMachine item)) (Some (Move moved))
 
-    in_order : peers ++ flat_map (keys_in node shard) (past ++ e ∷ rest) ≡ (peers ++ flat_map (keys_in node shard) past) ++ item.key ∷ flat_map (keys_in node shard) rest
-    in_order = ap (λ ks. peers ++ ks) (flat_map-append (keys_in node shard) past (e ∷ rest) ∙ ap (λ ks. flat_map (keys_in node shard) past ++ (ks ++ flat_map (keys_in node shard) rest)) (keys_of_move node step item moved)) ∙ sym (append_assoc peers (flat_map (keys_in node shard) past) (item.key ∷ flat_map (keys_in node shard) rest))
+pub number_stays : (node : Node) (past rest : List Entry) (step : Step) (item : MachineItem) (moved : Moved) → number_for node (past ++ entry_of step (Some (ToMachine item)) (Some (Move moved)) ∷ rest) item.key ≡ number_for node past item.key
+number_stays node past rest step item moved = ap (number_at shard) (ap (λ ks. position_or_len (λ k. is_same_key k item.key) (distinct is_same_key ks)) (keys_apart node past rest step item moved) ∙ place_stays is_same_key key_sound (peers ++ flat_map (keys_in node shard) past) item.key (flat_map (keys_in node shard) rest) (key_itself item.key))
+  where
+    shard : ℕ
+    shard = home node.shards item.key.name
+
+    peers : List Key
+    peers = map (key_of Peer) (peers_in node shard)
 
 -- runs, one behind the other
 run_append : (settings : Settings) (table : Contents) (s : MachineState) (xs ys : List Moved) → IsRun settings table s xs → IsRun settings table (state_after s xs) ys → IsRun settings table s (xs ++ ys)
 run_append settings table s [] ys h k = k
 run_append settings table s (x ∷ xs) ys h k = (h.0, h.1, run_append settings table x.after xs ys h.2 k)
 
-after_append : (s : MachineState) (xs ys : List Moved) → state_after s (xs ++ ys) ≡ state_after (state_after s xs) ys
+pub after_append : (s : MachineState) (xs ys : List Moved) → state_after s (xs ++ ys) ≡ state_after (state_after s xs) ys
 after_append s [] ys = refl
 after_append s (x ∷ xs) ys = after_append x.after xs ys
 

@@ -23,7 +23,6 @@ use Rattle.bench_item.specs.declared.key.Role.TheVariants.{Peer, Server}
 use Rattle.bench_item.specs.declared.source.Source.TheVariants.{Desk, Shard}
 use Rattle.bench_item.specs.declared.step.Step.{Step}
 use Rattle.bench_item.specs.declared.step.Step.TheVariants.{Drop, Lift, Told, Work}
-use Rattle.bench_item.specs.Lines.{LineRules}
 use Rattle.bench_spec.specs.Settings.{Settings}
 
 -- the kinds Start, Timeout and Initial; one action that arms the timer anew for 30 ticks, and one that reserves 60 units
@@ -71,10 +70,6 @@ server_table = record {
   lines = 2 ∷ [];
 }
 
--- lines to which octets mean nothing
-abbrev pub silent : LineRules
-silent = record { posts = λ opening happened. []; ends = λ opening happened piece. false; answers = λ opening happened piece. [] }
-
 -- one shard, one page, one desk, the peer `a`, and account 100 with 100 units
 abbrev pub settings : Settings
 settings = record {
@@ -83,10 +78,11 @@ settings = record {
   client = peer_table;
   server = server_table;
   identity = record { host = codes "n"; realm = codes "n"; address = 127 ∷ 0 ∷ 0 ∷ 1 ∷ [] };
+  dictionary = [];
+  default_units = 0;
   accounts = record { id = 100; given = 100 } ∷ [];
   pages = 1;
   desks = 1;
-  rules = λ line. silent;
 }
 
 abbrev pub peer_a : Key

@@ -1,5 +1,5 @@
 -- What the small log says, computed; and logs that differ in one value and are wrong. A wrong definition doesn't pass these lines.
-use Rattle.std.specs.Prelude.{◌≡◌, ◌≢◌, ℕ, ◌==◌, ◌++◌, ◌&&◌, Bool, true, false, List, [], ◌∷◌, Option, Some, None, take, refl, option_map}
+use Rattle.std.specs.Prelude.{◌≡◌, ◌≢◌, ℕ, ◌==◌, ◌++◌, ◌&&◌, Bool, true, false, List, [], ◌∷◌, Option, Some, None, map, slice_index, take, refl, option_map}
 use Rattle.std.proofs.Common.{ap, sym}
 use Rattle.std.proofs.Math.Nat.{le-suc}
 use Rattle.std.proofs.lemmas.Bool.{false≢true}
@@ -7,6 +7,8 @@ use Rattle.base_codes.specs.DeedCodes.{coded}
 use Rattle.acct_book.specs.Sums.{debited, left_where, own, unpaid}
 use Rattle.acct_totals.specs.declared.op.Outcome.{Outcome}
 use Rattle.acct_totals.specs.declared.op.Outcome.TheVariants.{Done, Refused}
+use Rattle.server_wants.specs.declared.want.Asked.TheVariants.{Several}
+use Rattle.server_wants.specs.declared.want.Want.{Want}
 use Rattle.tab_step.specs.Moves.{row_taken}
 use Rattle.bench_item.specs.declared.entry.Entry.{Entry}
 use Rattle.bench_item.specs.declared.entry.Moved.{Moved}
@@ -221,3 +223,16 @@ no_late_move moved follows = late_move moved follows.parts
 -- or a Reserve of 60 units that is done where 40 are left
 pub no_second_reserve : MayFollow settings (reserved_by (Done 60 0) ∷ []) (reserved_by (Done 60 0)) → ⊥
 no_second_reserve follows = reserved_again (sym follows.parts.2.outcomes)
+
+-- several services of an account that is not there: each slot is answered 5030, and so is the request
+abbrev unknown_want : Want
+unknown_want = record { account = 7; session = 1; asked = Several (Some (record { group = 2; used = 0; want = 60 }) ∷ Some (record { group = 3; used = 5; want = 0 }) ∷ None ∷ None ∷ []) }
+
+abbrev unknown_facts : List ℕ
+unknown_facts = (event_with_quote (book_at settings []) (Some unknown_want) asking.event).facts
+
+pub unknown_request : slice_index unknown_facts 12 ≡ 5030
+unknown_request = refl
+
+pub unknown_slots : map (slice_index unknown_facts) (21 ∷ 29 ∷ 37 ∷ 45 ∷ []) ≡ 5030 ∷ 5030 ∷ 0 ∷ 0 ∷ []
+unknown_slots = refl

@@ -63,7 +63,7 @@ is_firing step = false
 
 -- what each source has put out
 abbrev pub posts : Settings → List Entry → Source → List Item
-posts settings log (Line line) = line_posts settings.rules log line
+posts settings log (Line line) = line_posts settings log line
 posts settings log (Shard shard) = flat_map (λ e. if is_work shard e.step then work_posts settings.node e else []) log
 posts settings log (Desk desk) = flat_map (λ e. desk_posts desk e.step) log
 posts settings log Clock = flat_map (λ e. if is_firing e.step then option_to_list e.item else []) log

@@ -1,4 +1,7 @@
 pub mod Settings
+pub mod Rules
+pub mod SameLaws
+pub mod Opening
 pub mod Lines
 pub mod Machines
 pub mod Items
@@ -6,9 +9,14 @@ pub mod Booked
 pub mod Sent
 pub mod Refusal
 pub mod Legal
+pub mod Own
+pub mod Numbers
 pub mod World
 pub mod Merged
 pub mod ExampleLog
+pub mod SessionLog
+pub mod ChargeLog
 pub mod LineExamples
 pub mod Examples
+pub mod OpeningExamples
 pub mod Taken

@@ -9,7 +9,11 @@ use Rattle.bench_item.specs.declared.line_state.LineState.TheVariants as at
 use Rattle.bench_item.specs.declared.source.Source.TheVariants.{Shard}
 use Rattle.bench_item.specs.declared.step.Step.TheVariants as steps
 use Rattle.bench_item.specs.declared.step.StepFault.TheVariants as faults
-use Rattle.bench_spec.specs.ExampleLog.{carried, settings, silent}
+use Rattle.bench_line.specs.Messages.{cut_by, messages, rest_of}
+use Rattle.bench_line.specs.Talk.{posts_by, turns}
+use Rattle.line_message.specs.Posts.{at_line, event_for}
+use Rattle.line_message.specs.Turned.{told, turned}
+use Rattle.bench_spec.specs.ExampleLog.{carried, settings}
 use Rattle.bench_spec.specs.Lines.{line_state, openings}
 use Rattle.bench_spec.specs.Refusal.{refusal}
 use Rattle.bench_item.specs.declared.opening.Opening.TheVariants.{Accepted, Dialled}
@@ -34,23 +38,23 @@ pub opened : openings lines ≡ Accepted ∷ Dialled 0 3 ∷ []
 opened = refl
 
 -- a line without a number
-pub line_0 : line_state (λ line. silent) lines 0 ≡ None
+pub line_0 : line_state settings lines 0 ≡ None
 line_0 = refl
 
-pub line_1_open : line_state (λ line. silent) (take 4 lines) 1 ≡ Some at.Open
+pub line_1_open : line_state settings (take 4 lines) 1 ≡ Some at.Open
 line_1_open = refl
 
-pub line_1_closed : line_state (λ line. silent) lines 1 ≡ Some at.Closed
+pub line_1_closed : line_state settings lines 1 ≡ Some at.Closed
 line_1_closed = refl
 
 -- what was dropped for it before it was opened did nothing
-pub line_2_dialling : line_state (λ line. silent) (take 3 lines) 2 ≡ Some (at.Dialling 0)
+pub line_2_dialling : line_state settings (take 3 lines) 2 ≡ Some (at.Dialling 0)
 line_2_dialling = refl
 
-pub line_2_open : line_state (λ line. silent) lines 2 ≡ Some at.Open
+pub line_2_open : line_state settings lines 2 ≡ Some at.Open
 line_2_open = refl
 
-pub line_3 : line_state (λ line. silent) lines 3 ≡ None
+pub line_3 : line_state settings lines 3 ≡ None
 line_3 = refl
 
 -- octets on a line that is being dialled, on a closed one, on none
@@ -64,6 +68,7 @@ pub came_nowhere : refusal settings lines [] (steps.Came 3 []) ≡ Some faults.U
 came_nowhere = refl
 
 pub came : refusal settings lines [] (steps.Came 2 []) ≡ None
+unfolding posts_by turns messages cut_by rest_of turned told event_for at_line
 came = refl
 
 -- an acknowledgement that comes twice
@@ -71,6 +76,7 @@ pub dialled_twice : refusal settings lines [] (steps.Dialled 2) ≡ Some faults.
 dialled_twice = refl
 
 pub dialled : refusal settings (take 3 lines) [] (steps.Dialled 2) ≡ None
+unfolding posts_by turns messages cut_by rest_of turned told event_for at_line
 dialled = refl
 
 pub lost_twice : refusal settings lines [] (steps.Lost 1) ≡ Some faults.Closed

@@ -9,7 +9,9 @@ use Rattle.bench_item.specs.declared.step.Step.{Step}
 use Rattle.bench_item.specs.declared.step.Step.TheVariants as steps
 use Rattle.bench_item.specs.declared.opening.Opening.{Opening}
 use Rattle.bench_item.specs.declared.opening.Opening.TheVariants.{Accepted, Dialled}
-use Rattle.bench_item.specs.Lines.{LineStep, Acknowledged, Received, Gone, Delivered, Undialled, LineRules, state_of}
+use Rattle.bench_item.specs.Lines.{LineStep, Acknowledged, Received, Gone, Delivered, Undialled, state_of}
+use Rattle.bench_spec.specs.Rules.{rules_at}
+use Rattle.bench_spec.specs.Settings.{Settings}
 
 -- the line that an item opens where it is dropped
 abbrev pub dialled_by : Item → List Opening
@@ -59,9 +61,11 @@ abbrev pub line_steps : List Entry → ℕ → List LineStep
 line_steps log line = flat_map (line_step line) (since_opening line log)
 
 -- where a line stands, if there is one of that number
-abbrev pub line_state : (ℕ → LineRules) → List Entry → ℕ → Option LineState
-line_state rules log line = option_map (λ opening. state_of (rules line) opening (line_steps log line)) (opening_of log line)
+abbrev pub line_state : Settings → List Entry → ℕ → Option LineState
+line_state settings log line =
+    option_map (λ opening. state_of (rules_at settings line) opening (line_steps log line)) (opening_of log line)
 
 -- what a line has put out
-abbrev pub line_posts : (ℕ → LineRules) → List Entry → ℕ → List Item
-line_posts rules log line = option_map_or (λ opening. (rules line).posts opening (line_steps log line)) (opening_of log line) []
+abbrev pub line_posts : Settings → List Entry → ℕ → List Item
+line_posts settings log line =
+    option_map_or (λ opening. (rules_at settings line).posts opening (line_steps log line)) (opening_of log line) []

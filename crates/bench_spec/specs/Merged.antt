@@ -1,22 +1,26 @@
 -- Parts that were kept side by side, merged to one log by their stamps.
-use Rattle.std.specs.Prelude.{◌≡◌, ◌+◌, ℕ, ◌==◌, ◌%◌, nat_lt, Bool, true, false, List, [], ◌∷◌, ◌++◌, slice_index_or, map, filter, flat_map, length, take, unwrap_or, Option, Some, None, All, AllPairs, ◌≢◌}
+use Rattle.std.specs.Prelude.{◌≡◌, ◌≢◌, ◌≤◌, ◌+◌, ℕ, ◌==◌, ◌%◌, nat_lt, Bool, true, false, List, [], ◌∷◌, ◌++◌, slice_index_or, map, filter, flat_map, length, unwrap_or, Option, Some, None, option_to_list, All, AllPairs}
+use Rattle.std.specs.List.{zip}
 use Rattle.std.specs.List.Sorted.{IsStrictlyIncreasing}
 use Rattle.acct_totals.specs.Amounts.{account_of}
 use Rattle.acct_totals.specs.declared.op.Booked.{Booked}
+use Rattle.tab_step.specs.declared.machine.Event.{Event}
 use Rattle.tab_step.specs.declared.machine.MachineState.{MachineState}
 use Rattle.bench_item.specs.declared.entry.Entry.{Entry}
 use Rattle.bench_item.specs.Keys.{Node, home}
 use Rattle.bench_item.specs.Posts.{no_facts}
+use Rattle.bench_item.specs.Steps.{is_same_source}
 use Rattle.bench_item.specs.declared.item.Item.{Item}
 use Rattle.bench_item.specs.declared.item.Item.TheVariants.{ToMachine, ToLine, Dial, Undial, Arm, Disarm}
+use Rattle.bench_item.specs.declared.item.MachineItem.{MachineItem}
 use Rattle.bench_item.specs.declared.key.Key.{Key}
 use Rattle.bench_item.specs.declared.source.Source.{Source}
 use Rattle.bench_item.specs.declared.source.Source.TheVariants.{Line, Shard, Desk, Clock}
 use Rattle.bench_item.specs.declared.step.Step.{Step}
 use Rattle.bench_item.specs.declared.step.Step.TheVariants.{Joined, Dialled, Came, Lost, Told, Fired, Lift, Drop, Work}
 use Rattle.bench_spec.specs.Booked.{booked}
-use Rattle.bench_spec.specs.Items.{dropped, hand, is_drop, outbox, posts, worked}
-use Rattle.bench_spec.specs.Machines.{is_for, state_of}
+use Rattle.bench_spec.specs.Items.{dropped, hand, outbox, posts, worked}
+use Rattle.bench_spec.specs.Machines.{is_for, machine_item, state_of}
 use Rattle.bench_spec.specs.Settings.{Settings}
 
 -- an entry with the stamp that was drawn for it
@@ -143,19 +147,28 @@ is_item_for node shard item = false
 abbrev pub not_there : MachineState
 not_there = record { state = 0; regs = no_facts }
 
--- the first so many drops of these entries
-abbrev pub first_drops : ℕ → List Entry → List Entry
-first_drops count entries = take count (filter (λ e. is_drop e.step) entries)
+-- the items that a source dropped at a shard
+abbrev pub arrivals_in : Node → ℕ → Entry → List (Source × MachineItem)
+arrivals_in node shard e = by e.step
+  where
+    by : Step → List (Source × MachineItem)
+    by (Drop source) = map (λ item. (source, item)) (filter (is_for node shard) (flat_map machine_item (option_to_list e.item)))
+    by step = []
 
--- how many items a shard handled
-abbrev pub handled_count : ℕ → List Entry → ℕ
-handled_count shard entries = length (worked entries shard)
+-- what came to a shard, in order, each item with who dropped it
+abbrev pub arrivals : Node → List Entry → ℕ → List (Source × MachineItem)
+arrivals node log shard = flat_map (arrivals_in node shard) log
+
+-- of what came to a shard and was worked, the items that a desk had dropped: the first that came is worked first
+abbrev pub handled_of : Node → List Entry → ℕ → ℕ → List MachineItem
+handled_of node log shard desk =
+    map (λ p. p.0) (filter (λ p. is_same_source (Desk desk) p.1.0) (zip (worked log shard) (arrivals node log shard)))
 
 -- a look is right after these entries of the shard's part and these of its desk's: all that the desk had told the shard was dropped there;
--- so much of it was handled, and the rest waits; and the machine stood so
+-- so many of these items were worked, and the rest waits; and the machine stood so
 pub record IsRight (settings : Settings) (desk shard : ℕ) (of_shard of_desk : List Entry) (look : Look) : Type 0 where
   pub told : dropped of_shard (Desk desk) ≡ filter (is_item_for settings.node shard) (posts settings of_desk (Desk desk))
-  pub handled : look.handled ≡ length (dropped (first_drops (handled_count shard of_shard) of_shard) (Desk desk))
+  pub handled : look.handled ≡ length (handled_of settings.node of_shard shard desk)
   pub waiting : look.waiting + look.handled ≡ length (dropped of_shard (Desk desk))
   pub state : look.stands ≡ unwrap_or (state_of settings.node of_shard look.key) not_there
 
@@ -170,6 +183,11 @@ IsRightAt settings parts desk look =
 abbrev pub look_stamps : Parts → List ℕ
 look_stamps parts = map (λ l. l.stamp) (flat_map (λ kept. flat_map looks_kept kept) parts.desks)
 
+-- the entries of a desk's part are its tells: each event that it told a machine, and then its Lift
+pub record AreTells (desk : ℕ) (entries : List Entry) : Type 0 where
+  pub told : List (Key × Event)
+  pub steps : map (λ e. e.step) entries ≡ flat_map (λ t. Told desk t.0 t.1 ∷ Lift (Desk desk) ∷ []) told
+
 -- the log is the entries of all parts, each in just one, in the order of their stamps, which differ and rise along each part
 pub record IsMerged (settings : Settings) (parts : Parts) (log : List Entry) : Type 0 where
   pub stamped : List Stamped
@@ -183,6 +201,8 @@ pub record IsMerged (settings : Settings) (parts : Parts) (log : List Entry) : T
   pub fed : filter is_fed (map (λ e. e.step) log) ≡ parts.fed
   -- each page has what was booked on its accounts
   pub pages : (page : ℕ) → filter (λ b. account_of b.op % settings.pages == page) (booked settings.node.laws log) ≡ parts.journal page
-  -- nothing that a desk told is still on its way
+  -- only desks that there are kept anything: each Told with its Lift, and nothing that one told is still on its way
+  pub few_desks : length parts.desks ≤ settings.desks
+  pub desks_tell : (desk : ℕ) → AreTells desk (map (λ s. s.entry) (entries_of parts (OfDesk desk)))
   pub desks_done : (desk : ℕ) → (outbox settings log (Desk desk) ≡ []) × (hand log (Desk desk) ≡ [])
   pub looks_right : (desk : ℕ) → All (IsRightAt settings parts desk) (looks_of parts desk)

@@ -39,7 +39,7 @@ is_dialling state = false
 -- whether a line is closed: one that is neither open nor being dialled
 abbrev pub is_closed_line : Settings → List Entry → ℕ → Bool
 is_closed_line settings log line =
-    not (is_open (line_state settings.rules log line)) && not (is_dialling (line_state settings.rules log line))
+    not (is_open (line_state settings log line)) && not (is_dialling (line_state settings log line))
 
 abbrev pub is_source : Settings → List Entry → Source → Bool
 is_source settings log (Line line) = is_line log line
@@ -94,48 +94,80 @@ has_no_room settings log items = false
 abbrev pub lacks_work_room : Settings → List Entry → ℕ → Bool
 lacks_work_room settings log shard = nat_lt MAX_WAITING (length (outbox settings log (Shard shard)) + WORK_ROOM)
 
--- what stands in the way of a step, each thing with its fault, in the order in which they are told
-abbrev pub reasons : Settings → List Bool → List Entry → Step → List (Bool × StepFault)
-reasons settings paused log Joined = (is_log_full log || has_all_lines log, Full) ∷ []
-reasons settings paused log (Dialled line) =
+-- whether no more items may wait in a line's outbox, or the log is full
+abbrev pub is_line_full : Settings → List Entry → ℕ → Bool
+is_line_full settings log line = is_log_full log || is_crowded (outbox settings log (Line line))
+
+-- what stands in the way of what happens to a line
+abbrev pub dialled_reasons : Settings → List Entry → ℕ → List (Bool × StepFault)
+dialled_reasons settings log line =
     (not (is_line log line), Unknown)
     ∷ (is_closed_line settings log line, Closed)
-    ∷ (not (is_dialling (line_state settings.rules log line)), Nothing)
-    ∷ (is_log_full log || is_crowded (outbox settings log (Line line)), Full)
+    ∷ (not (is_dialling (line_state settings log line)), Nothing)
+    ∷ (is_line_full settings log line, Full)
     ∷ []
-reasons settings paused log (Came line piece) =
+
+abbrev pub came_reasons : Settings → List Entry → ℕ → List (Bool × StepFault)
+came_reasons settings log line =
     (not (is_line log line), Unknown)
-    ∷ (not (is_open (line_state settings.rules log line)), Closed)
-    ∷ (is_log_full log || is_crowded (outbox settings log (Line line)), Full)
+    ∷ (not (is_open (line_state settings log line)), Closed)
+    ∷ (is_line_full settings log line, Full)
     ∷ []
-reasons settings paused log (Lost line) =
+
+abbrev pub lost_reasons : Settings → List Entry → ℕ → List (Bool × StepFault)
+lost_reasons settings log line =
     (not (is_line log line), Unknown)
     ∷ (is_closed_line settings log line, Closed)
-    ∷ (is_log_full log || is_crowded (outbox settings log (Line line)), Full)
+    ∷ (is_line_full settings log line, Full)
     ∷ []
-reasons settings paused log (Told desk key event) =
-    (not (nat_lt desk settings.desks && may_tell settings key event.kind), Unknown) ∷ (is_log_full log, Full) ∷ []
-reasons settings paused log (Fired machine generation) =
+
+-- of what a desk tells, and of a timer that fires
+abbrev pub told_reasons : Settings → List Entry → ℕ → Key → ℕ → List (Bool × StepFault)
+told_reasons settings log desk key kind =
+    (not (nat_lt desk settings.desks && may_tell settings key kind), Unknown) ∷ (is_log_full log, Full) ∷ []
+
+abbrev pub fired_reasons : Settings → List Entry → ℕ → ℕ → List (Bool × StepFault)
+fired_reasons settings log machine generation =
     (not (nat_lt (shard_of machine) settings.node.shards), Unknown)
     ∷ (not (is_armed log machine generation), Nothing)
     ∷ (is_log_full log, Full)
     ∷ []
-reasons settings paused log (Lift source) =
+
+-- of carrying an item
+abbrev pub lift_reasons : Settings → List Entry → Source → List (Bool × StepFault)
+lift_reasons settings log source =
     (not (is_source settings log source), Unknown)
     ∷ (is_empty (outbox settings log source) || not (is_empty (hand log source)), Nothing)
     ∷ (is_log_full log, Full)
     ∷ []
-reasons settings paused log (Drop source) =
+
+abbrev pub drop_reasons : Settings → List Entry → Source → List (Bool × StepFault)
+drop_reasons settings log source =
     (not (is_source settings log source), Unknown)
     ∷ (is_empty (hand log source), Nothing)
     ∷ (is_log_full log || has_no_room settings log (hand log source), Full)
     ∷ []
-reasons settings paused log (Work shard) =
+
+-- and of handling one
+abbrev pub work_reasons : Settings → List Bool → List Entry → ℕ → List (Bool × StepFault)
+work_reasons settings paused log shard =
     (not (nat_lt shard settings.node.shards), Unknown)
     ∷ (is_paused paused shard, Paused)
     ∷ (is_empty (inbox settings.node log shard), Nothing)
     ∷ (is_log_full log || lacks_work_room settings log shard, Full)
     ∷ []
+
+-- what stands in the way of a step, each thing with its fault, in the order in which they are told
+abbrev pub reasons : Settings → List Bool → List Entry → Step → List (Bool × StepFault)
+reasons settings paused log Joined = (is_log_full log || has_all_lines log, Full) ∷ []
+reasons settings paused log (Dialled line) = dialled_reasons settings log line
+reasons settings paused log (Came line piece) = came_reasons settings log line
+reasons settings paused log (Lost line) = lost_reasons settings log line
+reasons settings paused log (Told desk key event) = told_reasons settings log desk key event.kind
+reasons settings paused log (Fired machine generation) = fired_reasons settings log machine generation
+reasons settings paused log (Lift source) = lift_reasons settings log source
+reasons settings paused log (Drop source) = drop_reasons settings log source
+reasons settings paused log (Work shard) = work_reasons settings paused log shard
 
 -- why a step is refused, memory aside: the first of the reasons that holds; none where it may be taken
 abbrev pub refusal : Settings → List Entry → List Bool → Step → Option StepFault

@@ -7,6 +7,7 @@ use Rattle.bench_item.specs.declared.step.StepFault.TheVariants.{NoMemory}
 use Rattle.bench_spec.specs.Legal.{MayFollow}
 use Rattle.bench_spec.specs.Refusal.{refusal}
 use Rattle.bench_spec.specs.Settings.{Settings}
+use Rattle.bench_spec.specs.World.{Shown, world_of}
 
 -- what a world is to a contract: what it was opened with, its log, and which shards are paused; all else is what the log says
 pub record Run : Type 0 where
@@ -57,3 +58,17 @@ pub record Replays (old new : Run) (entry : Entry) : Type 0 where
 pub record GoesBackTo (old new : Run) : Type 0 where
   pub entry : Entry
   pub grown : old ≡ with_log new (new.log ++ entry ∷ [])
+
+-- all that a world shows
+abbrev pub shown : Run → Shown
+shown run = world_of run.settings run.log
+
+-- a step and then back is no step: the world is the one before it, and shows the same
+abbrev pub StepThenBack : Type 0
+StepThenBack =
+    (old mid new : Run) (step : Step) → Takes old mid step → GoesBackTo mid new → (new ≡ old) × (shown new ≡ shown old)
+
+-- and so is an entry that was replayed and then back
+abbrev pub ReplayThenBack : Type 0
+ReplayThenBack =
+    (old mid new : Run) (entry : Entry) → Replays old mid entry → GoesBackTo mid new → (new ≡ old) × (shown new ≡ shown old)

@@ -1,13 +1,13 @@
 -- The bench at a place of its log, and where a breakpoint is met.
-use Rattle.std.specs.Prelude.{ℕ, ◌==◌, ◌&&◌, ◌||◌, Bool, false, List, [], find, flat_map, take, Option, option_map, option_to_list}
-use Rattle.std.specs.List.{list_any}
+use Rattle.std.specs.Prelude.{ℕ, min, ◌==◌, ◌&&◌, ◌||◌, Bool, false, List, [], ◌∷◌, map, filter, flat_map, take, Option, None, Some, option_to_list}
+use Rattle.std.specs.List.{enumerate_from, list_any, range_with_len}
 use Rattle.std.specs.Option.{option_map_or}
 use Rattle.acct_book.specs.Book.{totals_of}
 use Rattle.acct_totals.specs.declared.answer.Totals.{Totals}
 use Rattle.tab_step.specs.declared.machine.MachineState.{MachineState}
 use Rattle.bench_item.specs.declared.entry.Entry.{Entry}
 use Rattle.bench_item.specs.declared.entry.Moved.{Moved}
-use Rattle.bench_item.specs.Keys.{is_same_key, is_same_role}
+use Rattle.bench_item.specs.Keys.{Node, is_same_key, is_same_role, number_at}
 use Rattle.bench_item.specs.declared.item.Item.{Item}
 use Rattle.bench_item.specs.declared.item.MachineItem.{MachineItem}
 use Rattle.bench_item.specs.declared.key.Key.{Key}
@@ -22,7 +22,7 @@ use Rattle.bench_spec.specs.Lines.{line_state}
 use Rattle.bench_item.specs.Entries.{moved_in}
 use Rattle.bench_spec.specs.Machines.{directory, machine_item, state_of}
 use Rattle.bench_spec.specs.Sent.{sent}
-use Rattle.bench_spec.specs.Settings.{Settings}
+use Rattle.bench_spec.specs.Settings.{Settings, table_of}
 
 -- all that a bench shows: its entries; of each shard the machines in order of number, and what waits; of each machine where it stands
 -- and the generation of its timer, by number; of each source what it put out and what is on its way; of each line where it stands and
@@ -49,7 +49,7 @@ world_of settings log = record {
   timer_of = armed log;
   outbox_of = outbox settings log;
   hand_of = hand log;
-  line_of = line_state settings.rules log;
+  line_of = line_state settings log;
   sent_of = sent settings log;
   totals_at = totals_of (book_at settings log);
 }
@@ -90,6 +90,29 @@ abbrev pub meets : Entry → Breakpoint → Bool
 meets e breakpoint =
     list_any (λ item. is_met_at breakpoint item || list_any (is_met_by breakpoint item) (moved_in e)) (handled_in e)
 
--- the breakpoint that a run stops at: the first that the entry meets, of those that are set, in order of number
+-- the least of numbers, if there is one
+abbrev pub least : List ℕ → Option ℕ
+least [] = None
+least (n ∷ numbers) = Some (option_map_or (min n) (least numbers) n)
+
+-- the breakpoint that a run stops at: of those that are set and that the entry meets, the one of the least number
 abbrev pub first_met : List (ℕ × Breakpoint) → Entry → Option ℕ
-first_met set e = option_map (λ b. b.0) (find (λ b. meets e b.1) set)
+first_met set e = least (map (λ b. b.0) (filter (λ b. meets e b.1) set))
+
+-- the machines of all shards, each with its number, shard after shard
+abbrev pub machines_in : Node → List Entry → ℕ → List (Key × ℕ)
+machines_in node log shard = map (λ placed. (placed.1, number_at shard placed.0)) (enumerate_from 0 (directory node shard log))
+
+-- the names that a bench shows: those of the kinds of events and of the states of each role's table, by their places, and the keys of
+-- the machines with their numbers
+pub record Names : Type 0 where
+  pub kinds : List (List ℕ)
+  pub states : Role → List (List ℕ)
+  pub machines : List (Key × ℕ)
+
+abbrev pub names_of : Settings → List Entry → Names
+names_of settings log = record {
+  kinds = map (λ kind. kind.name) settings.node.laws.kinds;
+  states = λ role. (table_of settings role).states;
+  machines = flat_map (machines_in settings.node log) (range_with_len 0 settings.node.shards);
+}

@@ -1,6 +1,9 @@
 //! Laws of legal logs, over all settings and logs.
-ghost use Rattle.bench_spec.specs.ExampleLog as example;
-ghost use Rattle.bench_spec.specs.Legal.{BookIsAnswered, EachIsRun, FrontsAreLegal, GoesBack, GoesOn, IsLegal, NoneIsOver, PauseOnlyRefuses};
+ghost use Rattle.bench_spec.specs.Legal.{BookIsAnswered, EachIsRun, FrontsAreLegal, GoesBack, GoesOn, NoneIsOver, PauseOnlyRefuses};
+ghost use Rattle.bench_spec.specs.Numbers.{NumbersAgree};
+ghost use Rattle.bench_spec.specs.Own.{EachIsOwnRun};
+ghost use Rattle.bench_spec.specs.SameLaws.{SameLaws};
+ghost use Rattle.bench_spec.specs.Taken.{ReplayThenBack, StepThenBack};
 
 /// One more entry that may follow keeps a log legal.
 pub fn legal_goes_on()
@@ -34,12 +37,34 @@ pub fn legal_is_run()
     ensures { EachIsRun }
 {}
 
+/// In a legal log, for every machine: the events of its moves are its own, those of the items that came to its shard as far as they were
+/// handled, for it and neither busy nor stale, each with what the account book says to it, in order; and its moves are a run of the
+/// table of its role, from its start.
+pub fn legal_is_own_run()
+    ensures { EachIsOwnRun }
+{}
+
+/// In a legal log the entries that move a machine by its number are those that move it by its key.
+pub fn numbers_agree()
+    ensures { NumbersAgree }
+{}
+
+/// A step and then back is no step: whatever the step was, the world is the one before it, and so is all that it shows.
+pub fn step_then_back()
+    ensures { StepThenBack }
+{}
+
+/// Nor is an entry that is replayed, and then back.
+pub fn replay_then_back()
+    ensures { ReplayThenBack }
+{}
+
+/// The test by which the registries of a bench are compared finds two books of laws the same exactly where they are equal.
+pub fn same_laws()
+    ensures { SameLaws }
+{}
+
 /// A step that may be taken while shards are paused may be taken while none is.
 pub fn pause_only_refuses()
     ensures { PauseOnlyRefuses }
-{}
-
-/// A log of six entries is legal: a desk tells a peer Start, its machine moves, and its timer is armed.
-pub fn example_is_legal()
-    ensures { IsLegal example.settings example.log }
 {}

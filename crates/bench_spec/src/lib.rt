@@ -12,9 +12,14 @@
 //! `docs/WHOLE.md` has each of them in plain words.
 #![tactic(auto)]
 
+mod example;
 mod law;
+mod opening;
 
+pub use example::{charge_log_is_legal, example_is_legal, session_log_is_legal};
 pub use law::{
-    example_is_legal, fronts_are_legal, legal_book_is_answered, legal_goes_back, legal_goes_on,
-    legal_is_run, legal_never_over,
+    fronts_are_legal, legal_book_is_answered, legal_goes_back, legal_goes_on, legal_is_own_run,
+    legal_is_run, legal_never_over, numbers_agree, pause_only_refuses, replay_then_back, same_laws,
+    step_then_back,
 };
+pub use opening::OpeningError;

@@ -1,6 +1,7 @@
 pub mod Answers
 pub mod Greater
 pub mod Heard
+pub mod Hearing
 pub mod Posts
 pub mod Sent
 pub mod Turned

@@ -1,11 +1,11 @@
 -- The events that a connection puts out for the machine of its peer.
-use Rattle.std.specs.Prelude.{ℕ, ◌==◌, Bool, List, find, replicate, Option, None, slice_get, slice_set, unwrap_or}
+use Rattle.std.specs.Prelude.{ℕ, List, replicate, Option, None, slice_get, slice_set, unwrap_or}
 use Rattle.std.specs.Option.{option_map, option_and_then}
-use Rattle.std.specs.Str.{bytes_eq}
 use Rattle.base_codes.specs.declared.peer_fact.TheConstants.{PEER, LINE, HOP_BY_HOP, END_TO_END}
 use Rattle.base_codes.specs.declared.peer_register.TheConstants.{I_LINE, R_LINE}
 use Rattle.base_list.specs.Named.{place_of}
-use Rattle.bench_item.specs.Keys.{key_of}
+use Rattle.bench_item.specs.Keys.{key_of, numbered}
+use Rattle.bench_item.specs.Peers.{numbered_host}
 use Rattle.bench_item.specs.declared.item.Condition.{Condition}
 use Rattle.bench_item.specs.declared.item.Item.{Item}
 use Rattle.bench_item.specs.declared.item.Item.TheVariants.{ToMachine}
@@ -17,30 +17,22 @@ use Rattle.peer_rules.specs.Kinds.{kinds}
 use Rattle.peer_rules.specs.declared.event.Side.{Side}
 use Rattle.peer_rules.specs.declared.event.Side.TheVariants.{I, R}
 use Rattle.tab_law.specs.declared.limits.TheConstants.{PLACES}
-use Rattle.line_message.specs.declared.listener.Listener.{Listener}
-use Rattle.line_message.specs.declared.listener.Peer.{Peer}
-
--- whether a configured peer's machine has that number, and whether the peer has that host
-abbrev pub has_number : ℕ → Peer → Bool
-has_number number peer = peer.number == number
-
-abbrev pub has_host : List ℕ → Peer → Bool
-has_host host peer = bytes_eq peer.host host
+use Rattle.line_message.specs.Hearing.{Hearing}
 
 -- the host of the configured peer whose machine has that number
-abbrev pub host_of : Listener → ℕ → Option (List ℕ)
-host_of l number = option_map (λ p. p.host) (find (has_number number) l.peers.items)
+abbrev pub host_of : Hearing → ℕ → Option (List ℕ)
+host_of l number = numbered l.peers number
 
--- the number of the machine of the configured peer with that host, octet by octet
-abbrev pub peer_of : Listener → List ℕ → Option ℕ
-peer_of l host = option_map (λ p. p.number) (find (has_host host) l.peers.items)
+-- the number of the machine of the configured peer that a message names so, in any case of its letters
+abbrev pub peer_of : Hearing → List ℕ → Option ℕ
+peer_of l host = numbered_host l.peers host
 
 -- the place in the laws of a kind of a peer's events, by its place among those; none where the laws lack it
-abbrev pub kind_at : Listener → Option ℕ → Option ℕ
-kind_at l place = option_and_then (λ k. unwrap_or (slice_get l.places.items k) None) place
+abbrev pub kind_at : Hearing → Option ℕ → Option ℕ
+kind_at l place = option_and_then (λ k. unwrap_or (slice_get l.places k) None) place
 
 -- an event for the machine of that number: nothing where it is no configured peer's, or the laws lack its kind
-unfoldable pub event_for : Listener → ℕ → Option ℕ → List ℕ → Option Condition → List ℕ → Option Item
+unfoldable pub event_for : Hearing → ℕ → Option ℕ → List ℕ → Option Condition → List ℕ → Option Item
 event_for l number place facts condition session =
     option_and_then
     (λ host. option_map (λ kind. ToMachine (record { key = key_of PeerRole host; event = record { kind = kind; facts = facts }; condition = condition; session = session })) (kind_at l place))

@@ -3,76 +3,19 @@
 ghost use Rattle.std.specs.Prelude.{◌≡◌, ◌≤◌, length, IfOk};
 ghost use Rattle.std.specs.Prelude.{[], if◌then◌else◌};
 ghost use Rattle.line_message.specs.Answers.{answer_octets};
-ghost use Rattle.line_message.specs.Heard.{is_shared, is_sharing, shares_plain, shares_inside, shares, wins, accepted, cer_by, is_cer, first_by, closing};
+ghost use Rattle.line_message.specs.Heard.{wins, accepted, cer_by, is_cer, first_by, closing};
 ghost use Rattle.line_message.specs.Posts.{peer_of};
 
+use crate::application::shares;
 use crate::listener::Listener;
-use crate::own_answer::first_in;
 use crate::post::{Told, at_line, of_message};
-use base_codes::{CommandCode, ResultCode, avp_code, peer_fact};
+use base_codes::{CommandCode, ResultCode, peer_fact};
 use base_list::Octets;
 use bench_item::{Heard, Turn};
-use dia_avp::Avp;
 use dia_command::{CapabilitiesExchangeRequest, Command, header_of};
 use dia_tree::MsgFault;
 use peer_rules::{PeerKind, elect};
 use std::alloc::{AllocError, Global};
-
-/// Diameter Credit-Control (RFC 8506 section 1.3).
-const CREDIT_CONTROL: u32 = 4;
-
-/// A relay's, which has all applications (RFC 6733 section 2.4).
-const RELAY: u32 = 0xffff_ffff;
-
-/// Vendor-Specific-Application-Id (RFC 6733 section 6.11).
-const VENDOR_SPECIFIC_APPLICATION_ID: u32 = 260;
-
-fn is_shared(id: u32) -> bool
-    ensures { result ≡ is_shared id }
-{
-    id == CREDIT_CONTROL || id == RELAY
-}
-
-/// Whether an AVP is a Vendor-Specific-Application-Id with a shared Auth-Application-Id.
-fn is_sharing(avp: &Avp) -> bool
-    ensures { result ≡ is_sharing avp.now }
-{
-    if avp.code != VENDOR_SPECIFIC_APPLICATION_ID || avp.vendor.is_some() {
-        return false;
-    }
-    match first_in(avp.octets.as_slice(), avp_code::AUTH_APPLICATION_ID) {
-        Some(id) => match id.as_u32() {
-            Ok(number) => is_shared(number),
-            Err(_) => false,
-        },
-        None => false,
-    }
-}
-
-/// Whether a CER names an application that this node has, in an AVP of its own.
-fn shares_plain(cer: &CapabilitiesExchangeRequest) -> bool
-    ensures { result ≡ shares_plain cer.now }
-{
-    cer.auth_application_id
-        .as_slice()
-        .iter()
-        .any(|id| is_shared(id.value))
-}
-
-/// The same inside a Vendor-Specific-Application-Id.
-fn shares_inside(cer: &CapabilitiesExchangeRequest) -> bool
-    ensures { result ≡ shares_inside cer.now }
-{
-    cer.rest.as_slice().iter().any(|avp| is_sharing(avp))
-}
-
-/// Whether a CER names an application that this node has.
-#[tactic(auto, unfolding(crate::specs::Heard::shares))]
-fn shares(cer: &CapabilitiesExchangeRequest) -> bool
-    ensures { result ≡ shares cer.now }
-{
-    shares_plain(cer) || shares_inside(cer)
-}
 
 /// 1 where the local host wins an election.
 fn wins(local: &[u8], remote: &[u8]) -> u64

@@ -6,6 +6,7 @@
 //! | `listener` | who listens: this node, its peers, the places of kinds of events |
 //! | `post` | events for a peer's machine |
 //! | `own_answer` | what a connection answers by itself |
+//! | `application` | the applications that a CER may name |
 //! | `first_cer` | the first message of an accepted connection |
 //! | `reply` | messages of a dialled connection that is not greeted |
 //! | `greeted` | messages of a greeted connection |
@@ -14,6 +15,7 @@
 //! | `hears` | all of it as `bench_item::Hears` |
 #![tactic(auto)]
 
+mod application;
 mod first_cer;
 mod greeted;
 mod hears;
@@ -24,4 +26,4 @@ mod post;
 mod reply;
 mod turned;
 
-pub use listener::{Listener, Peer};
+pub use listener::Listener;

@@ -1,34 +1,26 @@
 //! Who listens.
 
-ghost use Rattle.std.specs.Prelude.{◌≡◌, map, IfOk};
+ghost use Rattle.std.specs.Prelude.{◌≡◌, IfOk};
 ghost use Rattle.base_list.specs.Named.{place_of};
-ghost use Rattle.peer_rules.specs.Kinds.{kinds};
+ghost use Rattle.line_message.specs.Hearing.{hearing, places_in};
 
-use base_list::Octets;
+use bench_item::Peers;
 use dia_dict::Dictionary;
 use dia_write::Identity;
 use peer_rules::peer_laws;
 use std::alloc::{AllocError, Global};
+use std::marker::Model;
 use tab_law::LawBook;
 
-/// A peer that this node is configured with.
-#[derive(Drop)]
-pub struct Peer {
-    /// The number of its machine.
-    pub number: u64,
-    /// Its Origin-Host; it is compared octet by octet.
-    pub host: Octets,
-}
-
-/// What a node's connections know: who the node is, its dictionary and its peers.
+/// What a node's connections know: who the node is, its dictionary and its peers. A contract sees them as a `Hearing`.
 pub struct Listener {
-    pub identity: Identity,
-    pub dictionary: Dictionary,
-    pub peers: Vec<Peer>,
-    /// The octets that a Requested-Service-Unit without an amount asks for.
-    pub default_units: u64,
-    /// Of each kind of a peer's events, in their order, its place in the book of laws, where that has it.
-    pub places: Vec<Option<u8>>,
+    pub(crate) identity: Identity,
+    pub(crate) dictionary: Dictionary,
+    pub(crate) peers: Peers,
+    // The octets that a Requested-Service-Unit without an amount asks for.
+    pub(crate) default_units: u64,
+    // Of each kind of a peer's events, in their order, its place in the book of laws, where that has it.
+    pub(crate) places: Vec<Option<u8>>,
 }
 
 // A derived `drop` is proved anew at each way out of each function that holds a listener; this one is a call.
@@ -44,6 +36,20 @@ impl Drop for Listener {
     }
 }
 
+impl Model for Listener {
+    ghost use Rattle.line_message.specs.Hearing.{Hearing};
+
+    ghost Value = { Hearing };
+
+    ghost view = { λ l. record {
+      identity = l.identity;
+      dictionary = l.dictionary;
+      peers = l.peers;
+      default_units = l.default_units;
+      places = l.places.items;
+    } };
+}
+
 /// The place of a kind of events in a book of laws.
 fn place_in(laws: &LawBook, name: &[u8]) -> Option<u8>
     ensures { result ≡ place_of name.now laws.now.kinds }
@@ -57,7 +63,7 @@ fn place_in(laws: &LawBook, name: &[u8]) -> Option<u8>
 
 /// The places of the kinds of a peer's events in a book of laws.
 fn places_in(alloc: Global, laws: &LawBook) -> Result<Vec<Option<u8>>, AllocError>
-    ensures { IfOk result (λ places. places.items ≡ map (λ kind. place_of kind.name laws.now.kinds) kinds) }
+    ensures { IfOk result (λ places. places.items ≡ places_in laws.now) }
 {
     let own = peer_laws(alloc)?;
     let mut places = Vec::new(alloc);
@@ -74,21 +80,17 @@ impl Listener {
         alloc: Global,
         identity: Identity,
         dictionary: Dictionary,
-        peers: Vec<Peer>,
+        peers: &Peers,
         default_units: u64,
         laws: &LawBook,
     ) -> Result<Listener, AllocError>
-        ensures identity { IfOk result (λ l. l.identity ≡ identity) }
-        ensures dictionary { IfOk result (λ l. l.dictionary ≡ dictionary) }
-        ensures peers { IfOk result (λ l. l.peers ≡ peers) }
-        ensures units { IfOk result (λ l. l.default_units ≡ default_units) }
-        ensures places { IfOk result (λ l. l.places.items ≡ map (λ kind. place_of kind.name laws.now.kinds) kinds) }
+        ensures { IfOk result (λ l. l ≡ hearing identity dictionary peers.now default_units laws.now) }
     {
         let places = places_in(alloc, laws)?;
         Ok(Listener {
             identity,
             dictionary,
-            peers,
+            peers: peers.copy(alloc)?,
             default_units,
             places,
         })

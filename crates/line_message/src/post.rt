@@ -1,8 +1,7 @@
 //! Events for a peer's machine.
 
 ghost use Rattle.std.specs.Prelude.{◌≡◌, Some, IfOk};
-ghost use Rattle.std.specs.Option.{option_copied};
-ghost use Rattle.line_message.specs.Posts.{host_of, peer_of, kind_at, event_for, side_of, has_line, at_line, of_message, no_facts};
+ghost use Rattle.line_message.specs.Posts.{peer_of, kind_at, event_for, side_of, has_line, at_line, of_message, no_facts};
 
 use crate::listener::Listener;
 use base_codes::{peer_fact, peer_register};
@@ -72,28 +71,11 @@ pub(crate) struct Told<'a> {
 }
 
 impl Listener {
-    /// The host of the configured peer whose machine has that number.
-    fn host_of(&self, number: u64) -> Option<&Octets>
-        ensures { option_copied result ≡ host_of self.now number }
-    {
-        for peer in &self.peers {
-            if peer.number == number {
-                return Some(&peer.host);
-            }
-        }
-        None
-    }
-
-    /// The number of the machine of the configured peer with that host.
+    /// The number of the machine of the configured peer that a message names so.
     pub(crate) fn peer_of(&self, host: &[u8]) -> Option<u64>
         ensures { result ≡ peer_of self.now host.now }
     {
-        for peer in &self.peers {
-            if peer.host.as_slice() == host {
-                return Some(peer.number);
-            }
-        }
-        None
+        self.peers.find(host)
     }
 
     /// The place in the laws of a kind of a peer's events, by its place among those.
@@ -116,7 +98,7 @@ impl Listener {
     ) -> Result<Option<Item>, AllocError>
         ensures { IfOk result (λ item. item ≡ event_for self.now number told.now.place told.now.facts told.now.condition told.now.session.now) }
     {
-        let Some(host) = self.host_of(number) else {
+        let Some(host) = self.peers.numbered(number) else {
             return Ok(None);
         };
         let Some(kind) = self.kind_at(told.place) else {

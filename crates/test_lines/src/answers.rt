@@ -16,7 +16,7 @@ struct Row {
     closed: bool,
 }
 
-const GREETED: &str = "told 0 p:c.example R-Conn-CER 0=7 1=1 2=1 3=1 5=1\n";
+const GREETED: &str = "told 0 p:c.example R-Conn-CER 0=4096 1=1 2=1 3=1 5=1\n";
 
 const ROWS: &[Row] = &[
     // A DWR is no CER.
@@ -37,6 +37,23 @@ const ROWS: &[Row] = &[
         ended: None,
         closed: true,
     },
+    // Case does not count in hosts: another host is 3010, and the peer is greeted under its configured name.
+    Row {
+        pieces: &[
+            "0100006c80000101000000000000000100000001 STRANGER address vendor product credit",
+        ],
+        posted: "",
+        sent: "0100004420000101000000000000000100000001 server 0000010c4000000c00000bc2",
+        ended: None,
+        closed: true,
+    },
+    Row {
+        pieces: &["0100006c80000101000000000000000100000001 PEER address vendor product credit"],
+        posted: GREETED,
+        sent: "",
+        ended: None,
+        closed: false,
+    },
     // No application of credit control: 5010; inside a Vendor-Specific-Application-Id it is one.
     Row {
         pieces: &["0100006080000101000000000000000100000001 peer address vendor product"],
@@ -54,6 +71,38 @@ const ROWS: &[Row] = &[
         sent: "",
         ended: None,
         closed: false,
+    },
+    // In the second of two Vendor-Specific-Application-Ids, or behind another one in the same, it is one too; in none of
+    // two it is 5010.
+    Row {
+        pieces: &[
+            "010000a080000101000000000000000100000001 peer address vendor product \
+0000010440000020 vendor nasreq 0000010440000020 vendor credit",
+        ],
+        posted: GREETED,
+        sent: "",
+        ended: None,
+        closed: false,
+    },
+    Row {
+        pieces: &[
+            "0100008c80000101000000000000000100000001 peer address vendor product \
+000001044000002c vendor nasreq credit",
+        ],
+        posted: GREETED,
+        sent: "",
+        ended: None,
+        closed: false,
+    },
+    Row {
+        pieces: &[
+            "010000a080000101000000000000000100000001 peer address vendor product \
+0000010440000020 vendor nasreq 0000010440000020 vendor nasreq",
+        ],
+        posted: "",
+        sent: "0100004400000101000000000000000100000001 server 0000010c4000000c00001392",
+        ended: None,
+        closed: true,
     },
     // No Vendor-Id: 5005.
     Row {
@@ -99,9 +148,9 @@ const ROWS: &[Row] = &[
             "010000bcc0000110000000040000000700000007 client context initial subscriber sixty 02",
         ],
         posted: "\
-told 0 p:c.example R-Conn-CER 0=7 1=1 2=1 3=1 5=1
-told 0 p:c.example R-Rcv-Message 0=7 1=1 2=7 3=7 4=1 5=1 6=1 7=100 9=60 10=3 if 1=1
-told 0 p:c.example R-Peer-Disc 0=7 1=1 if 1=1
+told 0 p:c.example R-Conn-CER 0=4096 1=1 2=1 3=1 5=1
+told 0 p:c.example R-Rcv-Message 0=4096 1=1 2=7 3=7 4=1 5=1 6=1 7=100 9=60 10=3 if 1=1
+told 0 p:c.example R-Peer-Disc 0=4096 1=1 if 1=1
 ",
         sent: "",
         ended: Some(FrameFault::Version),

@@ -19,9 +19,9 @@ fn stream(alloc: Global) -> Result<Vec<u8>, Fail> {
 
 /// What is posted of these messages, and what is sent.
 const POSTED: &str = "\
-told 0 p:c.example R-Conn-CER 0=7 1=1 2=1 3=1 5=1
-told 0 p:c.example R-Rcv-Message 0=7 1=1 2=7 3=7 4=1 5=1 6=1 7=100 9=60 10=3 if 1=1
-told 0 p:c.example R-Rcv-DWR 0=7 1=1 2=1 3=1 if 1=1
+told 0 p:c.example R-Conn-CER 0=4096 1=1 2=1 3=1 5=1
+told 0 p:c.example R-Rcv-Message 0=4096 1=1 2=7 3=7 4=1 5=1 6=1 7=100 9=60 10=3 if 1=1
+told 0 p:c.example R-Rcv-DWR 0=4096 1=1 2=1 3=1 if 1=1
 ";
 
 const SENT: &str = "\

@@ -36,7 +36,7 @@ fn is_closed_for_good(alloc: Global) -> Result<bool, Fail> {
 /// A dial that is acknowledged, and lost; another that is refused.
 fn is_dialled(alloc: Global) -> Result<bool, Fail> {
     let mut lines = connections(alloc)?;
-    let numbers = (lines.dial(7, 3), lines.dial(7, 4));
+    let numbers = (lines.dial(4096, 3), lines.dial(4096, 4));
     let early = lines.came(1, b"").err();
     let first = lines.dialled(1).is_ok();
     let twice = lines.dialled(1).err();
@@ -50,9 +50,9 @@ fn is_dialled(alloc: Global) -> Result<bool, Fail> {
             && twice == Some(LineFault::Nothing)
             && gone
             && text.as_slice()
-                == b"told 0 p:c.example I-Rcv-Conn-Ack 0=7 1=1 if 2=3\ntold 0 p:c.example I-Peer-Disc 0=7 1=1 if 0=1\n".as_slice()
+                == b"told 0 p:c.example I-Rcv-Conn-Ack 0=4096 1=1 if 2=3\ntold 0 p:c.example I-Peer-Disc 0=4096 1=1 if 0=1\n".as_slice()
             && other.as_slice()
-                == b"told 0 p:c.example I-Rcv-Conn-Nack 0=7 1=2 if 2=4\n".as_slice(),
+                == b"told 0 p:c.example I-Rcv-Conn-Nack 0=4096 1=2 if 2=4\n".as_slice(),
     )
 }
 
@@ -94,7 +94,8 @@ fn is_cer_again(alloc: Global) -> Result<bool, Fail> {
         first == Ok(1)
             && front.is_ok_and(|came| came.posted == 0)
             && is_again
-            && text.as_slice() == b"told 0 p:c.example R-Conn-CER 0=7 1=1 2=1 3=1 5=1\n".as_slice(),
+            && text.as_slice()
+                == b"told 0 p:c.example R-Conn-CER 0=4096 1=1 2=1 3=1 5=1\n".as_slice(),
     )
 }
 

@@ -1,29 +1,33 @@
-//! A node s.example of realm example, whose one peer is c.example with the machine of number 7.
+//! A node s.example of realm example, of two shards, whose one peer is c.example: the machine of number 4096.
 
 use base_list::Octets;
-use bench_item::{Item, Key, Step};
+use bench_item::{Item, Key, Peers, Step};
 use bench_line::Lines;
 use dia_dict::Dictionary;
 use dia_write::Identity;
-use line_message::{Listener, Peer};
+use line_message::Listener;
 use peer_rules::peer_laws;
 use std::alloc::Global;
 use std::test::Fail;
 use step_text::{Machines, write_step};
 use tab_law::LawBook;
 
-/// Parts of messages: a header of a CER and its AVPs but those that name its sender and its application; Session-Id c1;1, Origin-Host
-/// c.example, Origin-Realm and Destination-Realm example, Auth-Application-Id 4; Origin-Host c.example and Origin-Realm example;
-/// Origin-Host z.example; Origin-Realm; Service-Context-Id; CC-Request-Type 1 and CC-Request-Number 0; Subscription-Id of account 100;
-/// 60 of CC-Service-Specific-Units; what the node says of itself. Words that are not listed are digits themselves.
+/// Parts of messages: the AVPs of a CER but those that name its sender and its application; Auth-Application-Id 4, credit
+/// control, and 1, NASREQ; Session-Id c1;1, Origin-Host c.example, Origin-Realm and Destination-Realm example,
+/// Auth-Application-Id 4; Origin-Host c.example and Origin-Realm example, and C.EXAMPLE; z.example, and Z.EXAMPLE, with that
+/// realm; Service-Context-Id; CC-Request-Type 1 and CC-Request-Number 0; Subscription-Id of account 100; 60 of
+/// CC-Service-Specific-Units; what the node says of itself. Words that are not listed are digits themselves.
 const WORDS: &str = "\
 address 000001014000000e00017f0000010000
 vendor 0000010a4000000c00000000
 product 0000010d0000000978000000
 credit 000001024000000c00000004
+nasreq 000001024000000c00000001
 client 000001074000000c63313b310000010840000011632e6578616d706c65000000000001284000000f6578616d706c65000000011b4000000f6578616d706c6500000001024000000c00000004
 peer 0000010840000011632e6578616d706c65000000000001284000000f6578616d706c6500
+PEER 0000010840000011432e4558414d504c45000000000001284000000f6578616d706c6500
 stranger 00000108400000117a2e6578616d706c65000000000001284000000f6578616d706c6500
+STRANGER 00000108400000115a2e4558414d504c45000000000001284000000f6578616d706c6500
 context 000001cd4000000b78407900
 initial 000001a04000000c000000010000019f4000000c00000000
 subscriber 000001bb40000020000001c24000000c00000000000001bc4000000b31303000
@@ -71,14 +75,11 @@ pub fn connections(alloc: Global) -> Result<Lines<Listener>, Fail> {
         realm: Octets::from_slice(alloc, b"example")?,
         address: [192, 0, 2, 1],
     };
-    let mut peers = Vec::new(alloc);
-    peers.push(Peer {
-        number: 7,
-        host: Octets::from_slice(alloc, b"c.example")?,
-    })?;
+    let mut peers = Peers::new(alloc, 2);
+    peers.add(b"c.example")?;
     let laws = peer_laws(alloc)?;
     let dictionary = Dictionary::base(alloc)?;
-    let listener = Listener::new(alloc, identity, dictionary, peers, 0, &laws)?;
+    let listener = Listener::new(alloc, identity, dictionary, &peers, 0, &laws)?;
     Ok(Lines::new(alloc, listener))
 }
 

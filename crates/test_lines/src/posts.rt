@@ -1,7 +1,7 @@
 //! What deeds and busy entries post.
 
 use crate::node::put_item;
-use base_list::Octets;
+use base_list::{AddError, AddFault, Octets};
 use bench_item::{Item, Key, MachineItem, Role};
 use bench_post::{Peers, busy_posts, home, posts_of};
 use peer_rules::peer_laws;
@@ -82,6 +82,33 @@ fn peers(alloc: Global) -> Result<Peers, Fail> {
     let mut peers = Peers::new(alloc, 2);
     peers.add(b"c.example")?;
     Ok(peers)
+}
+
+/// The peer has its number by any spelling of its host, and is there but once.
+fn is_numbered(alloc: Global) -> Result<bool, Fail> {
+    let mut peers = peers(alloc)?;
+    let taken = peers.add(b"C.example").err();
+    let copy = peers.copy(alloc)?;
+    let Some(host) = copy.numbered(4096) else {
+        return Ok(false);
+    };
+    Ok(
+        taken == Some(AddError::Fault(AddFault::Taken))
+            && copy.hosts().len() == 1
+            && copy.number(0) == Some(4096)
+            && copy.number(1).is_none()
+            && copy.find(b"C.EXAMPLE") == Some(4096)
+            && copy.find(b"c.exampl").is_none()
+            && host.as_slice() == b"c.example".as_slice()
+            && copy.numbered(4097).is_none(),
+    )
+}
+
+#[test]
+fn a_host_in_another_case_is_the_same(rt: HostRuntime) -> Result<(), Fail> {
+    let holds = is_numbered(rt.alloc())?;
+    assert!(rt; holds);
+    Ok(())
 }
 
 #[test]

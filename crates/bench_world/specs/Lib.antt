@@ -1,0 +1,4 @@
+pub mod Entries
+pub mod Undone
+pub mod Whole
+pub mod Inside
