@@ -1,6 +1,5 @@
 -- In a legal log items are carried and handled in their order.
 use Rattle.std.proofs.Common.{◌≡◌, ◌+◌, ◌==◌, ◌<◌, ◌≤◌, ℕ, List, [], ◌∷◌, ◌++◌, Bool, true, false, Option, Some, None, refl, sym, ◌∙◌, ap, subst, append_assoc, arith, length}
-use Rattle.std.specs.Prelude.{option_map_or, if◌then◌else◌}
 use Rattle.std.proofs.lemmas.List.{append-nil}
 use Rattle.acct_book.specs.Laws.{EachAfter}
 use Rattle.bench_item.specs.declared.entry.Entry.{Entry}
