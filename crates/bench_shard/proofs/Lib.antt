@@ -4,3 +4,4 @@ pub mod KeyLemmas
 pub mod AbsentLemmas
 pub mod ViewLemmas
 pub mod LegalLemmas
+pub mod NewLemmas

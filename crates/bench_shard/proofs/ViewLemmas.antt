@@ -100,11 +100,11 @@ state-for settings log v key S here = by (place_in v key) refl
     by (Some i) e = known-state settings log v key i S e
 
 -- all elements pass
-abbrev Each : {X : Type 0} → (X → Bool) → List X → Type 0
+abbrev pub Each : {X : Type 0} → (X → Bool) → List X → Type 0
 Each p [] = Unit {0}
 Each p (x ∷ xs) = (p x ≡ true) × Each p xs
 
-each-filter : {X : Type 0} (p : X → Bool) (xs : List X) → Each p (filter p xs)
+pub each-filter : {X : Type 0} (p : X → Bool) (xs : List X) → Each p (filter p xs)
 each-filter p [] = tt
 each-filter p (x ∷ xs) = by (p x) refl (each-filter p xs)
   where
@@ -116,7 +116,7 @@ each-append : {X : Type 0} (p : X → Bool) (xs ys : List X) → Each p xs → E
 each-append p [] ys left right = right
 each-append p (x ∷ xs) ys left right = (left.0, each-append p xs ys left.1 right)
 
-each-get : {X : Type 0} (p : X → Bool) (xs : List X) (k : ℕ) (x : X) → Each p xs → slice_get xs k ≡ Some x → p x ≡ true
+pub each-get : {X : Type 0} (p : X → Bool) (xs : List X) (k : ℕ) (x : X) → Each p xs → slice_get xs k ≡ Some x → p x ≡ true
 each-get p [] k x each e = absurd cc
 each-get p (y ∷ ys) zero x each e = let g : Some y ≡ Some x = e in let is : y ≡ x = cc in subst (λ z. p z ≡ true) is each.0
 each-get p (y ∷ ys) (suc k) x each e = each-get p ys k x each.1 e

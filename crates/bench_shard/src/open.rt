@@ -5,6 +5,8 @@ ghost use Rattle.bench_item.specs.Keys.{key_of, number_at};
 ghost use Rattle.bench_item.specs.declared.key.Role.TheVariants.{Peer};
 ghost use Rattle.bench_item.specs.declared.limit.TheConstants.{MAX_MACHINES, MAX_SHARDS};
 ghost use Rattle.bench_spec.specs.Machines.{start};
+ghost use Rattle.bench_spec.specs.Settings.{Settings};
+ghost use Rattle.bench_shard.specs.Stands.{Stands};
 ghost use Rattle.bench_shard.specs.Names.{key_octets};
 ghost use Rattle.bench_shard.specs.View.{opened, peer_names, starts};
 
@@ -112,11 +114,15 @@ impl ShardState {
     /// each at its start.
     pub fn new(alloc: Global, number: usize, peers: Peers) -> Result<ShardState, AllocError>
         requires { number < peers.shards }
-        ensures { IfOk result (λ shard. shard ≡ opened number peers) }
+        ensures opened { IfOk result (λ shard. shard ≡ opened number peers) }
+        // It is what a log without entries says.
+        ensures stands { IfOk result (λ shard. (settings : Settings) → peers ≡ record { hosts = settings.node.peers; shards = settings.node.shards }
+            → Stands settings [] shard) }
     {
         let mut names = Directory::new(alloc);
         let mut states = Vec::new(alloc);
         add_peers(alloc, number, &peers, &mut names, &mut states)?;
+        let _count = names.len();
         Ok(ShardState {
             alloc,
             number,
