@@ -6,12 +6,14 @@
 //! | `keeping` | all of a world but its callbacks |
 //! | `room` | room for one more entry and its record |
 //! | `tell` | a desk tells a machine an event |
+//! | `work` | a shard handles its oldest item |
 #![tactic(auto)]
 
 mod account;
 mod keeping;
 mod room;
 mod tell;
+mod work;
 
 pub use account::Account;
 pub use keeping::Core;
