@@ -10,7 +10,7 @@ use Rattle.bench_item.specs.declared.entry.Moved.{Moved}
 use Rattle.bench_item.specs.declared.item.Item.{Item}
 use Rattle.bench_item.specs.declared.item.MachineItem.{MachineItem}
 use Rattle.bench_item.specs.Posts.{posts_of}
-use Rattle.bench_post.specs.Nodes.{Configured, node_of}
+use Rattle.bench_item.specs.Keys.{Configured, node_of}
 use Rattle.bench_spec.specs.Booked.{event_with_quote, ops_of, outcomes_for, want_of}
 use Rattle.bench_spec.specs.Items.{doer_of}
 use Rattle.bench_move.specs.Tables.{Tables, table_of}

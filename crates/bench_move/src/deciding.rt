@@ -13,26 +13,20 @@ use crate::quoting::event_with_quote;
 use crate::roles::Roles;
 use acct_book::Page;
 use acct_totals::{Op, Outcome};
-use bench_item::{Item, MachineItem, Moved, Role, Series};
-use bench_post::Peers;
+use bench_item::{Item, MachineItem, Moved, Peers, Role, Series};
 use std::alloc::{AllocError, Global};
 use tab_call::Registry;
 use tab_image::run_event_into;
 use tab_step::{Event, MachineState, Stepped};
 
 /// A move of a machine, with what its deeds post and ask of the account book.
+#[derive(Drop)]
 pub struct Decided {
     pub moved: Moved,
     /// What the deeds post, in order.
     pub posts: Series<Item>,
     /// The operations of the account book that the deeds ask for, in order.
     pub ops: Series<Op>,
-}
-
-impl Drop for Decided {
-    fn drop(self) {
-        let Decided { moved, posts, ops } = self;
-    }
 }
 
 /// The move of the machine of that number from what a step left.

@@ -2,12 +2,13 @@
 
 ghost use Rattle.std.specs.Prelude.{◌≡◌, flat_map, IfOk};
 ghost use Rattle.bench_item.specs.Posts.{posts_of};
-ghost use Rattle.bench_post.specs.Nodes.{doer_of, node_of};
+ghost use Rattle.bench_item.specs.Keys.{node_of};
+ghost use Rattle.bench_post.specs.Nodes.{doer_of};
 ghost use Rattle.bench_move.specs.Moves.{posts_for};
 
 use crate::roles::Roles;
-use bench_item::{Item, MachineItem, Moved, Series};
-use bench_post::{Peers, posts_of};
+use bench_item::{Item, MachineItem, Moved, Peers, Series};
+use bench_post::posts_of;
 use std::alloc::{AllocError, Global};
 use tab_law::{Deed, LawBook};
 

@@ -1,2 +1,4 @@
 pub mod OpenLemmas
 pub mod SettleLemmas
+pub mod KeyLemmas
+pub mod AbsentLemmas

@@ -21,6 +21,9 @@ abbrev pub want_by : Fate → Laws → ShardView → MachineItem → Option Want
 want_by Moves laws v item = want_of laws item (state_for v item.key)
 want_by fate laws v item = None
 
+abbrev pub wanted : Laws → ShardView → MachineItem → Option Want
+wanted laws v item = want_by (fate_of v item) laws v item
+
 -- the page of the account book that it needs, of so many
 abbrev pub page_of : ℕ → Option Want → Option ℕ
 page_of pages want = option_map (λ want. want.account % pages) want

@@ -1,12 +1,12 @@
 //! Why calls on a shard are refused.
 
-use std::alloc::{AllocError, AllocFailed};
-use thiserror::Error;
-
 ghost use Rattle.std.specs.Prelude.{◌≡◌};
 ghost use Rattle.bench_shard.specs.declared.fault.PutError.TheVariants as put;
 ghost use Rattle.bench_shard.specs.declared.fault.WorkFault.TheVariants as work;
 ghost use Rattle.bench_shard.specs.Refusal.{number_of};
+
+use std::alloc::{AllocError, AllocFailed};
+use thiserror::Error;
 
 /// Why an item does not come into a shard. The shard is then as it was.
 #[derive(Clone, Copy, Debug, PartialEq, Eq, Error)]

@@ -12,6 +12,7 @@
 //! | `work` | work is written, and taken back |
 #![tactic(auto)]
 
+mod deciding;
 mod fault;
 mod name;
 mod open;
@@ -25,4 +26,4 @@ pub use fault::{PutError, WorkFault};
 pub use settle::Settled;
 pub use state::ShardState;
 pub use task::{Fate, Task};
-pub use work::{ShardRecord, Work};
+pub use work::{Effects, ShardRecord, Work};

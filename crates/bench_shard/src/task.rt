@@ -19,7 +19,7 @@ use tab_law::PLACES;
 use tab_step::MachineState;
 
 /// What is to become of an item.
-#[derive(Clone, Copy)]
+#[derive(Clone, Copy, PartialEq, Eq)]
 pub enum Fate {
     /// There is no room for its machine.
     Busy,
@@ -30,6 +30,7 @@ pub enum Fate {
 }
 
 /// What a shard is to do next: its oldest item, and the item's machine.
+#[derive(Drop)]
 pub struct Task {
     pub item: MachineItem,
     /// The number that the machine has, or gets where it is not there yet.
@@ -39,18 +40,6 @@ pub struct Task {
     pub fate: Fate,
     /// What the item asks of the account book: only one that moves its machine asks something.
     pub want: Option<Want>,
-}
-
-impl Drop for Task {
-    fn drop(self) {
-        let Task {
-            item,
-            number: _,
-            before: _,
-            fate: _,
-            want: _,
-        } = self;
-    }
 }
 
 impl Task {
@@ -88,7 +77,7 @@ fn holds(condition: &Option<Condition>, state: &MachineState) -> bool
 
 impl ShardState {
     // The number of the machine at a place, or behind all.
-    fn number_for(&self, place: usize) -> u64
+    pub(crate) fn number_for(&self, place: usize) -> u64
         requires { place ≤ length self.now.names }
         ensures { result ≡ number_at self.now.number place }
     {
@@ -98,7 +87,7 @@ impl ShardState {
     }
 
     // Where the machine at a place stands: at its start behind all.
-    fn state_for(&self, place: usize) -> MachineState
+    pub(crate) fn state_for(&self, place: usize) -> MachineState
         requires { place ≤ length self.now.names }
         ensures { result ≡ unwrap_or (slice_get self.now.states place) (start (number_at self.now.number place)) }
     {
@@ -117,7 +106,12 @@ impl ShardState {
     }
 
     // What is to become of an item for the machine at that place, if it is there, which stands there.
-    fn fate(&self, place: Option<usize>, item: &MachineItem, before: &MachineState) -> Fate
+    pub(crate) fn fate(
+        &self,
+        place: Option<usize>,
+        item: &MachineItem,
+        before: &MachineState,
+    ) -> Fate
         requires place { place ≡ place_in self.now item.now.key }
         requires before { before.now ≡ state_for self.now item.now.key }
         ensures { result ≡ fate_of self.now item.now }

@@ -10,25 +10,21 @@ use bench_log::KeptItem;
 use std::alloc::{AllocError, Global};
 use tab_step::MachineState;
 
-/// A shard's oldest item, what becomes of it and what it leads to.
-pub struct Work {
-    pub item: MachineItem,
-    pub handled: Handled,
+/// What a handled item leads to.
+#[derive(Drop)]
+pub struct Effects {
     /// What the shard puts out, in order.
     pub posts: Series<Item>,
     /// The operations that the account book is to do, in order.
     pub ops: Series<Op>,
 }
 
-impl Drop for Work {
-    fn drop(self) {
-        let Work {
-            item,
-            handled,
-            posts,
-            ops,
-        } = self;
-    }
+/// A shard's oldest item, what becomes of it and what that leads to.
+#[derive(Drop)]
+pub struct Work {
+    pub item: MachineItem,
+    pub handled: Handled,
+    pub effects: Effects,
 }
 
 /// What work changed, for it to be taken back: work is taken back last first.
@@ -52,7 +48,11 @@ fn keep_items(alloc: Global, plain: &[Item]) -> Result<Vec<KeptItem>, AllocError
 
 impl ShardState {
     // Where the machine of a handled item comes to stand.
-    fn left(&self, item: &MachineItem, handled: &Handled) -> Result<Option<MachineState>, AllocError>
+    fn left(
+        &self,
+        item: &MachineItem,
+        handled: &Handled,
+    ) -> Result<Option<MachineState>, AllocError>
         ensures { IfOk result (λ left. left ≡ state_left self.now item.now handled.now) }
     {
         match handled {
@@ -62,22 +62,26 @@ impl ShardState {
         }
     }
 
-    /// Does the work on its oldest item: the item is handled, its machine comes to stand where that leaves it, and what that posts is put
-    /// out. Where memory is refused nothing changes.
-    pub fn commit(&mut self, work: &Work) -> Result<ShardRecord, AllocError>
-        requires { Fits self.old work.now }
-        ensures ok { OnOk result (self.new ≡ after_work self.old work.now) }
+    /// Does the work on its oldest item, which is this one: it is handled, its machine comes to stand where that leaves it, and what that
+    /// posts is put out. Where memory is refused nothing changes.
+    pub fn commit(
+        &mut self,
+        item: &MachineItem,
+        handled: &Handled,
+        posts: &[Item],
+    ) -> Result<ShardRecord, AllocError>
+        requires { Fits self.old item.now handled.now }
+        ensures ok { OnOk result (self.new ≡ after_work self.old item.now handled.now posts.now) }
         ensures undone { IfOk result (λ change. taken_back change self.new ≡ self.old) }
         ensures err { OnErr result (self.new ≡ self.old) }
     {
-        let left = self.left(&work.item, &work.handled)?;
-        let posts = keep_items(self.alloc, work.posts.as_slice())?;
-        let posted = posts.len();
-        self.outbox.reserve(posted)?;
         let alloc = self.alloc;
-        let key = &work.item.key;
-        let settled = settle_left(alloc, &mut self.names, &mut self.states, key, &left)?;
-        self.outbox.put_all(posts);
+        let left = self.left(item, handled)?;
+        let kept = keep_items(alloc, posts)?;
+        let posted = kept.len();
+        self.outbox.reserve(posted)?;
+        let settled = settle_left(alloc, &mut self.names, &mut self.states, &item.key, &left)?;
+        self.outbox.put_all(kept);
         self.inbox.work_one();
         Ok(ShardRecord { posted, settled })
     }

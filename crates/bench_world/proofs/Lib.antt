@@ -1,0 +1,3 @@
+pub mod LegalLemmas
+pub mod WholeLemmas
+pub mod TellLemmas

@@ -8,7 +8,7 @@ use Rattle.bench_spec.specs.Taken.{Run}
 use Rattle.bench_views.specs.Stored.{EachAt, Stored}
 use Rattle.bench_world.specs.Whole.{IsWhole}
 use Rattle.bench_world.specs.declared.account.Account.{Account}
-use Rattle.bench_world.specs.declared.core.Core.TheInside.{Inside}
+use Rattle.bench_world.specs.declared.keeping.Core.TheInside.{Inside}
 
 -- an account as it was opened
 abbrev pub opened_as : Account → Opened

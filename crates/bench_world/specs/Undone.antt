@@ -1,5 +1,5 @@
 -- What takes a step back.
-use Rattle.std.specs.Prelude.{ℕ, ◌+◌, ◌-◌, suc, zero, List, [], length, take, slice_index_or, slice_set, slice_get, Option, Some, None, option_map_or}
+use Rattle.std.specs.Prelude.{ℕ, ◌-◌, suc, length, take}
 use Rattle.acct_book.specs.Book.{Book, taken_back}
 use Rattle.tick_wheel.specs.Timers.{with_timer}
 use Rattle.bench_item.specs.declared.source.Source.{Source}
@@ -7,29 +7,18 @@ use Rattle.bench_item.specs.declared.source.Source.TheVariants.{Clock, Desk, Lin
 use Rattle.bench_line.specs.Change.{taken_back as line_taken_back}
 use Rattle.bench_line.specs.declared.change.Change.TheVariants as changes
 use Rattle.bench_queue.specs.Inbox.{without_in}
-use Rattle.bench_queue.specs.Outbox.{OutboxView, undropped_one, unlifted_one, without_out}
-use Rattle.bench_shard.specs.View.{ShardView, with_inbox, with_outbox}
+use Rattle.bench_queue.specs.Outbox.{undropped_one, unlifted_one, without_out}
+use Rattle.bench_shard.specs.View.{with_inbox, with_outbox}
 use Rattle.bench_shard.specs.Works.{taken_back as shard_taken_back}
 use Rattle.bench_undo.specs.declared.undo.Arrival.{Arrival}
 use Rattle.bench_undo.specs.declared.undo.Arrival.TheVariants as arrivals
 use Rattle.bench_undo.specs.declared.undo.Undo.{Undo}
 use Rattle.bench_undo.specs.declared.undo.Undo.TheVariants.{Dropped, Fired, Lifted, Lines, Opened, Told, Worked}
+use Rattle.bench_views.specs.Behind.{at_outbox, at_shard, changed_at}
 use Rattle.bench_views.specs.Pages.{taken_back_by}
 use Rattle.bench_views.specs.Stored.{Stored}
 
--- a list with the item at a place changed, if there is one
-abbrev pub changed_at : {X : Type 0} → ℕ → (X → X) → List X → List X
-changed_at place f [] = []
-changed_at zero f (x ∷ xs) = f x ∷ xs
-changed_at (suc place) f (x ∷ xs) = x ∷ changed_at place f xs
-
--- the parts with one of them changed
-abbrev pub at_shard : ℕ → (ShardView → ShardView) → Stored → Stored
-at_shard place f s = record s { shards = changed_at place f s.shards }
-
-abbrev pub at_outbox : ℕ → (OutboxView → OutboxView) → Stored → Stored
-at_outbox place f s = record s { outboxes = changed_at place f s.outboxes }
-
+-- the parts with one of the pages changed
 abbrev pub at_book : ℕ → (Book → Book) → Stored → Stored
 at_book place f s = record s { books = changed_at place f s.books }
 

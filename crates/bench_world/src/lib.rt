@@ -3,15 +3,15 @@
 //! | File | What it has |
 //! |---|---|
 //! | `account` | an account as it is opened |
-//! | `core` | all of a world but its callbacks |
+//! | `keeping` | all of a world but its callbacks |
 //! | `room` | room for one more entry and its record |
 //! | `tell` | a desk tells a machine an event |
 #![tactic(auto)]
 
 mod account;
-mod core;
+mod keeping;
 mod room;
 mod tell;
 
 pub use account::Account;
-pub use core::Core;
+pub use keeping::Core;

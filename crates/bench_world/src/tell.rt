@@ -6,7 +6,7 @@ ghost use Rattle.bench_spec.specs.Refusal.{refusal};
 ghost use Rattle.bench_spec.specs.Taken.{Takes};
 ghost use Rattle.bench_world.specs.Entries.{bare_entry};
 
-use crate::core::Core;
+use crate::keeping::Core;
 use crate::room::make_room;
 use base_list::Octets;
 use bench_item::{Entry, Item, Key, MachineItem, Step};

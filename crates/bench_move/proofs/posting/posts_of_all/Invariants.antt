@@ -1,7 +1,8 @@
 use Rattle.std.proofs.Common.{◌≡◌, take}
 use Rattle.std.specs.List.{flat_map}
 use Rattle.bench_item.specs.Posts.{posts_of}
-use Rattle.bench_post.specs.Nodes.{doer_of, node_of}
+use Rattle.bench_item.specs.Keys.{node_of}
+use Rattle.bench_post.specs.Nodes.{doer_of}
 use Rattle.bench_move.proofs.posting.posts_of_all.Given as goal
 
 abbrev pub invariant-loop-deed : goal.invariant-loop-deed

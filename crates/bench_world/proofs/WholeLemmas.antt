@@ -1,0 +1,43 @@
+-- A whole world with one more entry, and its parts as lists that are written at one place.
+use Rattle.std.proofs.Common.{◌≡◌, ◌+◌, ◌<◌, ℕ, List, [], ◌∷◌, ◌++◌, Option, Some, None, refl, sym, ◌∙◌, ap, subst, length, suc, zero, arith}
+use Rattle.std.specs.List.{slice_get}
+use Rattle.std.specs.Prelude.{map, slice_set}
+use Rattle.bench_item.specs.declared.entry.Entry.{Entry}
+use Rattle.bench_queue.specs.Outbox.{OutboxState, OutboxView}
+use Rattle.bench_spec.specs.Legal.{MayFollow}
+use Rattle.bench_spec.specs.Settings.{Settings}
+use Rattle.bench_spec.proofs.LegalLemmas.{IsLegal-snoc}
+use Rattle.bench_undo.specs.declared.undo.Undo.{Undo}
+use Rattle.bench_views.specs.Behind.{changed_at}
+use Rattle.bench_views.specs.Stored.{IsTied, Stored}
+use Rattle.bench_views.proofs.Each.{some-same}
+use Rattle.bench_world.specs.Undone.{undone}
+use Rattle.bench_world.specs.Whole.{CanGoBack, IsWhole, MayUndo}
+
+-- one more entry that may follow, with parts that are what the log then says and a record that takes them back
+pub whole-after : (settings : Settings) (log : List Entry) (s new : Stored) (undos : List Undo) (e : Entry) (undo : Undo) → IsWhole settings log s undos → MayFollow settings log e → IsTied settings (log ++ e ∷ []) new → MayUndo undo new → undone undo new ≡ s → IsWhole settings (log ++ e ∷ []) new (undos ++ undo ∷ [])
+whole-after settings log s new undos e undo whole follows tied may back = record {
+  legal = IsLegal-snoc settings log e whole.legal follows;
+  tied = tied;
+  back = CanGoBack.Behind undos log s new undo e (undos ++ undo ∷ []) (log ++ e ∷ []) whole.back tied may back refl refl;
+}
+
+-- the views of a list of which one is written
+pub views-set : (outs : List OutboxState) (place : ℕ) (old new : OutboxState) (f : OutboxView → OutboxView) → slice_get outs place ≡ Some old → new.view ≡ f old.view → map (λ o. o.view) (slice_set outs place new) ≡ changed_at place f (map (λ o. o.view) outs)
+views-set [] place old new f there is = refl
+views-set (o ∷ outs) zero old new f there is = ap (λ v. v ∷ map (λ x. x.view) outs) (is ∙ ap (λ x. f x.view) (sym (some-same o old there)))
+views-set (o ∷ outs) (suc place) old new f there is = ap (λ vs. o.view ∷ vs) (views-set outs place old new f there is)
+
+-- a change that is taken back
+pub changed-back : {X : Type 0} (place : ℕ) (f g : X → X) (xs : List X) (x : X) → slice_get xs place ≡ Some x → g (f x) ≡ x → changed_at place g (changed_at place f xs) ≡ xs
+changed-back place f g [] x there back = refl
+changed-back zero f g (y ∷ xs) x there back = ap (λ z. z ∷ xs) (ap (λ z. g (f z)) (some-same y x there) ∙ back ∙ sym (some-same y x there))
+changed-back (suc place) f g (y ∷ xs) x there back = ap (λ ys. y ∷ ys) (changed-back place f g xs x there back)
+
+-- something is not nothing
+abbrev IsThere : {X : Type 0} → Option X → Type 0
+IsThere None = ⊥
+IsThere (Some x) = Unit {0}
+
+pub not_some : {X : Type 0} (x : X) → Some x ≡ None → ⊥
+not_some x same = subst IsThere same tt
