@@ -23,3 +23,4 @@ pub mod Opened
 pub mod Dropping
 pub mod Drops
 pub mod LineSteps
+pub mod Looks

@@ -109,7 +109,7 @@ timers-kept (Desk desk) s = refl
 timers-kept Clock s = refl
 
 -- what each line put out
-line_at-suc : (ls : List LineView) (n : ℕ) → line_at ls (suc n) ≡ slice_get ls n
+pub line_at-suc : (ls : List LineView) (n : ℕ) → line_at ls (suc n) ≡ slice_get ls n
 line_at-suc ls n = rw some (ap (slice_get ls) less)
   where
     some : (suc n == 0) ≡ false
