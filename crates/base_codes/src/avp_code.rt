@@ -8,6 +8,8 @@ pub const HOST_IP_ADDRESS: u32 = 257;
 
 pub const AUTH_APPLICATION_ID: u32 = 258;
 
+pub const VENDOR_SPECIFIC_APPLICATION_ID: u32 = 260;
+
 pub const SESSION_ID: u32 = 263;
 
 pub const ORIGIN_HOST: u32 = 264;

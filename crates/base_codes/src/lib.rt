@@ -3,16 +3,20 @@
 //!
 //! | Module | What it names |
 //! |---|---|
+//! | `application` | Application-Ids |
 //! | `avp_code` | AVP Codes |
+//! | `message_class` | classes of messages of credit control |
 //! | `peer_fact`, `peer_register` | places of a peer's events and machine |
 //! | `session_fact`, `session_register` | places of a session's events and machine, client or server |
 //! | `slot` | places of one service of several, in facts and in registers |
 #![tactic(auto)]
 
+pub mod application;
 pub mod avp_code;
 mod command_code;
 mod deed_code;
 mod length;
+pub mod message_class;
 pub mod peer_fact;
 pub mod peer_register;
 mod result_code;

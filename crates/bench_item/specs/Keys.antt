@@ -1,5 +1,6 @@
 -- Which machine a key is, and where it has its place.
-use Rattle.std.specs.Prelude.{ℕ, ◌+◌, ◌*◌, ◌/◌, ◌%◌, ◌==◌, ◌&&◌, Bool, true, false, List, filter, sum, slice_get, Option}
+use Rattle.std.specs.Prelude.{ℕ, ◌+◌, ◌*◌, ◌/◌, ◌%◌, ◌==◌, ◌&&◌, Bool, true, false}
+use Rattle.std.specs.Prelude.{List, filter, sum, slice_get, Option}
 use Rattle.std.specs.Str.{bytes_eq}
 use Rattle.tab_law.specs.Books.{Laws}
 use Rattle.bench_item.specs.declared.key.Key.{Key}
@@ -30,8 +31,8 @@ pub record Configured : Type 0 where
   pub hosts : List (List ℕ)
   pub shards : ℕ
 
--- what the places of machines and the kinds of events depend on: the laws, the hosts of the configured peers in their order, and
--- how many shards there are
+-- what the places of machines and the kinds of events depend on: the laws, the hosts of the configured peers in their
+-- order, and how many shards there are
 pub record Node : Type 0 where
   pub laws : Laws
   pub peers : List (List ℕ)

@@ -1,3 +1,4 @@
+-- The words of the running bench.
 pub mod Past
 pub mod Entries
 pub mod Keys

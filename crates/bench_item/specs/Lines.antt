@@ -11,8 +11,8 @@ use Rattle.bench_item.specs.declared.line_state.LineState.TheVariants as at
 use Rattle.bench_item.specs.declared.opening.Opening.{Opening}
 use Rattle.bench_item.specs.declared.opening.Opening.TheVariants.{Accepted, Dialled}
 
--- what happens to a line once it is opened: its dial is acknowledged, octets come, it is lost, a deed for it is dropped, or a deed
--- that closes the line of a dial, by peer and generation
+-- what happens to a line once it is opened: its dial is acknowledged, octets come, it is lost, a deed for it is
+-- dropped, or a deed that closes the line of a dial, by peer and generation
 pub data LineStep : Type 0 where
   Acknowledged : LineStep
   Received : List ℕ → LineStep
@@ -20,8 +20,8 @@ pub data LineStep : Type 0 where
   Delivered : LineItem → LineStep
   Undialled : ℕ → ℕ → LineStep
 
--- what octets mean to a line: all that it puts out, by its opening and what happened to it; and, of a piece that comes after what
--- happened so far, whether it ends the line, and the octets that the line itself answers
+-- what octets mean to a line: all that it puts out, by its opening and what happened to it; and, of a piece that comes
+-- after what happened so far, whether it ends the line, and the octets that the line itself answers
 pub record LineRules : Type 0 where
   pub posts : Opening → List LineStep → List Item
   pub ends : Opening → List LineStep → List ℕ → Bool
@@ -56,7 +56,8 @@ standing (Dialled peer generation) happened = if list_any is_acknowledgement hap
 abbrev pub state_of : LineRules → Opening → List LineStep → LineState
 state_of rules opening happened = if is_closed rules opening happened then at.Closed else standing opening happened
 
--- what a line sends at a step that finds it open: its own answers to octets that come, and the message of a deed that is dropped
+-- what a line sends at a step that finds it open: its own answers to octets that come, and the message of a deed that
+-- is dropped
 abbrev pub sent_open : LineRules → (LineItem → List ℕ) → Opening → List LineStep → LineStep → List ℕ
 sent_open rules octets opening past (Received piece) = rules.answers opening past piece
 sent_open rules octets opening past (Delivered item) = octets item
@@ -64,7 +65,8 @@ sent_open rules octets opening past step = []
 
 -- a closed line sends nothing
 abbrev pub sent_at : LineRules → (LineItem → List ℕ) → Opening → List LineStep → LineStep → List ℕ
-sent_at rules octets opening past step = if is_closed rules opening past then [] else sent_open rules octets opening past step
+sent_at rules octets opening past step =
+    if is_closed rules opening past then [] else sent_open rules octets opening past step
 
 -- all that a line has sent
 abbrev pub sent_of : LineRules → (LineItem → List ℕ) → Opening → List LineStep → List ℕ

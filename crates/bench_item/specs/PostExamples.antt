@@ -5,8 +5,9 @@ use Rattle.base_codes.specs.declared.deed_code.DeedCode.{DeedCode}
 use Rattle.base_codes.specs.declared.deed_code.DeedCode.TheVariants as deeds
 use Rattle.tab_law.specs.declared.scene.Deed.{Deed}
 use Rattle.bench_item.specs.Keys.{Node, home, key_of, peer_numbered}
-use Rattle.bench_item.specs.Posts.{Doer, busy_posts, no_facts, posts_of}
+use Rattle.bench_item.specs.Posts.{Doer, busy_posts, keeps_line, machine_item, no_facts, posts_of}
 use Rattle.bench_item.specs.declared.item.Item.{Item}
+use Rattle.bench_item.specs.declared.item.MachineItem.{MachineItem}
 use Rattle.bench_item.specs.declared.item.Item.TheVariants.{Arm, Dial, ToLine, ToMachine}
 use Rattle.bench_item.specs.declared.key.Key.{Key}
 use Rattle.bench_item.specs.declared.key.Role.TheVariants.{Client, Peer, Server}
@@ -54,10 +55,11 @@ session = record { key = key_of Server (codes "c1;1"); machine = 0; kind = 1; se
 
 -- an event for a machine, without a condition
 abbrev event : Key → ℕ → List ℕ → List ℕ → Item
-event key kind facts handed = ToMachine (record { key = key; event = record { kind = kind; facts = facts }; condition = None; session = handed })
+event key kind facts handed = machine_item key facts None handed kind
 
 -- an answer of the session goes to the peer, with the session's own name; to a machine that is no peer's it doesn't go
-pub to_peer : posts_of node session (deed_of deeds.ToPeer (4096 ∷ 1 ∷ []) 62) ≡ event (key_of Peer (codes "c.example")) 0 (4096 ∷ 1 ∷ replicate 62 0) (codes "c1;1") ∷ []
+pub to_peer : posts_of node session (deed_of deeds.ToPeer (4096 ∷ 1 ∷ []) 62)
+    ≡ event (key_of Peer (codes "c.example")) 0 (4096 ∷ 1 ∷ replicate 62 0) (codes "c1;1") ∷ []
 unfolding coded
 to_peer = refl
 
@@ -65,12 +67,15 @@ pub to_no_peer : posts_of node session (deed_of deeds.ToPeer (1 ∷ 1 ∷ []) 62
 unfolding coded
 to_no_peer = refl
 
--- a request of class 1 and type 1 is an Initial for the server's session of that name, an answer of class 3 a fault for the client's
-pub request : posts_of node (peer_at 0) (deed_of deeds.ToSession (4096 ∷ 1 ∷ 0 ∷ 0 ∷ 1 ∷ 1 ∷ []) 58) ≡ event (key_of Server (codes "c1;1")) 1 (4096 ∷ 1 ∷ 0 ∷ 0 ∷ 1 ∷ 1 ∷ replicate 58 0) (codes "c1;1") ∷ []
+-- a request of class 1 and type 1 is an Initial for the server's session of that name, an answer of class 3 a fault for
+-- the client's
+pub request : posts_of node (peer_at 0) (deed_of deeds.ToSession (4096 ∷ 1 ∷ 0 ∷ 0 ∷ 1 ∷ 1 ∷ []) 58)
+    ≡ event (key_of Server (codes "c1;1")) 1 (4096 ∷ 1 ∷ 0 ∷ 0 ∷ 1 ∷ 1 ∷ replicate 58 0) (codes "c1;1") ∷ []
 unfolding coded
 request = refl
 
-pub fault : posts_of node (peer_at 0) (deed_of deeds.ToSession (4096 ∷ 1 ∷ 0 ∷ 0 ∷ 3 ∷ []) 59) ≡ event (key_of Client (codes "c1;1")) 2 (4096 ∷ 1 ∷ 0 ∷ 0 ∷ 3 ∷ replicate 59 0) (codes "c1;1") ∷ []
+pub fault : posts_of node (peer_at 0) (deed_of deeds.ToSession (4096 ∷ 1 ∷ 0 ∷ 0 ∷ 3 ∷ []) 59)
+    ≡ event (key_of Client (codes "c1;1")) 2 (4096 ∷ 1 ∷ 0 ∷ 0 ∷ 3 ∷ replicate 59 0) (codes "c1;1") ∷ []
 unfolding coded
 fault = refl
 
@@ -80,7 +85,8 @@ unfolding coded
 no_type = refl
 
 -- a request that no row of the peer's table took: its session is told; at another kind of event nobody is
-pub not_sent : posts_of node (peer_at 0) (deed_of deeds.Unlisted (4096 ∷ 0 ∷ 0 ∷ 0 ∷ 1 ∷ []) 59) ≡ event (key_of Client (codes "c1;1")) 3 (4096 ∷ 0 ∷ 0 ∷ 0 ∷ 1 ∷ replicate 59 0) (codes "c1;1") ∷ []
+pub not_sent : posts_of node (peer_at 0) (deed_of deeds.Unlisted (4096 ∷ 0 ∷ 0 ∷ 0 ∷ 1 ∷ []) 59)
+    ≡ event (key_of Client (codes "c1;1")) 3 (4096 ∷ 0 ∷ 0 ∷ 0 ∷ 1 ∷ replicate 59 0) (codes "c1;1") ∷ []
 unfolding coded
 not_sent = refl
 
@@ -89,7 +95,8 @@ unfolding coded
 not_told = refl
 
 -- an election that is won, for as long as register 1 is line 7, with the session of its event; one that is lost
-pub won : posts_of node (peer_at 0) (deed_of deeds.Elect (1 ∷ 7 ∷ []) 62) ≡ ToMachine (record { key = key_of Peer (codes "c.example"); event = record { kind = 4; facts = no_facts }; condition = Some (record { register = 1; value = 7 }); session = codes "c1;1" }) ∷ []
+pub won : posts_of node (peer_at 0) (deed_of deeds.Elect (1 ∷ 7 ∷ []) 62)
+    ≡ machine_item (key_of Peer (codes "c.example")) no_facts (Some (keeps_line 7)) (codes "c1;1") 4 ∷ []
 unfolding coded
 won = refl
 
@@ -111,7 +118,8 @@ unfolding coded
 arms = refl
 
 -- a message for line 1; deeds of the book and codes without a name post nothing
-pub sends : posts_of node (peer_at 0) (deed_of deeds.SndDwa (0 ∷ 1 ∷ []) 62) ≡ ToLine (record { line = 1; deed = deed_of deeds.SndDwa (0 ∷ 1 ∷ []) 62; session = codes "c1;1" }) ∷ []
+pub sends : posts_of node (peer_at 0) (deed_of deeds.SndDwa (0 ∷ 1 ∷ []) 62)
+    ≡ ToLine (record { line = 1; deed = deed_of deeds.SndDwa (0 ∷ 1 ∷ []) 62; session = codes "c1;1" }) ∷ []
 unfolding coded
 sends = refl
 
@@ -123,11 +131,21 @@ pub unnamed : posts_of node session (record { code = 4; a = no_facts }) ≡ []
 unfolding coded
 unnamed = refl
 
--- a request of a session that finds no room is answered 3004: class 3, facts 1 to 3, 5 and 6 as in the request
-pub busy : busy_posts node (record { key = key_of Server (codes "f;4095"); event = record { kind = 1; facts = 4096 ∷ 1 ∷ 7 ∷ 7 ∷ 1 ∷ 1 ∷ 1 ∷ 100 ∷ replicate 56 0 }; condition = None; session = [] })
-    ≡ event (key_of Peer (codes "c.example")) 0 (0 ∷ 1 ∷ 7 ∷ 7 ∷ 3 ∷ 1 ∷ 1 ∷ 0 ∷ 0 ∷ 0 ∷ 0 ∷ 0 ∷ 3004 ∷ replicate 51 0) (codes "f;4095") ∷ []
+-- an item for a session that finds no room
+abbrev item_of : Key → ℕ → List ℕ → MachineItem
+item_of key kind facts =
+    record { key = key; event = record { kind = kind; facts = facts }; condition = None; session = [] }
+
+-- a request is answered 3004: class 3, facts 1 to 3, 5 and 6 as in the request
+pub busy : busy_posts node
+    (item_of (key_of Server (codes "f;4095")) 1 (4096 ∷ 1 ∷ 7 ∷ 7 ∷ 1 ∷ 1 ∷ 1 ∷ 100 ∷ replicate 56 0))
+    ≡ event (key_of Peer (codes "c.example")) 0
+    (0 ∷ 1 ∷ 7 ∷ 7 ∷ 3 ∷ 1 ∷ 1 ∷ 0 ∷ 0 ∷ 0 ∷ 0 ∷ 0 ∷ 3004 ∷ replicate 51 0) (codes "f;4095")
+    ∷ []
 busy = refl
 
--- an answer that finds none is dropped
-pub busy_client : busy_posts node (record { key = key_of Client (codes "f;4095"); event = record { kind = 2; facts = 4096 ∷ 1 ∷ 7 ∷ 7 ∷ 3 ∷ replicate 59 0 }; condition = None; session = [] }) ≡ []
+-- an answer is dropped
+pub busy_client : busy_posts node
+    (item_of (key_of Client (codes "f;4095")) 2 (4096 ∷ 1 ∷ 7 ∷ 7 ∷ 3 ∷ replicate 59 0))
+    ≡ []
 busy_client = refl

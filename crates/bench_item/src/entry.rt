@@ -1,3 +1,5 @@
+//! What a log has of each step.
+
 use crate::item::Item;
 use crate::series::Series;
 use crate::step::Step;

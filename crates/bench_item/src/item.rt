@@ -1,3 +1,5 @@
+//! What is on its way, and where to.
+
 use crate::key::Key;
 use base_list::Octets;
 use tab_law::Deed;

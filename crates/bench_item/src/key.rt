@@ -1,3 +1,5 @@
+//! Which machine: its role and its name.
+
 use base_list::Octets;
 
 /// Which table and which laws a machine has.

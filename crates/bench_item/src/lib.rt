@@ -1,4 +1,5 @@
-//! The words of the running bench: who puts items out, what an item is, the steps that are taken, and what a deed posts.
+//! The words of the running bench: who puts items out, what an item is, the steps that are taken, and what a deed
+//! posts.
 //!
 //! | File | What it has |
 //! |---|---|

@@ -1,3 +1,5 @@
+//! Where a connection stands.
+
 /// Where a connection stands, from its opening to its end.
 #[derive(Clone, Copy)]
 pub enum LineState {

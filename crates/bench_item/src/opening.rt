@@ -1,3 +1,5 @@
+//! How a connection came to be.
+
 /// How a connection came to be.
 #[derive(Clone, Copy)]
 pub enum Opening {

@@ -1,3 +1,5 @@
+//! Values in order, as a contract sees them.
+
 ghost use Rattle.std.specs.Prelude.{◌≡◌, [], length};
 
 use std::alloc::Global;

@@ -1,3 +1,5 @@
+//! Who puts items out.
+
 /// Who puts items out. Each source has an outbox, and a hand that holds at most one item on its way.
 #[derive(Clone, Copy)]
 pub enum Source {

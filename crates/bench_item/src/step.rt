@@ -1,3 +1,5 @@
+//! The steps of the bench, and why one is refused.
+
 ghost use Rattle.std.specs.Prelude.{◌≡◌};
 ghost use Rattle.bench_item.specs.Steps.{number_of};
 
@@ -38,8 +40,8 @@ pub enum StepFault {
     Closed,
     /// The shard is paused.
     Paused,
-    /// There is nothing to take: an empty outbox, hand or inbox, a full hand, a timer that is not armed so, a connection that is
-    /// not being dialled.
+    /// There is nothing to take: an empty outbox, hand or inbox, a full hand, a timer that is not armed so, or a
+    /// connection that is not being dialled.
     Nothing,
     /// The log, the connections or the place where items would wait are full.
     Full,

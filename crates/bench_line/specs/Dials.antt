@@ -6,7 +6,8 @@ use Rattle.bench_line.specs.Line.{LineView}
 
 -- where the lines of a dial stand, in order
 abbrev pub states_of_dial : ℕ → ℕ → List LineView → List LineState
-states_of_dial peer generation lines = flat_map (λ l. if is_dial peer generation l.opening then l.state ∷ [] else []) lines
+states_of_dial peer generation lines =
+    flat_map (λ l. if is_dial peer generation l.opening then l.state ∷ [] else []) lines
 
 -- a line that stands so, where there is a state for it
 abbrev pub standing_as : List LineState → LineView → LineView

@@ -1,5 +1,7 @@
--- Lines with known values, by rules that tell each message's first octet behind its length: a wrong definition doesn't pass these lines.
-use Rattle.std.specs.Prelude.{◌≡◌, ◌==◌, ◌++◌, ℕ, List, [], ◌∷◌, Option, Some, None, take, drop, replicate, slice_index, refl}
+-- Lines with known values, by rules that tell each message's first octet behind its length: a wrong definition doesn't
+-- pass these lines.
+use Rattle.std.specs.Prelude.{◌≡◌, ◌==◌, ◌++◌, ℕ, List, [], ◌∷◌, Option, Some, None, take, drop, replicate, slice_index}
+use Rattle.std.specs.Prelude.{refl}
 use Rattle.dia_frame.specs.declared.fault.FrameFault.TheVariants.{Version}
 use Rattle.bench_item.specs.declared.hears.Turn.{Turn}
 use Rattle.bench_item.specs.declared.hears.LineEvent.{LineEvent}
@@ -10,7 +12,8 @@ use Rattle.bench_item.specs.declared.line_state.LineState.TheVariants as at
 use Rattle.bench_item.specs.declared.opening.Opening.TheVariants.{Accepted, Dialled}
 use Rattle.bench_item.specs.Lines.{LineStep, Acknowledged, Received, Gone, sent_of, state_of}
 use Rattle.bench_line.specs.Messages.{cut_by, messages, rest_of}
-use Rattle.bench_line.specs.Talk.{Meaning, answers_to, fault_met, is_cut, posts_by, posts_of, rules_of, turns, after_turns, at_first}
+use Rattle.bench_line.specs.Talk.{Meaning, answers_to, fault_met, is_cut, posts_by, posts_of, rules_of, turns}
+use Rattle.bench_line.specs.Talk.{after_turns, at_first}
 
 -- a message of 20 octets
 abbrev message : ℕ → List ℕ
@@ -76,6 +79,7 @@ pub refused : posts_of echo 1 (Dialled 0 3) (Gone ∷ []) ≡ Disarm 101 ∷ []
 unfolding posts_by turns messages cut_by rest_of
 refused = refl
 
-pub acknowledged : posts_of echo 1 (Dialled 0 3) (Acknowledged ∷ Received (message 1) ∷ Gone ∷ []) ≡ Disarm 100 ∷ Disarm 1 ∷ Disarm 102 ∷ []
+pub acknowledged : posts_of echo 1 (Dialled 0 3) (Acknowledged ∷ Received (message 1) ∷ Gone ∷ [])
+    ≡ Disarm 100 ∷ Disarm 1 ∷ Disarm 102 ∷ []
 unfolding posts_by turns messages cut_by rest_of
 acknowledged = refl

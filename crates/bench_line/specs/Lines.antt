@@ -1,5 +1,6 @@
 -- All lines as they are kept, what happened to each, and why a call is refused.
-use Rattle.std.specs.Prelude.{◌≡◌, ◌<◌, ◌==◌, false, ◌+◌, ◌-◌, ℕ, zero, suc, Bool, nat_le, nat_lt, List, [], ◌∷◌, ◌++◌, length, Option, Some, None, slice_get, option_map, if◌then◌else◌}
+use Rattle.std.specs.Prelude.{◌≡◌, ◌<◌, ◌==◌, false, ◌+◌, ◌-◌, ℕ, zero, suc, Bool, nat_le, nat_lt, List, [], ◌∷◌, ◌++◌}
+use Rattle.std.specs.Prelude.{length, Option, Some, None, slice_get, option_map, if◌then◌else◌}
 use Rattle.std.specs.Option.{option_and_then, option_map_or}
 use Rattle.dia_frame.specs.declared.fault.FrameFault.{FrameFault}
 use Rattle.bench_item.specs.declared.limit.TheConstants.{MAX_LINES, MAX_WAITING}
@@ -83,7 +84,8 @@ opened opening pasts = pasts ++ record { opening = opening; happened = [] } ∷ 
 -- The lines from this number on are what was done to them makes of them, each by itself.
 abbrev pub StandFrom : Meaning → ℕ → List LineView → List Past → Type 0
 StandFrom m line [] [] = Unit {0}
-StandFrom m line (l ∷ lines) (past ∷ pasts) = Stands m line l past.opening past.happened × StandFrom m (line + 1) lines pasts
+StandFrom m line (l ∷ lines) (past ∷ pasts) =
+    Stands m line l past.opening past.happened × StandFrom m (line + 1) lines pasts
 StandFrom m line lines pasts = ⊥
 
 -- The lines are what was done to each makes of it.
@@ -94,7 +96,9 @@ pub record StandFor (m : Meaning) (all : List LineView) (pasts : List Past) : Ty
 abbrev pub fault_at : Meaning → ℕ → List ℕ → List Past → Option FrameFault
 fault_at m line piece pasts =
     if line == 0 then None
-    else option_and_then (λ past. fault_met m line past.opening (stream_of past.happened ++ piece)) (slice_get pasts (line - 1))
+    else option_and_then
+    (λ past. fault_met m line past.opening (stream_of past.happened ++ piece))
+    (slice_get pasts (line - 1))
 
 -- how many items a line has put out
 abbrev pub put_out : List LineView → ℕ → ℕ

@@ -9,7 +9,8 @@ use Rattle.bench_line.specs.declared.limit.TheConstants.{MAX_MESSAGE}
 -- so many messages at most, each cut off at its length
 unfoldable pub cut_by : ℕ → List ℕ → List (List ℕ)
 cut_by zero stream = []
-cut_by (suc n) stream = option_map_or (λ len. take len stream ∷ cut_by n (drop len stream)) (whole_len MAX_MESSAGE stream) []
+cut_by (suc n) stream =
+    option_map_or (λ len. take len stream ∷ cut_by n (drop len stream)) (whole_len MAX_MESSAGE stream) []
 
 -- the messages of a stream: there are no more than octets
 unfoldable pub messages : List ℕ → List (List ℕ)

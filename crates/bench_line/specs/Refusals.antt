@@ -4,7 +4,8 @@ use Rattle.bench_line.specs.declared.fault.LineFault.{LineFault}
 use Rattle.bench_line.specs.declared.places.Call.{Call}
 use Rattle.bench_line.specs.declared.places.Call.TheVariants.{Dialled, Came, Lost}
 use Rattle.bench_line.specs.Line.{LineView}
-use Rattle.bench_line.specs.Lines.{dialled_refused, came_refused, lost_refused, dialled_refusal, came_refusal, lost_refusal}
+use Rattle.bench_line.specs.Lines.{dialled_refused, came_refused, lost_refused, dialled_refusal, came_refusal}
+use Rattle.bench_line.specs.Lines.{lost_refusal}
 
 -- why a line refuses a call
 abbrev pub refused_by : Call → LineView → Option LineFault

@@ -1,5 +1,6 @@
 -- What the messages of one piece come to, before any of it is kept.
-use Rattle.std.specs.Prelude.{◌≡◌, ℕ, Bool, false, ◌||◌, List, [], ◌∷◌, ◌++◌, Option, None, is_some, option_to_list, if◌then◌else◌}
+use Rattle.std.specs.Prelude.{◌≡◌, ℕ, Bool, false, ◌||◌, List, [], ◌∷◌, ◌++◌, Option, None, is_some, option_to_list}
+use Rattle.std.specs.Prelude.{if◌then◌else◌}
 use Rattle.std.specs.List.{list_any}
 use Rattle.dia_frame.specs.declared.fault.FrameFault.{FrameFault}
 use Rattle.dia_frame.specs.Framer.{FramerState, Shows}
@@ -13,7 +14,8 @@ use Rattle.bench_item.specs.Lines.{LineStep, Received}
 use Rattle.bench_line.specs.declared.limit.TheConstants.{MAX_MESSAGE}
 use Rattle.bench_line.specs.Line.{LineView, Stands, found}
 use Rattle.bench_line.specs.Messages.{messages, fault_in}
-use Rattle.bench_line.specs.Talk.{Meaning, after_turn, after_turns, turns, turns_by, posts_in, answers_in, does_close, stream_of, fault_met}
+use Rattle.bench_line.specs.Talk.{Meaning, after_turn, after_turns, turns, turns_by, posts_in, answers_in, does_close}
+use Rattle.bench_line.specs.Talk.{stream_of, fault_met}
 
 -- the line behind the last message that was heard, what the messages made it put out and answer, and whether it closes
 pub record RoundView : Type 0 where
@@ -42,10 +44,14 @@ pub record IsTurned (turn : Turn) (old new : RoundView) : Type 0 where
 
 -- what a fault behind the messages puts out
 abbrev pub fault_posts : Meaning → Bool → Heard → Option FrameFault → List Item
-fault_posts m closed at fault = if closed then [] else if is_some fault then option_to_list (m.turned at event.Disconnected) else []
+fault_posts m closed at fault =
+    if closed then []
+    else if is_some fault then option_to_list (m.turned at event.Disconnected)
+    else []
 
 -- The fault behind the messages ends the round, where no message closed the line.
-pub record IsEnded (m : Meaning) (fault : Option FrameFault) (old new : RoundView) (ended : Option FrameFault) : Type 0 where
+pub record IsEnded (m : Meaning) (fault : Option FrameFault) (old new : RoundView) (ended : Option FrameFault)
+    : Type 0 where
   pub at : new.at ≡ old.at
   pub posts : new.posts ≡ old.posts ++ fault_posts m old.closed old.at fault
   pub answers : new.answers ≡ old.answers
@@ -53,11 +59,14 @@ pub record IsEnded (m : Meaning) (fault : Option FrameFault) (old new : RoundVie
   pub met : ended ≡ (if old.closed then None else fault)
 
 -- What a piece comes to on a line that is open, behind a stream.
-pub record IsHeard (m : Meaning) (line : ℕ) (l : LineView) (opening : Opening) (stream piece : List ℕ) (framer : FramerState) (round : RoundView) (ended : Option FrameFault) : Type 0 where
+pub record IsHeard (m : Meaning) (line : ℕ) (l : LineView) (opening : Opening) (stream piece : List ℕ)
+    (framer : FramerState) (round : RoundView) (ended : Option FrameFault) : Type 0 where
   pub new : List Turn
   pub turned : turns m line opening (stream ++ piece) ≡ turns m line opening stream ++ new
   pub at : round.at ≡ after_turns (found line l) new
-  pub posts : round.posts ≡ posts_in new ++ fault_posts m (list_any does_close new) (after_turns (found line l) new) (fault_in (stream ++ piece))
+  pub posts : round.posts
+      ≡ posts_in new
+      ++ fault_posts m (list_any does_close new) (after_turns (found line l) new) (fault_in (stream ++ piece))
   pub answers : round.answers ≡ answers_in new
   pub closed : round.closed ≡ (list_any does_close new || is_some (fault_in (stream ++ piece)))
   pub met : ended ≡ (if list_any does_close new then None else fault_in (stream ++ piece))
@@ -81,6 +90,7 @@ pub record IsHolding (piece : List ℕ) (old new : LineView) : Type 0 where
       → Shows old.framer limit handed stream None → Shows new.framer limit handed (stream ++ piece) None
 
 -- Octets came on a line that was open: it stands for one step more, and this fault ended it, if one did.
-pub record Receives (m : Meaning) (line : ℕ) (opening : Opening) (happened : List LineStep) (piece : List ℕ) (l : LineView) (ended : Option FrameFault) : Type 0 where
+pub record Receives (m : Meaning) (line : ℕ) (opening : Opening) (happened : List LineStep) (piece : List ℕ)
+    (l : LineView) (ended : Option FrameFault) : Type 0 where
   pub stands : Stands m line l opening (happened ++ Received piece ∷ [])
   pub met : ended ≡ fault_met m line opening (stream_of happened ++ piece)

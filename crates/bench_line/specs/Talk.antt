@@ -1,5 +1,6 @@
 -- What a line puts out and answers by itself, by what messages mean.
-use Rattle.std.specs.Prelude.{ℕ, Bool, true, false, ◌||◌, List, [], ◌∷◌, ◌++◌, length, drop, fold, flat_map, Option, None, is_some, option_to_list, if◌then◌else◌}
+use Rattle.std.specs.Prelude.{ℕ, Bool, true, false, ◌||◌, List, [], ◌∷◌, ◌++◌, length, drop, fold, flat_map, Option}
+use Rattle.std.specs.Prelude.{None, is_some, option_to_list, if◌then◌else◌}
 use Rattle.std.specs.List.{list_any}
 use Rattle.std.specs.Option.{option_or}
 use Rattle.dia_frame.specs.declared.fault.FrameFault.{FrameFault}
@@ -21,8 +22,10 @@ pub record Meaning : Type 0 where
   pub octets_of : LineItem → List ℕ
 
 -- the meaning that rules of any kind give
-abbrev pub meaning : {T : Type 0} → (T → Heard → List ℕ → Turn) → (T → Heard → LineEvent → Option Item) → (T → LineItem → List ℕ) → T → Meaning
-meaning heard turned octets_of rules = record { heard = heard rules; turned = turned rules; octets_of = octets_of rules }
+abbrev pub meaning : {T : Type 0} → (T → Heard → List ℕ → Turn) → (T → Heard → LineEvent → Option Item)
+    → (T → LineItem → List ℕ) → T → Meaning
+meaning heard turned octets_of rules =
+    record { heard = heard rules; turned = turned rules; octets_of = octets_of rules }
 
 -- the line as a message finds it that comes behind a turn: what greeted it first stays
 abbrev pub after_turn : Heard → Turn → Heard
@@ -31,7 +34,8 @@ after_turn at turn = record { line = at.line; opening = at.opening; greeted = op
 -- what a line makes of messages in their order, up to the first that closes it
 abbrev pub turns_by : (Heard → List ℕ → Turn) → Heard → List (List ℕ) → List Turn
 turns_by heard at [] = []
-turns_by heard at (m ∷ ms) = heard at m ∷ (if (heard at m).closes then [] else turns_by heard (after_turn at (heard at m)) ms)
+turns_by heard at (m ∷ ms) =
+    heard at m ∷ (if (heard at m).closes then [] else turns_by heard (after_turn at (heard at m)) ms)
 
 -- the line as the first message finds it
 abbrev pub at_first : ℕ → Opening → Heard
@@ -84,12 +88,17 @@ end_event (Dialled peer generation) acknowledged = if acknowledged then event.Di
 abbrev pub end_posts : Meaning → ℕ → Opening → Bool → Bool → List ℕ → List Item
 end_posts m line opening acknowledged gone stream =
     if list_any does_close (turns m line opening stream) then []
-    else if gone || is_some (fault_in stream) then option_to_list (m.turned (after_turns (at_first line opening) (turns m line opening stream)) (end_event opening acknowledged))
+    else if gone || is_some (fault_in stream)
+    then option_to_list
+    (m.turned
+    (after_turns (at_first line opening) (turns m line opening stream))
+    (end_event opening acknowledged))
     else []
 
 -- what the acknowledgement of the dial puts out
 abbrev pub dial_posts : Meaning → ℕ → Opening → Bool → List Item
-dial_posts m line opening acknowledged = if acknowledged then option_to_list (m.turned (at_first line opening) event.Acknowledged) else []
+dial_posts m line opening acknowledged =
+    if acknowledged then option_to_list (m.turned (at_first line opening) event.Acknowledged) else []
 
 -- all that a line puts out, by whether its dial was acknowledged, whether it was lost, and the octets that came
 unfoldable pub posts_by : Meaning → ℕ → Opening → Bool → Bool → List ℕ → List Item
@@ -100,11 +109,14 @@ posts_by m line opening acknowledged gone stream =
 
 -- all that a line puts out by what happened to it
 abbrev pub posts_of : Meaning → ℕ → Opening → List LineStep → List Item
-posts_of m line opening happened = posts_by m line opening (list_any is_acknowledgement happened) (list_any is_loss happened) (stream_of happened)
+posts_of m line opening happened =
+    posts_by m line opening
+    (list_any is_acknowledgement happened) (list_any is_loss happened) (stream_of happened)
 
 -- the answers to the messages that a piece completes behind a stream
 unfoldable pub answers_to : Meaning → ℕ → Opening → List ℕ → List ℕ → List ℕ
-answers_to m line opening stream piece = answers_in (drop (length (turns m line opening stream)) (turns m line opening (stream ++ piece)))
+answers_to m line opening stream piece =
+    answers_in (drop (length (turns m line opening stream)) (turns m line opening (stream ++ piece)))
 
 -- what octets mean to the line of that number
 abbrev pub rules_of : Meaning → ℕ → LineRules

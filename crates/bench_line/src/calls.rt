@@ -32,7 +32,8 @@ pub struct Posted {
 
 impl<T: Hears> Lines<T> {
     ghost use Rattle.bench_item.specs.Lines.{Acknowledged, Received, Gone, Delivered, Undialled};
-    ghost use Rattle.bench_line.specs.Lines.{Past, StandFor, one_more, with_step, fault_at, put_out, dialled_refusal, came_refusal, lost_refusal};
+    ghost use Rattle.bench_line.specs.Lines.{Past, StandFor, one_more, with_step, fault_at, put_out, dialled_refusal};
+    ghost use Rattle.bench_line.specs.Lines.{came_refusal, lost_refusal};
     ghost use Rattle.bench_line.specs.Lines.{with_line, lifted_one};
     ghost use Rattle.bench_line.specs.Talk.{meaning};
     ghost use Rattle.bench_line.specs.Change.{taken_back};
@@ -40,8 +41,10 @@ impl<T: Hears> Lines<T> {
     /// The dial of a connection was acknowledged.
     pub fn dialled(&mut self, line: u64) -> Result<Posted, LineFault>
         ensures free { OnOk result (dialled_refusal self.old.lines line ≡ None) }
-        ensures stands { OnOk result ((pasts : List Past) → StandFor (meaning T.heard T.turned T.octets_of self.old.rules) self.old.lines pasts
-            → StandFor (meaning T.heard T.turned T.octets_of self.old.rules) self.new.lines (with_step line Acknowledged pasts)) }
+        ensures stands { OnOk result ((pasts : List Past)
+            → StandFor (meaning T.heard T.turned T.octets_of self.old.rules) self.old.lines pasts
+            → StandFor (meaning T.heard T.turned T.octets_of self.old.rules) self.new.lines
+            (with_step line Acknowledged pasts)) }
         ensures posted { IfOk result (λ r. put_out self.new.lines line ≡ put_out self.old.lines line + r.posted) }
         ensures undone { IfOk result (λ r. taken_back r.change self.new.lines ≡ self.old.lines) }
         ensures rules { self.new.rules ≡ self.old.rules }
@@ -60,10 +63,13 @@ impl<T: Hears> Lines<T> {
     /// Octets came on a connection. Those that complete a message, or show a fault, are heard; the fault closes it.
     pub fn came(&mut self, line: u64, piece: &[u8]) -> Result<Came, LineFault>
         ensures free { OnOk result (came_refusal self.old.lines line ≡ None) }
-        ensures stands { OnOk result ((pasts : List Past) → StandFor (meaning T.heard T.turned T.octets_of self.old.rules) self.old.lines pasts
-            → StandFor (meaning T.heard T.turned T.octets_of self.old.rules) self.new.lines (with_step line (Received piece.now) pasts)) }
+        ensures stands { OnOk result ((pasts : List Past)
+            → StandFor (meaning T.heard T.turned T.octets_of self.old.rules) self.old.lines pasts
+            → StandFor (meaning T.heard T.turned T.octets_of self.old.rules) self.new.lines
+            (with_step line (Received piece.now) pasts)) }
         // The fault of the stream, unless a message closed the connection before it.
-        ensures ended { IfOk result (λ r. (pasts : List Past) → StandFor (meaning T.heard T.turned T.octets_of self.old.rules) self.old.lines pasts
+        ensures ended { IfOk result (λ r. (pasts : List Past)
+            → StandFor (meaning T.heard T.turned T.octets_of self.old.rules) self.old.lines pasts
             → r.ended ≡ fault_at (meaning T.heard T.turned T.octets_of self.old.rules) line piece.now pasts) }
         ensures posted { IfOk result (λ r. put_out self.new.lines line ≡ put_out self.old.lines line + r.posted) }
         ensures undone { IfOk result (λ r. taken_back r.change self.new.lines ≡ self.old.lines) }
@@ -86,8 +92,10 @@ impl<T: Hears> Lines<T> {
     /// A connection was lost, or its dial refused.
     pub fn lost(&mut self, line: u64) -> Result<Posted, LineFault>
         ensures free { OnOk result (lost_refusal self.old.lines line ≡ None) }
-        ensures stands { OnOk result ((pasts : List Past) → StandFor (meaning T.heard T.turned T.octets_of self.old.rules) self.old.lines pasts
-            → StandFor (meaning T.heard T.turned T.octets_of self.old.rules) self.new.lines (with_step line Gone pasts)) }
+        ensures stands { OnOk result ((pasts : List Past)
+            → StandFor (meaning T.heard T.turned T.octets_of self.old.rules) self.old.lines pasts
+            → StandFor (meaning T.heard T.turned T.octets_of self.old.rules) self.new.lines
+            (with_step line Gone pasts)) }
         ensures posted { IfOk result (λ r. put_out self.new.lines line ≡ put_out self.old.lines line + r.posted) }
         ensures undone { IfOk result (λ r. taken_back r.change self.new.lines ≡ self.old.lines) }
         ensures rules { self.new.rules ≡ self.old.rules }
@@ -103,10 +111,13 @@ impl<T: Hears> Lines<T> {
         Ok(Posted { posted, change })
     }
 
-    /// A deed is dropped to a connection: one that sends a message, or a Close. Where the connection is closed or unknown nothing is done.
+    /// A deed is dropped to a connection: one that sends a message, or a Close. Where the connection is closed or
+    /// unknown nothing is done.
     pub fn deliver(&mut self, item: &LineItem) -> Result<Change, LineFault>
-        ensures stands { OnOk result ((pasts : List Past) → StandFor (meaning T.heard T.turned T.octets_of self.old.rules) self.old.lines pasts
-            → StandFor (meaning T.heard T.turned T.octets_of self.old.rules) self.new.lines (with_step item.now.line (Delivered item.now) pasts)) }
+        ensures stands { OnOk result ((pasts : List Past)
+            → StandFor (meaning T.heard T.turned T.octets_of self.old.rules) self.old.lines pasts
+            → StandFor (meaning T.heard T.turned T.octets_of self.old.rules) self.new.lines
+            (with_step item.now.line (Delivered item.now) pasts)) }
         ensures undone { IfOk result (λ change. taken_back change self.new.lines ≡ self.old.lines) }
         ensures rules { self.new.rules ≡ self.old.rules }
         ensures fault { IfErr result (λ f. f ≡ LineFault.NoMemory) }
@@ -125,8 +136,10 @@ impl<T: Hears> Lines<T> {
     /// The dial of that peer and generation is given up: a connection that it opened closes.
     pub fn undial(&mut self, peer: u64, generation: u64) -> Result<Change, LineFault>
         ensures lines { OnOk result (self.new.lines ≡ map (undialled peer generation) self.old.lines) }
-        ensures stands { OnOk result ((pasts : List Past) → StandFor (meaning T.heard T.turned T.octets_of self.old.rules) self.old.lines pasts
-            → StandFor (meaning T.heard T.turned T.octets_of self.old.rules) self.new.lines (map (one_more (Undialled peer generation)) pasts)) }
+        ensures stands { OnOk result ((pasts : List Past)
+            → StandFor (meaning T.heard T.turned T.octets_of self.old.rules) self.old.lines pasts
+            → StandFor (meaning T.heard T.turned T.octets_of self.old.rules) self.new.lines
+            (map (one_more (Undialled peer generation)) pasts)) }
         ensures undone { IfOk result (λ change. taken_back change self.new.lines ≡ self.old.lines) }
         ensures rules { self.new.rules ≡ self.old.rules }
         ensures fault { IfErr result (λ f. f ≡ LineFault.NoMemory) }
@@ -145,7 +158,8 @@ impl<T: Hears> Lines<T> {
     pub fn lift(&mut self, line: u64) -> Change
         ensures lifted { self.new.lines ≡ with_line line lifted_one self.old.lines }
         ensures rules { self.new.rules ≡ self.old.rules }
-        ensures stands { (pasts : List Past) → StandFor (meaning T.heard T.turned T.octets_of self.old.rules) self.old.lines pasts
+        ensures stands { (pasts : List Past)
+            → StandFor (meaning T.heard T.turned T.octets_of self.old.rules) self.old.lines pasts
             → StandFor (meaning T.heard T.turned T.octets_of self.old.rules) self.new.lines pasts }
         ensures undone { taken_back result self.new.lines ≡ self.old.lines }
     {

@@ -1,7 +1,10 @@
+//! What a call changed.
+
 use crate::line::Before;
 use bench_item::LineState;
 
-/// What a call changed, from which it can be taken back. That is the caller's to keep, and calls are taken back last first.
+/// What a call changed, from which it can be taken back. That is the caller's to keep, and calls are taken back last
+/// first.
 #[derive(Drop)]
 pub enum Change {
     Nothing,

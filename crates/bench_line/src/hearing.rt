@@ -10,7 +10,8 @@ use dia_frame::{FrameFault, Framer};
 use std::alloc::Global;
 use std::mem;
 
-/// What a piece comes to, apart from the connection: the framer behind it, what its messages make, and the fault that ends it.
+/// What a piece comes to, apart from the connection: the framer behind it, what its messages make, and the fault that
+/// ends it.
 #[derive(Drop)]
 struct Listened {
     framer: Framer,
@@ -34,7 +35,8 @@ impl Line {
         rules: &T,
         line: u64,
     ) -> Result<(), LineFault>
-        ensures ok { OnOk result (self.new ≡ acknowledged (meaning T.heard T.turned T.octets_of rules.now) line self.old) }
+        ensures ok { OnOk result (self.new
+            ≡ acknowledged (meaning T.heard T.turned T.octets_of rules.now) line self.old) }
         ensures fault { IfErr result (λ f. f ≡ LineFault.NoMemory) }
         ensures err { OnErr result (self.new ≡ self.old) }
     {
@@ -86,7 +88,8 @@ impl Line {
 
     // Holds a piece, where it completes no message and shows no fault.
     fn hold(&mut self, piece: &[u8]) -> Result<Option<Before>, LineFault>
-        ensures ok { IfOk result (λ r. MatchOption r (self.new ≡ self.old) (λ _. IsHolding piece.now self.old self.new)) }
+        ensures ok { IfOk result (λ r. MatchOption r (self.new ≡ self.old)
+            (λ _. IsHolding piece.now self.old self.new)) }
         ensures outbox { IfOk result (λ r. IfSome r (λ before. before.outbox ≡ length self.old.outbox)) }
         ensures undone { IfOk result (λ r. IfSome r (λ before. restored before self.new ≡ self.old)) }
         ensures fault { IfErr result (λ f. f ≡ LineFault.NoMemory) }
@@ -139,7 +142,8 @@ impl Line {
     ) -> Result<Listened, LineFault>
         ensures heard { IfOk result (λ r. (opening : Opening) (happened : List LineStep)
             → IsAlive (meaning T.heard T.turned T.octets_of rules.now) line self.now opening happened
-            → IsHeard (meaning T.heard T.turned T.octets_of rules.now) line self.now opening (stream_of happened) piece.now r.framer r.round r.ended) }
+            → IsHeard (meaning T.heard T.turned T.octets_of rules.now) line self.now opening (stream_of happened)
+            piece.now r.framer r.round r.ended) }
         ensures fault { IfErr result (λ f. f ≡ LineFault.NoMemory) }
     {
         let mut framer = self.framer.copy()?;
@@ -183,7 +187,8 @@ impl Line {
         rules: &T,
         item: &LineItem,
     ) -> Result<(), LineFault>
-        ensures ok { OnOk result (self.new ≡ delivered (meaning T.heard T.turned T.octets_of rules.now) item.now self.old) }
+        ensures ok { OnOk result (self.new
+            ≡ delivered (meaning T.heard T.turned T.octets_of rules.now) item.now self.old) }
         ensures fault { IfErr result (λ f. f ≡ LineFault.NoMemory) }
         ensures err { OnErr result (self.new ≡ self.old) }
     {

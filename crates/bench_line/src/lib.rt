@@ -1,5 +1,5 @@
-//! The connections of a node, numbered from 1 in order of opening: their octets cut into messages, what they put out and send.
-//! What messages mean is a parameter, `Hears` of `bench_item`.
+//! The connections of a node, numbered from 1 in order of opening: their octets cut into messages, what they put out
+//! and send. What messages mean is a parameter, `Hears` of `bench_item`.
 //!
 //! | File | What it has |
 //! |---|---|

@@ -1,5 +1,6 @@
 //! One connection: how it is kept, and how it is seen.
-ghost use Rattle.std.specs.Prelude.{◌≡◌, ◌++◌, length, IfErr, OnOk, OnErr, option_to_list, option_copied, slice_get, nat_lt, ◌-◌};
+ghost use Rattle.std.specs.Prelude.{◌≡◌, ◌++◌, length, IfErr, OnOk, OnErr, option_to_list, option_copied, slice_get};
+ghost use Rattle.std.specs.Prelude.{nat_lt, ◌-◌};
 
 use crate::fault::LineFault;
 use crate::limit::MAX_MESSAGE;
@@ -35,7 +36,8 @@ impl FramerBefore {
     }
 }
 
-/// What a connection was before a call. Of what it put out and sent only the lengths are kept, since nothing before them changes.
+/// What a connection was before a call. Of what it put out and sent only the lengths are kept, since nothing before
+/// them changes.
 #[derive(Drop)]
 pub struct Before {
     pub state: LineState,
@@ -77,7 +79,15 @@ impl Model for Line {
 
     ghost Value = { LineView };
 
-    ghost view = { λ l. record { opening = l.opening; state = l.state; framer = l.framer; greeted = l.greeted; outbox = l.outbox.items; lifted = l.lifted; sent = l.sent.items } };
+    ghost view = { λ l. record {
+      opening = l.opening;
+      state = l.state;
+      framer = l.framer;
+      greeted = l.greeted;
+      outbox = l.outbox.items;
+      lifted = l.lifted;
+      sent = l.sent.items;
+    } };
 }
 
 impl Line {

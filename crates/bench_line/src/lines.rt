@@ -1,5 +1,6 @@
 //! All connections of a node: their opening, and how they are seen.
-ghost use Rattle.std.specs.Prelude.{◌≡◌, ◌+◌, ◌++◌, ◌∷◌, [], List, length, IfOk, IfErr, OnOk, OnErr, None, option_copied, unwrap_or, min, take, drop};
+ghost use Rattle.std.specs.Prelude.{◌≡◌, ◌+◌, ◌++◌, ◌∷◌, [], List, length, IfOk, IfErr, OnOk, OnErr, None};
+ghost use Rattle.std.specs.Prelude.{option_copied, unwrap_or, min, take, drop};
 
 use crate::fault::LineFault;
 use crate::line::Line;
@@ -7,11 +8,12 @@ use bench_item::{Hears, Item, LineState, MAX_LINES, Opening};
 use std::alloc::Global;
 use std::marker::Model;
 
-/// All connections of a node, numbered from 1 in order of opening; a number is never used again. A contract sees the rules and, of each
-/// connection, how it was opened, where it stands, what it put out and what it sent.
+/// All connections of a node, numbered from 1 in order of opening; a number is never used again. A contract sees the
+/// rules and, of each connection, how it was opened, where it stands, what it put out and what it sent.
 ///
-/// In: `joined`, `dial`, `dialled`, `came`, `lost`, `deliver`, `undial`. Out: `next` and `lift`. Looks: `state`, `item`, `lifted`, `sent`,
-/// `unsent`. A call that is refused leaves all as it was; one that was taken can be taken back by its `Change`.
+/// In: `joined`, `dial`, `dialled`, `came`, `lost`, `deliver`, `undial`. Out: `next` and `lift`. Looks: `state`,
+/// `item`, `lifted`, `sent`, `unsent`. A call that is refused leaves all as it was; one that was taken can be taken
+/// back by its `Change`.
 pub struct Lines<T> {
     pub(crate) alloc: Global,
     pub(crate) rules: T,
@@ -77,8 +79,10 @@ impl<T: Hears> Lines<T> {
     pub fn joined(&mut self) -> Result<u64, LineFault>
         ensures free { OnOk result (opening_refusal self.old.lines ≡ None) }
         ensures number { IfOk result (λ line. line ≡ length self.old.lines + 1) }
-        ensures stands { OnOk result ((pasts : List Past) → StandFor (meaning T.heard T.turned T.octets_of self.old.rules) self.old.lines pasts
-            → StandFor (meaning T.heard T.turned T.octets_of self.old.rules) self.new.lines (opened openings.Accepted pasts)) }
+        ensures stands { OnOk result ((pasts : List Past)
+            → StandFor (meaning T.heard T.turned T.octets_of self.old.rules) self.old.lines pasts
+            → StandFor (meaning T.heard T.turned T.octets_of self.old.rules) self.new.lines
+            (opened openings.Accepted pasts)) }
         ensures undone { OnOk result (taken_back Change.Opened self.new.lines ≡ self.old.lines) }
         ensures rules { self.new.rules ≡ self.old.rules }
         ensures fault { IfErr result (λ f. f ≡ unwrap_or (opening_refusal self.old.lines) LineFault.NoMemory) }
@@ -87,12 +91,15 @@ impl<T: Hears> Lines<T> {
         self.add(Opening::Accepted)
     }
 
-    /// A dial opens a connection to the peer whose machine has that number. Answers its number. It is taken back by `Change::Opened`.
+    /// A dial opens a connection to the peer whose machine has that number. Answers its number. It is taken back by
+    /// `Change::Opened`.
     pub fn dial(&mut self, peer: u64, generation: u64) -> Result<u64, LineFault>
         ensures free { OnOk result (opening_refusal self.old.lines ≡ None) }
         ensures number { IfOk result (λ line. line ≡ length self.old.lines + 1) }
-        ensures stands { OnOk result ((pasts : List Past) → StandFor (meaning T.heard T.turned T.octets_of self.old.rules) self.old.lines pasts
-            → StandFor (meaning T.heard T.turned T.octets_of self.old.rules) self.new.lines (opened (openings.Dialled peer generation) pasts)) }
+        ensures stands { OnOk result ((pasts : List Past)
+            → StandFor (meaning T.heard T.turned T.octets_of self.old.rules) self.old.lines pasts
+            → StandFor (meaning T.heard T.turned T.octets_of self.old.rules) self.new.lines
+            (opened (openings.Dialled peer generation) pasts)) }
         ensures undone { OnOk result (taken_back Change.Opened self.new.lines ≡ self.old.lines) }
         ensures rules { self.new.rules ≡ self.old.rules }
         ensures fault { IfErr result (λ f. f ≡ unwrap_or (opening_refusal self.old.lines) LineFault.NoMemory) }
@@ -145,8 +152,8 @@ impl<T: Hears> Lines<T> {
         at.lifted()
     }
 
-    /// Copies what a connection sent from a place on, as much as there is and fits, to the front of `out`, and says how much that is. Takes
-    /// no memory.
+    /// Copies what a connection sent from a place on, as much as there is and fits, to the front of `out`, and says how
+    /// much that is. Takes no memory.
     pub fn unsent(&self, line: u64, from: usize, out: &mut [u8]) -> usize
         ensures count { result ≡ min (length (drop from (sent_on self.now.lines line))) (length out.old) }
         ensures octets { out.new ≡ take result (drop from (sent_on self.now.lines line)) ++ drop result out.old }

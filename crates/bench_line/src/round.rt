@@ -1,4 +1,5 @@
-//! What the messages of one piece come to. It stands apart from the connection, which is as it was where memory runs out.
+//! What the messages of one piece come to. It stands apart from the connection, which is as it was where memory runs
+//! out.
 ghost use Rattle.std.specs.Prelude.{◌≡◌, ◌++◌, [], ℕ, List, IfOk, IfErr, OnOk, None, false, option_to_list};
 ghost use Rattle.dia_frame.specs.Framer.{Shows};
 
@@ -100,7 +101,8 @@ impl Round {
         Ok(round)
     }
 
-    /// Ends the round at a fault of the stream, unless a message closed the connection before it. Answers the fault that ended it.
+    /// Ends the round at a fault of the stream, unless a message closed the connection before it. Answers the fault
+    /// that ended it.
     pub(crate) fn end<T: Hears>(
         &mut self,
         alloc: Global,

@@ -1,3 +1,4 @@
+-- What deeds post, as the code has it.
 pub mod Groups
 pub mod Made
 pub mod Nodes

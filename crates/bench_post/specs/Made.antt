@@ -21,4 +21,6 @@ pub record Makes (answer : Result (Option Item) AllocError) (posts : List Item) 
 -- the item that carries an event, if there is one, to a machine
 abbrev pub carried : Key → Option Event → Option Condition → List ℕ → List Item
 carried key event condition session =
-    option_to_list (option_map (λ event. ToMachine (record { key = key; event = event; condition = condition; session = session })) event)
+    option_to_list (option_map
+    (λ event. ToMachine (record { key = key; event = event; condition = condition; session = session }))
+    event)

@@ -3,7 +3,9 @@ use Rattle.std.specs.Prelude.{ℕ, List, codes}
 use Rattle.bench_item.specs.declared.key.Role.{Role}
 use Rattle.bench_item.specs.declared.key.Role.TheVariants.{Client, Server}
 use Rattle.bench_post.specs.declared.session.SessionEvent.{SessionEvent}
-use Rattle.bench_post.specs.declared.session.SessionEvent.TheVariants.{Initial, Update, Terminate, Event, CcaInitial, CcaUpdate, CcaTerminate, CcaEvent, CcaFault}
+use Rattle.bench_post.specs.declared.session.SessionEvent.TheVariants.{Initial, Update, Terminate, Event}
+use Rattle.bench_post.specs.declared.session.SessionEvent.TheVariants.{CcaInitial, CcaUpdate, CcaTerminate}
+use Rattle.bench_post.specs.declared.session.SessionEvent.TheVariants.{CcaEvent, CcaFault}
 
 -- whose event it is
 abbrev pub role_of : SessionEvent → Role

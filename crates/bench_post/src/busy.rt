@@ -7,18 +7,13 @@ ghost use Rattle.bench_post.specs.Made.{Makes};
 ghost use Rattle.bench_item.specs.Keys.{node_of};
 
 use crate::message::to_peer;
-use base_codes::session_fact;
+use base_codes::{ResultCode, message_class, session_fact};
 use bench_item::{Item, MachineItem, Peers, Role};
 use std::alloc::{AllocError, Global};
 use tab_law::{LawBook, PLACES};
 
-/// The class of an answer that tells a fault.
-const FAULT: u64 = 3;
-
-/// DIAMETER_TOO_BUSY (RFC 6733 section 7.1.3).
-const TOO_BUSY: u64 = 3004;
-
-/// The facts of that answer: of the request the line, both identifiers, its type and its number.
+/// The facts of the answer DIAMETER_TOO_BUSY (RFC 6733 section 7.1.3): of the request the line, both identifiers, its
+/// type and its number.
 fn busy_facts(facts: &[u64; PLACES]) -> [u64; PLACES]
     ensures { result ≡ busy_facts facts.now }
 {
@@ -26,10 +21,10 @@ fn busy_facts(facts: &[u64; PLACES]) -> [u64; PLACES]
     answer[session_fact::LINE] = facts[session_fact::LINE];
     answer[session_fact::HOP_BY_HOP] = facts[session_fact::HOP_BY_HOP];
     answer[session_fact::END_TO_END] = facts[session_fact::END_TO_END];
-    answer[session_fact::CLASS] = FAULT;
+    answer[session_fact::CLASS] = message_class::FAULT;
     answer[session_fact::REQUEST_TYPE] = facts[session_fact::REQUEST_TYPE];
     answer[session_fact::REQUEST_NUMBER] = facts[session_fact::REQUEST_NUMBER];
-    answer[session_fact::RESULT_CODE] = TOO_BUSY;
+    answer[session_fact::RESULT_CODE] = u64::from(ResultCode::TooBusy.number());
     answer
 }
 
@@ -43,7 +38,7 @@ fn answer_request(
 ) -> Result<Option<Item>, AllocError>
     ensures { Makes result (answer_posts (node_of laws.now peers.now) facts.now session.now) }
 {
-    if facts[session_fact::CLASS] != 1 {
+    if facts[session_fact::CLASS] != message_class::REQUEST {
         return Ok(None);
     }
     let answer = busy_facts(facts);
@@ -57,8 +52,8 @@ fn answer_request(
     )
 }
 
-/// What is posted, at most one item, for an item whose session finds no room: a request is answered DIAMETER_TOO_BUSY, all else is
-/// dropped. A post whose names have at most 32 octets each takes no memory.
+/// What is posted, at most one item, for an item whose session finds no room: a request is answered DIAMETER_TOO_BUSY,
+/// all else is dropped. A post whose names have at most 32 octets each takes no memory.
 pub fn busy_posts(
     alloc: Global,
     laws: &LawBook,

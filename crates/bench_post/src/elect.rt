@@ -11,7 +11,8 @@ use bench_item::{Condition, Item, MachineItem, Peers};
 use std::alloc::{AllocError, Global};
 use tab_law::{Deed, LawBook, PLACES};
 
-/// Tells the machine itself that it won, for as long as it keeps the line that argument 1 names. What its event handed on is handed on.
+/// Tells the machine itself that it won, for as long as it keeps the line that argument 1 names. What its event handed
+/// on is handed on.
 pub(crate) fn elect(
     alloc: Global,
     laws: &LawBook,

@@ -24,7 +24,8 @@ pub(crate) fn is_kind_of(laws: &LawBook, kind: u8, name: &[u8]) -> bool
 
 /// The event of that name with these facts; none where the book has no such kind. Takes no memory.
 pub(crate) fn event_of(laws: &LawBook, name: &[u8], facts: &[u64; PLACES]) -> Option<Event>
-    ensures { result ≡ option_map (λ kind. record { kind = kind; facts = facts.now }) (place_of name.now laws.now.kinds) }
+    ensures { result
+        ≡ option_map (λ kind. record { kind = kind; facts = facts.now }) (place_of name.now laws.now.kinds) }
 {
     laws.known();
     let kind = laws.kinds().find(name)?;

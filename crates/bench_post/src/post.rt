@@ -91,8 +91,9 @@ fn posts_by(
     }
 }
 
-/// What a deed posts, at most one item: a deed of the machine of that number, done as it handled that item. Deeds of the account
-/// book, Service, and codes without a name post nothing. A post whose names have at most 32 octets each takes no memory.
+/// What a deed posts, at most one item: a deed of the machine of that number, done as it handled that item. Deeds of
+/// the account book, Service, and codes without a name post nothing. A post whose names have at most 32 octets each
+/// takes no memory.
 pub fn posts_of(
     alloc: Global,
     laws: &LawBook,

@@ -6,7 +6,7 @@ ghost use Rattle.bench_item.specs.declared.key.Role.TheVariants.{Client, Server}
 ghost use Rattle.bench_item.specs.Posts.{session_event, request_kind, answer_kind};
 ghost use Rattle.bench_post.specs.Sessions.{role_of, name_of, as_event};
 
-use base_codes::session_fact;
+use base_codes::{message_class, session_fact};
 use bench_item::Role;
 use tab_law::PLACES;
 
@@ -99,12 +99,13 @@ fn answer_event(request_type: u64) -> Option<SessionEvent>
 
 /// What a message with these facts is, by its class; none for another class or type.
 pub(crate) fn session_event(facts: &[u64; PLACES]) -> Option<SessionEvent>
-    ensures { option_map as_event result ≡ session_event (slice_index facts.now CLASS) (slice_index facts.now REQUEST_TYPE) }
+    ensures { option_map as_event result
+        ≡ session_event (slice_index facts.now CLASS) (slice_index facts.now REQUEST_TYPE) }
 {
     match facts[session_fact::CLASS] {
-        1 => request_event(facts[session_fact::REQUEST_TYPE]),
-        2 => answer_event(facts[session_fact::REQUEST_TYPE]),
-        3 => Some(SessionEvent::CcaFault),
+        message_class::REQUEST => request_event(facts[session_fact::REQUEST_TYPE]),
+        message_class::ANSWER => answer_event(facts[session_fact::REQUEST_TYPE]),
+        message_class::FAULT => Some(SessionEvent::CcaFault),
         _ => None,
     }
 }

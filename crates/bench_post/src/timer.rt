@@ -2,12 +2,13 @@
 
 ghost use Rattle.std.specs.Prelude.{◌≡◌, option_to_list, slice_index};
 ghost use Rattle.bench_item.specs.declared.item.Item.TheVariants.{Undial, Arm};
-ghost use Rattle.bench_post.specs.Groups.{dial_posts};
+ghost use Rattle.bench_item.specs.Posts.{dial_posts};
 
 use bench_item::{Item, Peers};
 use tab_law::Deed;
 
-/// Opens a connection to the peer whose machine has the number of argument 0; nothing where no peer's has. Takes no memory.
+/// Opens a connection to the peer whose machine has the number of argument 0; nothing where no peer's has. Takes no
+/// memory.
 pub(crate) fn dial(peers: &Peers, deed: &Deed) -> Option<Item>
     ensures { option_to_list result ≡ dial_posts peers.now deed.now }
 {

@@ -7,7 +7,7 @@ ghost use Rattle.bench_item.specs.Keys.{node_of};
 
 use crate::event::{carry, event_of, is_kind_of};
 use crate::line::handed_on;
-use base_codes::session_fact;
+use base_codes::{message_class, session_fact};
 use bench_item::{Item, MachineItem, Peers, Role};
 use std::alloc::{AllocError, Global};
 use tab_law::{Deed, LawBook};
@@ -18,7 +18,7 @@ fn is_unsent(laws: &LawBook, item: &MachineItem, deed: &Deed) -> bool
 {
     deed.known();
     is_kind_of(laws, item.event.kind, b"Send-Message")
-        && deed.a[session_fact::CLASS] == 1
+        && deed.a[session_fact::CLASS] == message_class::REQUEST
         && !handed_on(item).is_empty()
 }
 

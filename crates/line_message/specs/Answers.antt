@@ -1,5 +1,6 @@
 -- What a connection answers by itself.
-use Rattle.std.specs.Prelude.{ℕ, ◌==◌, ◌&&◌, ◌^◌, not, nat_le, Bool, false, List, [], length, find, Option, None, Some, if◌then◌else◌}
+use Rattle.std.specs.Prelude.{ℕ, ◌==◌, ◌&&◌, ◌^◌, not, nat_le, Bool, false, List, [], length, find, Option, None, Some}
+use Rattle.std.specs.Prelude.{if◌then◌else◌}
 use Rattle.std.specs.Option.{option_and_then, option_map_or}
 use Rattle.std.specs.Str.{is_utf8}
 use Rattle.base_codes.specs.declared.avp_code.TheConstants.{SESSION_ID}
@@ -20,8 +21,8 @@ is_session_id octets = is_utf8 octets && (not (length octets == 0) && nat_le (le
 abbrev pub session_of : List ℕ → Option (List ℕ)
 session_of octets = if is_session_id octets then Some octets else None
 
--- the session of a message that may be faulty: that of its first whole AVP Session-Id without a vendor, before any broken length at
--- the top level
+-- the session of a message that may be faulty: that of its first whole AVP Session-Id without a vendor, before any
+-- broken length at the top level
 abbrev pub session_in : List ℕ → Option (List ℕ)
 session_in octets = option_and_then (λ a. session_of a.octets) (find (is_coded SESSION_ID) (whole_avps octets))
 
@@ -29,6 +30,7 @@ session_in octets = option_and_then (λ a. session_of a.octets) (find (is_coded 
 unfoldable pub is_long : MsgFault → Bool
 is_long f = option_map_or (λ a. nat_le (2 ^ 24) (length_of a)) f.failed false
 
--- the octets of the answer to a message with such a fault (RFC 6733 section 7.2); none where 24 bits don't hold its length
+-- the octets of the answer to a message with such a fault (RFC 6733 section 7.2); none where 24 bits don't hold its
+-- length
 unfoldable pub answer_octets : Identity → List ℕ → MsgFault → List ℕ
 answer_octets me octets f = if is_long f then [] else octets_of (answer_to me (header_in octets) (session_in octets) f)

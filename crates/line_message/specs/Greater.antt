@@ -1,4 +1,5 @@
--- Which of two lists of octets is the greater one, as a function: `peer_rules.specs.Election.IsGreater` has it as a relation.
+-- Which of two lists of octets is the greater one, as a function: `peer_rules.specs.Election.IsGreater` has it as a
+-- relation.
 use Rattle.std.specs.Prelude.{ℕ, ◌==◌, nat_lt, Bool, true, false, List, [], ◌∷◌, if◌then◌else◌}
 
 -- the first place at which they differ decides; a list is greater than a front of it

@@ -1,13 +1,17 @@
 -- What a connection makes of a message (RFC 6733 sections 5.3 to 5.6).
-use Rattle.std.specs.Prelude.{ℕ, ◌==◌, ◌&&◌, ◌||◌, nat_lt, Bool, true, false, List, [], length, codes, Option, None, Some, Result, Ok, Err, slice_set, unwrap_or, if◌then◌else◌}
+use Rattle.std.specs.Prelude.{ℕ, ◌==◌, ◌&&◌, ◌||◌, nat_lt, Bool, true, false, List, [], length, codes, Option, None}
+use Rattle.std.specs.Prelude.{Some, Result, Ok, Err, slice_set, unwrap_or, if◌then◌else◌}
 use Rattle.std.specs.List.{list_any}
 use Rattle.std.specs.Option.{option_map_or}
 use Rattle.base_codes.specs.CommandCodes.{number_of as number_of_command}
 use Rattle.base_codes.specs.ResultCodes.{number_of as number_of_result}
-use Rattle.base_codes.specs.declared.avp_code.TheConstants.{AUTH_APPLICATION_ID}
+use Rattle.base_codes.specs.declared.application.TheConstants.{CREDIT_CONTROL, RELAY}
+use Rattle.base_codes.specs.declared.avp_code.TheConstants.{AUTH_APPLICATION_ID, VENDOR_SPECIFIC_APPLICATION_ID}
 use Rattle.base_codes.specs.declared.command_code.CommandCode.TheVariants.{CapabilitiesExchange}
+use Rattle.base_codes.specs.declared.length.TheConstants.{HEADER_LEN}
 use Rattle.base_codes.specs.declared.peer_fact.TheConstants.{LOCAL_WINS}
-use Rattle.base_codes.specs.declared.result_code.ResultCode.TheVariants.{Success, CommandUnsupported, UnknownPeer, NoCommonApplication, UnableToComply}
+use Rattle.base_codes.specs.declared.result_code.ResultCode.TheVariants.{Success, CommandUnsupported, UnknownPeer}
+use Rattle.base_codes.specs.declared.result_code.ResultCode.TheVariants.{NoCommonApplication, UnableToComply}
 use Rattle.bench_item.specs.declared.hears.Heard.{Heard}
 use Rattle.bench_item.specs.declared.hears.Turn.{Turn}
 use Rattle.bench_item.specs.declared.item.Item.{Item}
@@ -29,7 +33,6 @@ use Rattle.msg_meaning.specs.Meaning.{meaning}
 use Rattle.peer_rules.specs.Election.{lowered}
 use Rattle.peer_rules.specs.Events.{event_place}
 use Rattle.line_message.specs.Answers.{answer_octets}
-use Rattle.line_message.specs.declared.application.TheConstants.{CREDIT_CONTROL, RELAY, VENDOR_SPECIFIC_APPLICATION_ID}
 use Rattle.line_message.specs.Greater.{is_greater}
 use Rattle.line_message.specs.Hearing.{Hearing}
 use Rattle.line_message.specs.Posts.{at_line, event_for, has_line, named, of_message, peer_of, side_of}
@@ -85,7 +88,9 @@ wins local remote = if is_greater (lowered local) (lowered remote) then 1 else 0
 -- a good CER: R-Conn-CER for the machine of its sender
 unfoldable pub accepted : Hearing → Heard → List ℕ → List ℕ → ℕ → Turn
 accepted l at octets host peer =
-    greeting peer (event_for l peer (named (codes "R-Conn-CER")) (slice_set (at_line peer at.line (of_message (header_in octets))) LOCAL_WINS (wins l.identity.host host)) None [])
+    greeting peer (event_for l peer (named (codes "R-Conn-CER"))
+    (slice_set (at_line peer at.line (of_message (header_in octets))) LOCAL_WINS (wins l.identity.host host))
+    None [])
 
 -- a CER: of a host that is no peer's 3010, without a shared application 5010, both closing
 abbrev pub cer_by : Hearing → Heard → List ℕ → CapabilitiesExchangeRequest → Option ℕ → Turn
@@ -96,10 +101,11 @@ cer_by l at octets c (Some peer) =
 
 -- whether the header is that of a CER
 abbrev pub is_cer : List ℕ → Bool
-is_cer octets = ((header_in octets).command == number_of_command CapabilitiesExchange) && (header_in octets).flags.request
+is_cer octets =
+    ((header_in octets).command == number_of_command CapabilitiesExchange) && (header_in octets).flags.request
 
--- the first message must be a CER: a faulty one is answered with its fault, any other message is not answered, faulty or not;
--- after all these the connection closes
+-- the first message must be a CER: a faulty one is answered with its fault, any other message is not answered, faulty
+-- or not; after all these the connection closes
 abbrev pub first_by : Hearing → Heard → List ℕ → Result Command MsgFault → Turn
 first_by l at octets (Ok (Cer c)) = cer_by l at octets c (peer_of l c.origin_host.value)
 first_by l at octets (Ok c) = closing []
@@ -115,7 +121,8 @@ is_welcome message = false
 -- an event of a message on such a connection, for the dialled peer
 unfoldable pub reply : Hearing → Heard → List ℕ → ℕ → List ℕ → Option Item
 reply l at octets peer name =
-    event_for l peer (named name) (at_line peer at.line (of_message (header_in octets))) (Some (has_line (side_of at.opening) at.line)) []
+    event_for l peer (named name) (at_line peer at.line (of_message (header_in octets)))
+    (Some (has_line (side_of at.opening) at.line)) []
 
 -- a CEA with success greets the connection; any other message, faulty ones too, does not
 abbrev pub reply_by : Hearing → Heard → List ℕ → ℕ → Result Command MsgFault → Turn
@@ -140,15 +147,18 @@ session_of c = []
 -- the event that a message is for the peer's machine, where it is one
 unfoldable pub message : Hearing → Heard → List ℕ → ℕ → Command → Option Item
 message l at octets peer c =
-    event_for l peer (event_place c (side_of at.opening)) (at_line peer at.line (message_facts l octets c)) (Some (has_line (side_of at.opening) at.line)) (session_of c)
+    event_for l peer (event_place c (side_of at.opening)) (at_line peer at.line (message_facts l octets c))
+    (Some (has_line (side_of at.opening) at.line)) (session_of c)
 
--- the connection itself answers a CER 5012, a RAR 3001 and a faulty request its fault; a CEA and a faulty answer are dropped
+-- the connection itself answers a CER 5012, a RAR 3001 and a faulty request its fault; a CEA and a faulty answer are
+-- dropped
 abbrev pub greeted_by : Hearing → Heard → List ℕ → ℕ → Result Command MsgFault → Turn
 greeted_by l at octets peer (Ok (Cer c)) = answering (answer_octets l.identity octets (fault UnableToComply None))
 greeted_by l at octets peer (Ok (Rar c)) = answering (answer_octets l.identity octets (fault CommandUnsupported None))
 greeted_by l at octets peer (Ok (Cea c)) = silent
 greeted_by l at octets peer (Ok c) = posting (message l at octets peer c)
-greeted_by l at octets peer (Err f) = answering (if (header_in octets).flags.request then answer_octets l.identity octets f else [])
+greeted_by l at octets peer (Err f) =
+    answering (if (header_in octets).flags.request then answer_octets l.identity octets f else [])
 
 -- by whether it is greeted, and by whom, and else by who opened it
 abbrev pub heard_by : Hearing → Heard → List ℕ → Result Command MsgFault → Option ℕ → Opening → Turn
@@ -159,4 +169,5 @@ heard_by l at octets message None (Dialled peer generation) = reply_by l at octe
 -- nothing comes of fewer octets than a header has: they are no message
 unfoldable pub heard : Hearing → Heard → List ℕ → Turn
 heard l at octets =
-    if nat_lt (length octets) 20 then silent else heard_by l at octets (meaning l.dictionary octets) at.greeted at.opening
+    if nat_lt (length octets) HEADER_LEN then silent
+    else heard_by l at octets (meaning l.dictionary octets) at.greeted at.opening

@@ -1,4 +1,5 @@
--- Who listens: all that the meaning of messages depends on, by the laws of peers one place for each kind of their events.
+-- Who listens: all that the meaning of messages depends on, by the laws of peers one place for each kind of their
+-- events.
 use Rattle.std.specs.Prelude.{ℕ, List, map, Option}
 use Rattle.base_list.specs.Named.{place_of}
 use Rattle.bench_item.specs.Keys.{Configured}
@@ -7,8 +8,9 @@ use Rattle.dia_write.specs.declared.answer.Identity.{Identity}
 use Rattle.peer_rules.specs.Kinds.{kinds}
 use Rattle.tab_law.specs.Books.{Laws}
 
--- who this node is, what was added to its dictionary, its configured peers, the octets that a Requested-Service-Unit without an
--- amount asks for, and of each kind of a peer's events, in their order, its place in the book of laws, where that has it
+-- who this node is, what was added to its dictionary, its configured peers, the octets that a Requested-Service-Unit
+-- without an amount asks for, and of each kind of a peer's events, in their order, its place in the book of laws, where
+-- that has it
 pub record Hearing : Type 0 where
   pub identity : Identity
   pub dictionary : List Definition

@@ -1,3 +1,4 @@
+-- What messages mean to a connection.
 pub mod Answers
 pub mod Greater
 pub mod Heard

@@ -6,9 +6,9 @@ use Rattle.base_codes.specs.declared.peer_register.TheConstants.{I_LINE, R_LINE}
 use Rattle.base_list.specs.Named.{place_of}
 use Rattle.bench_item.specs.Keys.{key_of, numbered}
 use Rattle.bench_item.specs.Peers.{numbered_host}
+use Rattle.bench_item.specs.Posts.{machine_item}
 use Rattle.bench_item.specs.declared.item.Condition.{Condition}
 use Rattle.bench_item.specs.declared.item.Item.{Item}
-use Rattle.bench_item.specs.declared.item.Item.TheVariants.{ToMachine}
 use Rattle.bench_item.specs.declared.key.Role.TheVariants.{Peer as PeerRole}
 use Rattle.bench_item.specs.declared.opening.Opening.{Opening}
 use Rattle.bench_item.specs.declared.opening.Opening.TheVariants.{Accepted, Dialled}
@@ -35,7 +35,7 @@ kind_at l place = option_and_then (λ k. unwrap_or (slice_get l.places k) None) 
 unfoldable pub event_for : Hearing → ℕ → Option ℕ → List ℕ → Option Condition → List ℕ → Option Item
 event_for l number place facts condition session =
     option_and_then
-    (λ host. option_map (λ kind. ToMachine (record { key = key_of PeerRole host; event = record { kind = kind; facts = facts }; condition = condition; session = session })) (kind_at l place))
+    (λ host. option_map (machine_item (key_of PeerRole host) facts condition session) (kind_at l place))
     (host_of l number)
 
 -- the place of a kind among those of a peer's events

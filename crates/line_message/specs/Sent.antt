@@ -10,9 +10,12 @@ use Rattle.bench_item.specs.declared.item.LineItem.{LineItem}
 
 -- the message of a deed: of a peer's machine (RFC 6733 section 5), or of credit control (RFC 8506 section 3)
 abbrev pub command_of : Identity → LineItem → Option Command
-command_of me item = option_or (message_of me item.deed) (option_or (request_by me item.session item.deed) (answer_by me item.session item.deed))
+command_of me item =
+    option_or (message_of me item.deed)
+    (option_or (request_by me item.session item.deed) (answer_by me item.session item.deed))
 
--- the octets of a message; none where 24 bits don't hold its length, since there is no such message (RFC 6733 section 3)
+-- the octets of a message; none where 24 bits don't hold its length, since there is no such message (RFC 6733 section
+-- 3)
 unfoldable pub octets_of : Command → List ℕ
 octets_of command = if nat_lt (message_len command) (2 ^ 24) then encode command else []
 

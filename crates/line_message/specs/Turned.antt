@@ -25,12 +25,15 @@ abbrev pub lost_by : Hearing → ℕ → Option ℕ → Option Item
 lost_by l line None = None
 lost_by l line (Some peer) = told l line peer (codes "R-Peer-Disc") (has_line R line)
 
--- a dial's acknowledgement and its refusal are for that dial alone; a connection that is lost once it was acknowledged or greeted
--- tells its peer's machine
+-- a dial's acknowledgement and its refusal are for that dial alone; a connection that is lost once it was acknowledged
+-- or greeted tells its peer's machine
 abbrev pub turned_by : Hearing → ℕ → Option ℕ → LineEvent → Opening → Option Item
-turned_by l line greeted Acknowledged (Dialled peer generation) = told l line peer (codes "I-Rcv-Conn-Ack") (has_dial generation)
-turned_by l line greeted Refused (Dialled peer generation) = told l line peer (codes "I-Rcv-Conn-Nack") (has_dial generation)
-turned_by l line greeted Disconnected (Dialled peer generation) = told l line peer (codes "I-Peer-Disc") (has_line I line)
+turned_by l line greeted Acknowledged (Dialled peer generation) =
+    told l line peer (codes "I-Rcv-Conn-Ack") (has_dial generation)
+turned_by l line greeted Refused (Dialled peer generation) =
+    told l line peer (codes "I-Rcv-Conn-Nack") (has_dial generation)
+turned_by l line greeted Disconnected (Dialled peer generation) =
+    told l line peer (codes "I-Peer-Disc") (has_line I line)
 turned_by l line greeted Disconnected Accepted = lost_by l line greeted
 turned_by l line greeted event Accepted = None
 

@@ -6,23 +6,15 @@ ghost use Rattle.dia_avp.specs.Reading.{avps_in};
 ghost use Rattle.dia_avp.specs.View.{seen};
 ghost use Rattle.line_message.specs.Heard.{is_application, is_shared, is_sharing, shares, shares_inside, shares_plain};
 
-use base_codes::avp_code;
+use base_codes::{application, avp_code};
 use dia_avp::{Avp, AvpView, first_avp};
 use dia_command::CapabilitiesExchangeRequest;
 
-/// Diameter Credit-Control (RFC 8506 section 1.3).
-pub const CREDIT_CONTROL: u32 = 4;
-
-/// A relay's, which has all applications (RFC 6733 section 2.4).
-pub const RELAY: u32 = 0xffff_ffff;
-
-/// Vendor-Specific-Application-Id (RFC 6733 section 6.11).
-pub const VENDOR_SPECIFIC_APPLICATION_ID: u32 = 260;
-
+/// Whether an application is credit control, or a relay's.
 fn is_shared(id: u32) -> bool
     ensures { result ≡ is_shared id }
 {
-    id == CREDIT_CONTROL || id == RELAY
+    id == application::CREDIT_CONTROL || id == application::RELAY
 }
 
 /// Whether an AVP is an Auth-Application-Id of such an application.
@@ -56,7 +48,7 @@ fn has_application(octets: &[u8]) -> bool
 fn is_sharing(avp: &Avp) -> bool
     ensures { result ≡ is_sharing avp.now }
 {
-    if avp.code != VENDOR_SPECIFIC_APPLICATION_ID || avp.vendor.is_some() {
+    if avp.code != avp_code::VENDOR_SPECIFIC_APPLICATION_ID || avp.vendor.is_some() {
         return false;
     }
     has_application(avp.octets.as_slice())

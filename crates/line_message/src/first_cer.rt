@@ -75,7 +75,8 @@ impl Listener {
         cer: &CapabilitiesExchangeRequest,
     ) -> Result<Turn, AllocError>
         requires { 20 ≤ length octets.now }
-        ensures { IfOk result (λ turn. turn ≡ cer_by self.now at octets.now cer.now (peer_of self.now cer.now.origin_host.value)) }
+        ensures { IfOk result (λ turn. turn
+            ≡ cer_by self.now at octets.now cer.now (peer_of self.now cer.now.origin_host.value)) }
     {
         let host = cer.origin_host.value.as_slice();
         let Some(peer) = self.peer_of(host) else {
@@ -95,7 +96,8 @@ impl Listener {
         fault: &MsgFault,
     ) -> Result<Octets, AllocError>
         requires { 20 ≤ length octets.now }
-        ensures { IfOk result (λ answer. answer ≡ (if is_cer octets.now then answer_octets self.now.identity octets.now fault.now else [])) }
+        ensures { IfOk result (λ answer. answer
+            ≡ (if is_cer octets.now then answer_octets self.now.identity octets.now fault.now else [])) }
     {
         let header = header_of(octets);
         if header.command == CommandCode::CapabilitiesExchange.number() && header.flags.request {

@@ -91,7 +91,8 @@ impl Listener {
         fault: &MsgFault,
     ) -> Result<Octets, AllocError>
         requires { 20 ≤ length octets.now }
-        ensures { IfOk result (λ answer. answer ≡ (if (header_in octets.now).flags.request then answer_octets self.now.identity octets.now fault.now else [])) }
+        ensures { IfOk result (λ answer. answer ≡ (if (header_in octets.now).flags.request
+            then answer_octets self.now.identity octets.now fault.now else [])) }
     {
         if header_of(octets).flags.request {
             return self.answer(alloc, octets, fault);

@@ -25,7 +25,8 @@ impl Listener {
         message: &Result<Command, MsgFault>,
     ) -> Result<Turn, AllocError>
         requires { 20 ≤ length octets.now }
-        ensures { IfOk result (λ turn. turn ≡ heard_by_meaning self.now at octets.now message.now at.greeted at.opening) }
+        ensures { IfOk result (λ turn. turn
+            ≡ heard_by_meaning self.now at octets.now message.now at.greeted at.opening) }
     {
         if let Some(peer) = at.greeted {
             return self.later(alloc, at, octets, peer, message);

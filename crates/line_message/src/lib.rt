@@ -1,5 +1,5 @@
-//! What messages mean to a connection of this node (RFC 6733 sections 5.3 to 5.6): which it answers by itself, which greet it, and what
-//! it puts out for the machine of its peer.
+//! What messages mean to a connection of this node (RFC 6733 sections 5.3 to 5.6): which it answers by itself, which
+//! greet it, and what it puts out for the machine of its peer.
 //!
 //! | File | What it has |
 //! |---|---|

@@ -74,8 +74,8 @@ fn places_in(alloc: Global, laws: &LawBook) -> Result<Vec<Option<u8>>, AllocErro
 }
 
 impl Listener {
-    /// A listener of this node. Events have the places of their kinds in `laws`; an event of a kind that these lack is never put out.
-    /// Only memory can be wanting.
+    /// A listener of this node. Events have the places of their kinds in `laws`; an event of a kind that these lack is
+    /// never put out. Only memory can be wanting.
     pub fn new(
         alloc: Global,
         identity: Identity,

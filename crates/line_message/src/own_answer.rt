@@ -59,8 +59,8 @@ fn session_in(octets: &[u8]) -> Option<&str>
 }
 
 impl Listener {
-    /// The octets of the answer to a message with such a fault (RFC 6733 section 7.2), none where 24 bits don't hold its length. Its
-    /// session is that of the first whole AVP Session-Id, where that has 1 to 255 octets of UTF-8.
+    /// The octets of the answer to a message with such a fault (RFC 6733 section 7.2), none where 24 bits don't hold
+    /// its length. Its session is that of the first whole AVP Session-Id, where that has 1 to 255 octets of UTF-8.
     pub(crate) fn answer(
         &self,
         alloc: Global,

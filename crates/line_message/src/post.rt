@@ -1,7 +1,8 @@
 //! Events for a peer's machine.
 
 ghost use Rattle.std.specs.Prelude.{◌≡◌, Some, IfOk};
-ghost use Rattle.line_message.specs.Posts.{peer_of, kind_at, event_for, side_of, has_line, at_line, of_message, no_facts};
+ghost use Rattle.line_message.specs.Posts.{peer_of, kind_at, event_for, side_of, has_line, at_line, of_message};
+ghost use Rattle.line_message.specs.Posts.{no_facts};
 
 use crate::listener::Listener;
 use base_codes::{peer_fact, peer_register};
@@ -96,7 +97,8 @@ impl Listener {
         number: u64,
         told: &Told<'_>,
     ) -> Result<Option<Item>, AllocError>
-        ensures { IfOk result (λ item. item ≡ event_for self.now number told.now.place told.now.facts told.now.condition told.now.session.now) }
+        ensures { IfOk result (λ item. item
+            ≡ event_for self.now number told.now.place told.now.facts told.now.condition told.now.session.now) }
     {
         let Some(host) = self.peers.numbered(number) else {
             return Ok(None);
