@@ -16,3 +16,9 @@ pub mod Pages
 pub mod PageSteps
 pub mod Acting
 pub mod Behind
+pub mod Lifting
+pub mod Opened
+pub mod Dropping
+pub mod Drops
+pub mod LineSteps
+pub mod Looks

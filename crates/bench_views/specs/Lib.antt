@@ -6,3 +6,4 @@ pub mod Timers
 pub mod Pages
 pub mod Stored
 pub mod Behind
+pub mod Looks
