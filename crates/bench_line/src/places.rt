@@ -1,9 +1,9 @@
 //! Where a connection is kept, and why a call on it is refused.
-ghost use Rattle.std.specs.Prelude.{◌≡◌, IfOk, IfErr, OnOk, OnErr, None, Some};
+ghost use Rattle.std.specs.Prelude.{◌≡◌, IfOk, IfErr, OnOk, OnErr, None, Some, length, nat_le};
 
 use crate::fault::LineFault;
 use crate::lines::Lines;
-use bench_item::Hears;
+use bench_item::{Hears, MAX_LINES};
 
 /// A call on a connection that may refuse it.
 #[derive(Clone, Copy)]
@@ -19,6 +19,7 @@ pub(crate) enum Call {
 impl<T: Hears> Lines<T> {
     ghost use Rattle.bench_line.specs.Lines.{IsPlace, line_at};
     ghost use Rattle.bench_line.specs.Refusals.{refusal_of};
+    ghost use Rattle.bench_line.specs.Lines.{came_refusal, dialled_refusal, lost_refusal};
 
     /// The place of the connection of that number.
     pub(crate) fn find(&self, line: u64) -> Result<usize, LineFault>
@@ -46,5 +47,43 @@ impl<T: Hears> Lines<T> {
             Some(fault) => Err(fault),
             None => Ok(place),
         }
+    }
+
+    // Why a call on the connection of that number is refused, memory aside.
+    fn fault(&self, line: u64, call: Call) -> Option<LineFault>
+        ensures { result ≡ refusal_of call self.now.lines line }
+    {
+        match self.find_for(line, call) {
+            Ok(_) => None,
+            Err(fault) => Some(fault),
+        }
+    }
+
+    /// Why it is refused that the dial of the connection of that number is acknowledged, memory aside. Takes no memory.
+    pub fn dialled_fault(&self, line: u64) -> Option<LineFault>
+        ensures { result ≡ dialled_refusal self.now.lines line }
+    {
+        self.fault(line, Call::Dialled)
+    }
+
+    /// Why it is refused that octets come on the connection of that number, memory aside. Takes no memory.
+    pub fn came_fault(&self, line: u64) -> Option<LineFault>
+        ensures { result ≡ came_refusal self.now.lines line }
+    {
+        self.fault(line, Call::Came)
+    }
+
+    /// Why it is refused that the connection of that number is lost, memory aside. Takes no memory.
+    pub fn lost_fault(&self, line: u64) -> Option<LineFault>
+        ensures { result ≡ lost_refusal self.now.lines line }
+    {
+        self.fault(line, Call::Lost)
+    }
+
+    /// Whether there are as many connections as may be. Takes no memory.
+    pub fn is_full(&self) -> bool
+        ensures { result ≡ nat_le MAX_LINES (length self.now.lines) }
+    {
+        self.lines.len() >= MAX_LINES
     }
 }

@@ -3,3 +3,4 @@ pub mod Padded
 pub mod Twins
 pub mod Moves
 pub mod Logged
+pub mod Targets

@@ -1,7 +1,8 @@
 //! Items as the log keeps them.
-ghost use Rattle.std.specs.Prelude.{◌≡◌, IfOk};
+ghost use Rattle.std.specs.Prelude.{◌≡◌, IfOk, option_copied};
 ghost use Rattle.bench_item.specs.declared.item.Item.TheVariants.{ToMachine, ToLine};
 ghost use Rattle.bench_log.specs.Twins.{item_of, line_item_of};
+ghost use Rattle.bench_log.specs.Targets.{is_dial, key_for};
 
 use crate::state::{KeptDeed, KeptEvent, copy_key};
 use base_list::Octets;
@@ -65,6 +66,15 @@ impl KeptMachineItem {
             condition: self.condition,
             session,
         })
+    }
+}
+
+impl KeptMachineItem {
+    /// The machine that it is for. Takes no memory.
+    pub fn key(&self) -> &Key
+        ensures { result.now ≡ self.now.key }
+    {
+        &self.key
     }
 }
 
@@ -215,5 +225,25 @@ impl KeptItem {
         ensures { IfOk result (λ plain. plain ≡ self.now) }
     {
         self.form.show(alloc)
+    }
+
+    /// The machine that it is for, if it is for one. Takes no memory.
+    pub fn key(&self) -> Option<&Key>
+        ensures { option_copied result ≡ key_for self.now }
+    {
+        match &self.form {
+            ItemForm::ToMachine(item) => Some(item.key()),
+            _ => None,
+        }
+    }
+
+    /// Whether it opens a connection. Takes no memory.
+    pub fn is_dial(&self) -> bool
+        ensures { result ≡ is_dial self.now }
+    {
+        match &self.form {
+            ItemForm::Dial { .. } => true,
+            _ => false,
+        }
     }
 }

@@ -1,5 +1,5 @@
 //! What a source puts out.
-ghost use Rattle.std.specs.Prelude.{◌≡◌, ◌<◌, ◌≤◌, ◌∷◌, ◌-◌, [], None, Ok, IsOk, IfOk, OnOk, OnErr, IsTrue, length, max, nat_lt};
+ghost use Rattle.std.specs.Prelude.{◌≡◌, ◌<◌, ◌≤◌, ◌∷◌, ◌-◌, [], None, Ok, IsOk, IfOk, OnOk, OnErr, IsTrue, length, max, nat_lt, option_copied};
 ghost use Rattle.bench_queue.specs.Outbox.{IsCounted, OutboxState, can_lift, dropped_one, hand_out, has_hand, items_out, lifted_one, next_out, nothing_out, put_out, undropped_one, unlifted_one, waiting_out, without_out};
 
 use bench_item::{Item, Series};
@@ -93,6 +93,14 @@ impl Outbox {
             None => Ok(None),
             Some(kept) => Ok(Some(kept.show(alloc)?)),
         }
+    }
+
+    /// The item in the hand as it is kept, if one lies there. Takes no memory.
+    pub fn hand_kept(&self) -> Option<&KeptItem>
+        ensures { option_copied result ≡ hand_out self.now.view }
+    {
+        let lifted = &self.posts[..self.lifted];
+        lifted.get(self.dropped)
     }
 
     /// The items that wait, oldest first.

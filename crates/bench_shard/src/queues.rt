@@ -1,5 +1,5 @@
 //! What comes to a shard, what is carried on from it, and pauses.
-ghost use Rattle.std.specs.Prelude.{◌≡◌, ◌≤◌, ◌∷◌, [], None, Ok, IfOk, IfErr, OnOk, OnErr, IsTrue, false, true, length};
+ghost use Rattle.std.specs.Prelude.{◌≡◌, ◌≤◌, ◌∷◌, [], None, Ok, IfOk, IfErr, OnOk, OnErr, IsTrue, false, true, length, option_copied};
 ghost use Rattle.bench_queue.specs.Inbox.{items_in, put_in, without_in};
 ghost use Rattle.bench_queue.specs.Outbox.{can_lift, dropped_one, hand_out, has_hand, lifted_one, next_out, undropped_one, unlifted_one};
 ghost use Rattle.bench_spec.specs.Refusal.{is_crowded};
@@ -8,7 +8,7 @@ ghost use Rattle.bench_shard.specs.View.{put_error, with_inbox, with_outbox, wit
 use crate::fault::PutError;
 use crate::state::ShardState;
 use bench_item::{Item, MAX_WAITING, MachineItem};
-use bench_log::KeptMachineItem;
+use bench_log::{KeptItem, KeptMachineItem};
 use std::alloc::{AllocError, Global};
 
 impl ShardState {
@@ -65,6 +65,13 @@ impl ShardState {
         ensures none { self.now.outbox.lifted ≤ self.now.outbox.dropped → result ≡ Ok None }
     {
         self.outbox.hand(alloc)
+    }
+
+    /// The item in its hand as it is kept, if one lies there. Takes no memory.
+    pub fn hand_kept(&self) -> Option<&KeptItem>
+        ensures { option_copied result ≡ hand_out self.now.outbox }
+    {
+        self.outbox.hand_kept()
     }
 
     /// Lifts the oldest item that waits into the hand, where one waits and the hand is empty; else changes nothing. Says which.

@@ -1,0 +1,15 @@
+-- What an item is for.
+use Rattle.std.specs.Prelude.{Bool, true, false, Option, Some, None}
+use Rattle.bench_item.specs.declared.item.Item.{Item}
+use Rattle.bench_item.specs.declared.item.Item.TheVariants.{Dial, ToMachine}
+use Rattle.bench_item.specs.declared.key.Key.{Key}
+
+-- the machine that it is for, if it is for one
+abbrev pub key_for : Item → Option Key
+key_for (ToMachine item) = Some item.key
+key_for item = None
+
+-- whether it opens a connection
+abbrev pub is_dial : Item → Bool
+is_dial (Dial peer generation) = true
+is_dial item = false
