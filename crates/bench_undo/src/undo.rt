@@ -26,11 +26,17 @@ pub enum Undo {
     /// That desk put an item out.
     Told(u32),
     /// The timer of that machine fired, which was armed so.
-    Fired { machine: u64, old: Option<Armed> },
+    Fired {
+        machine: u64,
+        old: Option<Armed>,
+    },
     /// An item of the clock, of a desk or of a shard was lifted.
     Lifted(Source),
     /// The item in the hand of that source was dropped.
-    Dropped { source: Source, arrival: Arrival },
+    Dropped {
+        source: Source,
+        arrival: Arrival,
+    },
     /// That shard handled an item, which booked so many operations on that page.
     Worked {
         shard: u32,

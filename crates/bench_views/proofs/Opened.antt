@@ -65,8 +65,13 @@ lifted_of-opened log e old new none more first each =
 -- as many lines as were opened, one more
 pub length-opened : (old new : List LineView) → map (λ l. l.lifted) new ≡ map (λ l. l.lifted) old ++ 0 ∷ [] → length new ≡ suc (length old)
 length-opened old new more =
-    omega (arith, length-map new (λ l. l.lifted), length-map old (λ l. l.lifted), ap length more,
-    length-append (map (λ l. l.lifted) old) (0 ∷ []))
+    omega (
+      arith,
+      length-map new (λ l. l.lifted),
+      length-map old (λ l. l.lifted),
+      ap length more,
+      length-append (map (λ l. l.lifted) old) (0 ∷ []),
+    )
 
 -- items are carried and handled in their order in a legal log
 pub IsLegal-order : (settings : Settings) (log : List Entry) → IsLegal settings log → InOrder settings [] → InOrder settings log

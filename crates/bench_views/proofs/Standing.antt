@@ -82,9 +82,10 @@ or_right false c h = h
 
 each_there : {X : Type 0} (is_same : X → X → Bool) (itself : (x : X) → is_same x x ≡ true) (xs : List X) → Each (λ k. list_any (λ y. is_same y k) xs ≡ true) xs
 each_there is_same itself [] = tt
-each_there is_same itself (x ∷ xs) =
-    (ap (λ b. b || list_any (λ y. is_same y x) xs) (itself x),
-    Each-weaker (λ k. list_any (λ y. is_same y k) xs ≡ true) (λ k. list_any (λ y. is_same y k) (x ∷ xs) ≡ true) (λ k h. or_right (is_same x k) (list_any (λ y. is_same y k) xs) h) xs (each_there is_same itself xs))
+each_there is_same itself (x ∷ xs) = (
+  ap (λ b. b || list_any (λ y. is_same y x) xs) (itself x),
+  Each-weaker (λ k. list_any (λ y. is_same y k) xs ≡ true) (λ k. list_any (λ y. is_same y k) (x ∷ xs) ≡ true) (λ k h. or_right (is_same x k) (list_any (λ y. is_same y k) xs) h) xs (each_there is_same itself xs),
+)
 
 Each-both : {X : Type 0} (P Q R : X → Type 0) → ((x : X) → P x → Q x → R x) → (xs : List X) → Each P xs → Each Q xs → Each R xs
 Each-both P Q R f [] h k = tt

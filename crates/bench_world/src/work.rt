@@ -34,11 +34,7 @@ fn work_entry(shard: u32, item: MachineItem, handled: Handled) -> Entry
 }
 
 /// The shard handles the item of an entry.
-fn commit(
-    shard: &mut ShardState,
-    entry: &Entry,
-    posts: &[Item],
-) -> Result<ShardRecord, AllocError>
+fn commit(shard: &mut ShardState, entry: &Entry, posts: &[Item]) -> Result<ShardRecord, AllocError>
     requires { FitsEntry shard.old entry.now }
     ensures ok { OnOk result (shard.new ≡ after_entry shard.old entry.now posts.now) }
     ensures undone { IfOk result (λ change. taken_back change shard.new ≡ shard.old) }
