@@ -9,8 +9,8 @@ whole_len limit octets =
     else if nat_lt (length octets) (message_length octets) then None
     else Some (message_length octets)
 
--- How many octets a rest is given room for: none before the first octet of a message or at a fault, four until the length is known, and
--- then the whole message.
+-- How many octets a rest is given room for: none before the first octet of a message or at a fault, four until the length
+-- is known, and then the whole message.
 abbrev pub room_of : ℕ → List ℕ → ℕ
 room_of limit rest =
     if length rest == 0 || is_some (fault_of limit rest) then 0

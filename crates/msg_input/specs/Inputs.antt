@@ -69,7 +69,8 @@ pub record BrokenText (says : Saying) (first : ℕ) (text lines : List ℕ) (pla
   pub half : Option ℕ
   pub before : FrontText says first text half None lines place
 
--- The text means some octets. Of their messages those in front are printed, among them each that ends before the last 4,096 octets.
+-- The text means some octets. Of their messages those in front are printed, among them each that ends before the last
+-- 4,096 octets.
 pub record ShortText (says : Saying) (first : ℕ) (text lines : List ℕ) (refused : Bool) : Type 0 where
   pub half : Option ℕ
   pub early : List ℕ
@@ -85,8 +86,8 @@ pub record ShortText (says : Saying) (first : ℕ) (text lines : List ℕ) (refu
   pub frames : Frames (early ++ late) 4096 ((due ++ more) ++ others) rest
   pub printed : PrintsAll says first 0 (due ++ more) lines refused
 
--- Memory ran out: what is printed are the first messages of a front of the text, all but those that its last 4,096 octets end, and
--- behind the front are at most 65,536 characters.
+-- Memory ran out: what is printed are the first messages of a front of the text, all but those that its last 4,096 octets
+-- end, and behind the front are at most 65,536 characters.
 pub record HaltedText (says : Saying) (first : ℕ) (text lines : List ℕ) (refused : Bool) : Type 0 where
   pub front : List ℕ
   pub back : List ℕ

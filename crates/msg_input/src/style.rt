@@ -2,7 +2,8 @@
 
 /// In which of the program's manners messages are printed.
 ///
-/// A style is a name that words on a command line ask for. A [`crate::Manner`] does the printing: `msg_text` has one for each style.
+/// A style is a name that words on a command line ask for. A [`crate::Manner`] does the printing: `msg_text` has one for
+/// each style.
 #[derive(Clone, Copy, PartialEq, Eq)]
 pub enum Style {
     /// Numbers and hexadecimal: a line for the header, for each AVP and for the encoding; `fault` with its Result-Code.

@@ -1,3 +1,4 @@
+//! Which machine has which number.
 ghost use Rattle.std.specs.Prelude.{◌≡◌, ◌++◌, ◌∷◌, [], None, OnOk, OnErr, IfErr};
 ghost use Rattle.base_list.specs.Adding.{error_of};
 ghost use Rattle.base_list.specs.Named.{place_of, refusal};
