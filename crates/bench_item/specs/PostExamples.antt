@@ -8,7 +8,7 @@ use Rattle.bench_item.specs.Keys.{Node, home, key_of, peer_numbered}
 use Rattle.bench_item.specs.Posts.{Doer, busy_posts, keeps_line, machine_item, no_facts, posts_of}
 use Rattle.bench_item.specs.declared.item.Item.{Item}
 use Rattle.bench_item.specs.declared.item.MachineItem.{MachineItem}
-use Rattle.bench_item.specs.declared.item.Item.TheVariants.{Arm, Dial, ToLine, ToMachine}
+use Rattle.bench_item.specs.declared.item.Item.TheVariants.{Arm, Dial, ToLine}
 use Rattle.bench_item.specs.declared.key.Key.{Key}
 use Rattle.bench_item.specs.declared.key.Role.TheVariants.{Client, Peer, Server}
 
