@@ -68,8 +68,10 @@ set-at (suc place) (y ∷ xs) new x is = set-at place xs new x is
 -- the record of work takes it back
 work-undone : (settings : Settings) (s : Stored) (k p : ℕ) (v : ShardView) (book : Book) (item : MachineItem) (handled : Handled) (own : List Item) (change : ShardRecord) → slice_get s.shards k ≡ Some v → slice_get s.books p ≡ Some book → shard_taken_back change (after_work v item handled own) ≡ v → undone (undo.Worked k change p (length (ops_in settings.node.laws item handled))) (worked_by settings k v p book item handled own s) ≡ s
 work-undone settings s k p v book item handled own change at booked back =
-    rw (set-back k (shard_taken_back change) s.shards v (after_work v item handled own) at back,
-    set-back p (taken_back_by (length (ops_in settings.node.laws item handled))) s.books book (booked_on settings item handled book) booked (taken_back_by-fold book (ops_in settings.node.laws item handled)))
+    rw (
+      set-back k (shard_taken_back change) s.shards v (after_work v item handled own) at back,
+      set-back p (taken_back_by (length (ops_in settings.node.laws item handled))) s.books book (booked_on settings item handled book) booked (taken_back_by-fold book (ops_in settings.node.laws item handled)),
+    )
     refl
 
 work-may_undo : (settings : Settings) (s : Stored) (k p : ℕ) (v : ShardView) (book : Book) (item : MachineItem) (handled : Handled) (own : List Item) (change : ShardRecord) → MayUndo (undo.Worked k change p (length (ops_in settings.node.laws item handled))) (worked_by settings k v p book item handled own s)
