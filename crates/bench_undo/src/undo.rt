@@ -41,7 +41,7 @@ pub enum Undo {
     Worked {
         shard: u32,
         record: ShardRecord,
-        page: u32,
+        page: u64,
         booked: usize,
     },
 }

@@ -2,3 +2,4 @@ pub mod LegalLemmas
 pub mod WholeLemmas
 pub mod TellLemmas
 pub mod WorkLemmas
+pub mod DoneLemmas

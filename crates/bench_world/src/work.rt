@@ -73,7 +73,7 @@ fn write(
     alloc: Global,
     number: u32,
     shard: &mut ShardState,
-    place: u32,
+    place: u64,
     page: &mut Page,
     log: &mut Log,
     undo: &mut UndoLog,
@@ -112,7 +112,7 @@ fn do_task(
     registry: &Registry,
     number: u32,
     shard: &mut ShardState,
-    place: u32,
+    place: u64,
     page: &mut Page,
     log: &mut Log,
     undo: &mut UndoLog,
@@ -126,4 +126,39 @@ fn do_task(
 {
     let work = shard.prepare(alloc, roles, registry, page, task, room)?;
     write(alloc, number, shard, place, page, log, undo, work)
+}
+
+impl Core {
+    /// A shard handles its oldest item, with the page of the account book that this needs.
+    pub(crate) fn work(
+        &mut self,
+        registry: &Registry,
+        shard: u32,
+        room: &mut Stepped,
+    ) -> Result<(), AllocError>
+        requires laws { registry.now.book ≡ self.old.settings.node.laws }
+        requires could { refusal self.old.settings self.old.log self.old.paused (steps.Work shard) ≡ None }
+        ensures ok { OnOk result (Takes self.old self.new (steps.Work shard)) }
+        ensures err { OnErr result (self.new ≡ self.old) }
+    {
+        let alloc = self.alloc;
+        let task = match self.shards[shard as usize].task(alloc, &self.roles)? {
+            Some(task) => task,
+            None => unreachable!(),
+        };
+        let place = task.page(self.page_count).unwrap_or(0);
+        do_task(
+            alloc,
+            &self.roles,
+            registry,
+            shard,
+            &mut self.shards[shard as usize],
+            place,
+            &mut self.pages[place as usize],
+            &mut self.log,
+            &mut self.undo,
+            task,
+            room,
+        )
+    }
 }
