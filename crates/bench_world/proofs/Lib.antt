@@ -1,3 +1,4 @@
 pub mod LegalLemmas
 pub mod WholeLemmas
 pub mod TellLemmas
+pub mod LiftLemmas

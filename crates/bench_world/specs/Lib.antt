@@ -1,4 +1,5 @@
 pub mod Entries
 pub mod Undone
+pub mod Seen
 pub mod Whole
 pub mod Inside

@@ -10,6 +10,7 @@
 
 mod account;
 mod keeping;
+mod lift;
 mod room;
 mod tell;
 
