@@ -3,3 +3,4 @@ pub mod WholeLemmas
 pub mod TellLemmas
 pub mod WorkLemmas
 pub mod DoneLemmas
+pub mod LiftLemmas

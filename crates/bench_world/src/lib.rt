@@ -11,6 +11,7 @@
 
 mod account;
 mod keeping;
+mod lift;
 mod room;
 mod tell;
 mod work;
