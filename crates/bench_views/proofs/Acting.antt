@@ -22,6 +22,14 @@ each-acts {X} P Q h xs ys acts go each k y is = by (slice_get xs k) refl (sym (a
     by None none there = absurd cc
     by (Some x) some there = subst (Q k) (same_Some (h k x) y there) (go k x (each k x some))
 
+-- a change that is the same of each item
+pub acts-like : {X : Type 0} (h j : ℕ → X → X) (xs ys : List X) → ((k : ℕ) (x : X) → h k x ≡ j k x) → Acts h xs ys → Acts j xs ys
+acts-like {X} h j xs ys same acts = record { count = acts.count; each = λ k. acts.each k ∙ by k (slice_get xs k) }
+  where
+    by : (k : ℕ) (o : Option X) → option_map (h k) o ≡ option_map (j k) o
+    by k None = refl
+    by k (Some x) = ap Some (same k x)
+
 -- nothing changes
 pub acts-none : {X : Type 0} (xs : List X) → Acts (λ k x. x) xs xs
 acts-none {X} xs = record { count = refl; each = λ k. by (slice_get xs k) }

@@ -18,3 +18,9 @@ pub mod WorkStands
 pub mod TiedWork
 pub mod Acting
 pub mod Behind
+pub mod Lifting
+pub mod Opened
+pub mod Dropping
+pub mod Drops
+pub mod LineSteps
+pub mod Looks

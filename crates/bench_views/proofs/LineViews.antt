@@ -50,10 +50,10 @@ pub next_on-log : (settings : Settings) (ls : List LineView) (log : List Entry) 
 next_on-log settings ls log line s so = next_on-lifted (meaning_of settings) ls log line s so
 
 -- of a step that is not refused no reason to refuse it holds
-abbrev reason_of : List (Bool × StepFault) → Option StepFault
+abbrev pub reason_of : List (Bool × StepFault) → Option StepFault
 reason_of rs = option_map (λ (r : Bool × StepFault). r.1) (find (λ (r : Bool × StepFault). r.0) rs)
 
-no_reason : (rs : List (Bool × StepFault)) → reason_of rs ≡ None → Each (λ (r : Bool × StepFault). r.0 ≡ false) rs
+pub no_reason : (rs : List (Bool × StepFault)) → reason_of rs ≡ None → Each (λ (r : Bool × StepFault). r.0 ≡ false) rs
 no_reason [] none = tt
 no_reason (r ∷ rs) none = by (no_reason rs) r.0 refl none
   where

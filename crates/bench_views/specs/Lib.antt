@@ -7,3 +7,4 @@ pub mod Pages
 pub mod Stored
 pub mod Worked
 pub mod Behind
+pub mod Looks
