@@ -4,3 +4,5 @@ pub mod TellLemmas
 pub mod WorkLemmas
 pub mod DoneLemmas
 pub mod LiftLemmas
+pub mod LineFaults
+pub mod ShardFaults

@@ -4,3 +4,4 @@ pub mod Seen
 pub mod Whole
 pub mod Inside
 pub mod Working
+pub mod Faults
