@@ -19,7 +19,8 @@ use Rattle.dia_msg.specs.Faults.{format_read, header_faults, instances, is_event
 use Rattle.dia_msg.specs.Walk.{faults, faults_by, groups_in}
 use Rattle.dia_command.specs.declared.command.Command.{Command}
 use Rattle.dia_tree.specs.Canonical.{canonical}
-use Rattle.msg_meaning.specs.Meaning.{answer_by, command_in, command_of, meaning}
+use Rattle.dia_command.specs.Forms.{command_of}
+use Rattle.msg_meaning.specs.Meaning.{answer_by, command_in, meaning}
 use Rattle.dia_tree.specs.declared.fault.MsgFault.{MsgFault}
 use Rattle.dia_tree.specs.Faults.{group_faults, list_faults, own_faults, place_faults, typed_faults}
 use Rattle.bench_item.specs.declared.hears.Heard.{Heard}
