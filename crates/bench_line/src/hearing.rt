@@ -1,5 +1,5 @@
 //! What happens to one connection.
-ghost use Rattle.std.specs.Prelude.{◌≡◌, List, length, IfOk, IfErr, IfSome, MatchOption, OnOk, OnErr};
+ghost use Rattle.std.specs.Prelude.{◌≡◌, List, length, is_some, IfOk, IfErr, IfSome, MatchOption, OnOk, OnErr};
 
 use crate::fault::LineFault;
 use crate::line::{Before, FramerBefore, Line};
@@ -20,6 +20,7 @@ struct Listened {
 }
 
 impl Line {
+    ghost use Rattle.dia_frame.specs.Framer.{can_hold};
     ghost use Rattle.bench_item.specs.Lines.{LineStep};
     ghost use Rattle.bench_item.specs.declared.opening.Opening.{Opening};
     ghost use Rattle.bench_item.specs.declared.line_state.LineState.{LineState};
@@ -88,6 +89,7 @@ impl Line {
 
     // Holds a piece, where it completes no message and shows no fault.
     fn hold(&mut self, piece: &[u8]) -> Result<Option<Before>, LineFault>
+        ensures held { IfOk result (λ r. is_some r ≡ can_hold self.old.framer piece.now) }
         ensures ok { IfOk result (λ r. MatchOption r (self.new ≡ self.old)
             (λ _. IsHolding piece.now self.old self.new)) }
         ensures outbox { IfOk result (λ r. IfSome r (λ before. before.outbox ≡ length self.old.outbox)) }
