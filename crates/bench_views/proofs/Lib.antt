@@ -24,3 +24,4 @@ pub mod Dropping
 pub mod Drops
 pub mod LineSteps
 pub mod Looks
+pub mod Started

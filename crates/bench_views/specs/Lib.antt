@@ -8,3 +8,4 @@ pub mod Stored
 pub mod Worked
 pub mod Behind
 pub mod Looks
+pub mod Laws
