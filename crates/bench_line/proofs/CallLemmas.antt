@@ -1,5 +1,5 @@
 -- A call that was not refused: the line is such that its step may come.
-use Rattle.std.proofs.Common.{◌≡◌, ℕ, zero, suc, ◌+◌, ◌-◌, false, List, [], ◌∷◌, ◌++◌, length, get_or, set, Option, Some, None, refl, sym, ap, subst, ◌∙◌, arith}
+use Rattle.std.proofs.Common.{◌≡◌, ℕ, zero, suc, ◌+◌, ◌-◌, false, List, [], ◌∷◌, ◌++◌, length, get_or, set, map, Option, Some, None, refl, sym, ap, subst, ◌∙◌, arith}
 use Rattle.std.specs.Prelude.{slice_get, ◌==◌}
 use Rattle.std.specs.Option.{option_and_then}
 use Rattle.std.proofs.lemmas.Bool.Decides.{nat_tests}
@@ -19,7 +19,7 @@ use Rattle.bench_line.specs.Lines.{IsPlace, Past, StandFor, StandFrom, fault_at,
 use Rattle.bench_line.specs.Rounds.{Receives}
 use Rattle.bench_line.specs.Talk.{Meaning, fault_met, stream_of}
 use Rattle.bench_line.proofs.StandLemmas.{stands-set}
-use Rattle.bench_line.proofs.ChangeLemmas.{changed, line_at-place, restored-acknowledged, restored-lost, restored-delivered, put_out-posted}
+use Rattle.bench_line.proofs.ChangeLemmas.{changed, line_at-place, restored-acknowledged, restored-lost, restored-delivered, put_out-posted, lifted-same}
 use Rattle.bench_line.proofs.EventLemmas.{acknowledges, loses}
 use Rattle.bench_line.proofs.DeedLemmas.{delivers}
 
@@ -77,6 +77,10 @@ lost-undone m line l new before n b = rw (n, b) (restored-lost m line l)
 
 pub delivered-undone : (m : Meaning) (item : LineItem) (l new : LineView) (before : Before) → new ≡ delivered m item l → before ≡ before_of Same l → restored before new ≡ l
 delivered-undone m item l new before n b = rw (n, b) (restored-delivered m item l)
+
+-- how many items of each line were lifted
+pub lifted_kept : (ls : List LineView) (line place : ℕ) (l new : LineView) (before : Before) → IsPlace ls line place → l ≡ get_or ls place l → restored before new ≡ l → map (λ x. x.lifted) (set ls place new) ≡ map (λ x. x.lifted) ls
+lifted_kept ls line place l new before p e r = lifted-same ls line place l new before p (at_place ls line place l p e) r
 
 -- how many items were put out
 pub posted : (ls : List LineView) (line place : ℕ) (l new : LineView) (before : Before) → IsPlace ls line place → l ≡ get_or ls place l → restored before new ≡ l → before.outbox ≡ length l.outbox

@@ -1,5 +1,5 @@
 -- A change of one line: what was put out, and how it is taken back.
-use Rattle.std.proofs.Common.{◌≡◌, ℕ, zero, suc, ◌+◌, ◌-◌, Bool, true, false, List, [], ◌∷◌, ◌++◌, length, take, set, Some, refl, sym, ap, ◌∙◌, arith}
+use Rattle.std.proofs.Common.{◌≡◌, ℕ, zero, suc, ◌+◌, ◌-◌, Bool, true, false, List, [], ◌∷◌, ◌++◌, length, take, set, map, Some, refl, sym, ap, ◌∙◌, arith}
 use Rattle.std.specs.Prelude.{slice_get, ◌==◌, if◌then◌else◌}
 use Rattle.std.proofs.lemmas.List.{take_at, length-take, take_all}
 use Rattle.bench_item.specs.declared.item.Item.{Item}
@@ -67,3 +67,16 @@ put_out-posted ls after line l new before c r o =
     let short : length (take before.outbox new.outbox) ≡ length l.outbox = ap (λ (x : LineView). length x.outbox) r in
     let number : length new.outbox ≡ length l.outbox + (length new.outbox - before.outbox) = omega (arith, short, o, length-take before.outbox new.outbox) in
     rw (c.was, c.is) number
+
+-- how many items of each line were lifted, where one line has another of the same count
+counts-set : (ls : List LineView) (k : ℕ) (l new : LineView) → slice_get ls k ≡ Some l → new.lifted ≡ l.lifted → map (λ x. x.lifted) (set ls k new) ≡ map (λ x. x.lifted) ls
+counts-set [] k l new e n = absurd cc
+counts-set (x ∷ ls) zero l new e n =
+    let g : Some x ≡ Some l = e in
+    let is : x ≡ l = cc in
+    ap (λ (c : ℕ). c ∷ map (λ (y : LineView). y.lifted) ls) (n ∙ ap (λ (y : LineView). y.lifted) (sym is))
+counts-set (x ∷ ls) (suc k) l new e n = ap (λ (cs : List ℕ). x.lifted ∷ cs) (counts-set ls k l new e n)
+
+-- A change that is taken back from what the line became left how many of its items were lifted.
+pub lifted-same : (ls : List LineView) (line place : ℕ) (l new : LineView) (before : Before) → IsPlace ls line place → slice_get ls place ≡ Some l → restored before new ≡ l → map (λ x. x.lifted) (set ls place new) ≡ map (λ x. x.lifted) ls
+lifted-same ls line place l new before p e r = counts-set ls place l new e (ap (λ (x : LineView). x.lifted) r)

@@ -32,6 +32,16 @@ redialled-yes peer generation states x ls e = ap (λ (b : Bool). if b then stand
 redialled-no : (peer generation : ℕ) (states : List LineState) (x : LineView) (ls : List LineView) → is_dial peer generation x.opening ≡ false → redialled peer generation states (x ∷ ls) ≡ x ∷ redialled peer generation states ls
 redialled-no peer generation states x ls e = ap (λ (b : Bool). if b then standing_as states x ∷ redialled peer generation (drop 1 states) ls else x ∷ redialled peer generation states ls) e
 
+-- how many items of each line were lifted
+pub counts-undialled : (peer generation : ℕ) (ls : List LineView) → map (λ l. l.lifted) (map (undialled peer generation) ls) ≡ map (λ l. l.lifted) ls
+counts-undialled peer generation [] = refl
+counts-undialled peer generation (l ∷ ls) = by (is_dial peer generation l.opening) (counts-undialled peer generation ls)
+  where
+    by : (b : Bool) → map (λ x. x.lifted) (map (undialled peer generation) ls) ≡ map (λ x. x.lifted) ls
+        → (if b then record l { state = state.Closed } else l).lifted ∷ map (λ x. x.lifted) (map (undialled peer generation) ls) ≡ l.lifted ∷ map (λ x. x.lifted) ls
+    by true h = ap (λ (cs : List ℕ). l.lifted ∷ cs) h
+    by false h = ap (λ (cs : List ℕ). l.lifted ∷ cs) h
+
 -- the lines of a dial stand again as they did
 pub redialled-undialled : (peer generation : ℕ) (ls : List LineView) → redialled peer generation (states_of_dial peer generation ls) (map (undialled peer generation) ls) ≡ ls
 redialled-undialled peer generation [] = refl

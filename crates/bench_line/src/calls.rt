@@ -46,6 +46,7 @@ impl<T: Hears> Lines<T> {
             → StandFor (meaning T.heard T.turned T.octets_of self.old.rules) self.new.lines
             (with_step line Acknowledged pasts)) }
         ensures posted { IfOk result (λ r. put_out self.new.lines line ≡ put_out self.old.lines line + r.posted) }
+        ensures lifted { OnOk result (map (λ l. l.lifted) self.new.lines ≡ map (λ l. l.lifted) self.old.lines) }
         ensures undone { IfOk result (λ r. taken_back r.change self.new.lines ≡ self.old.lines) }
         ensures rules { self.new.rules ≡ self.old.rules }
         ensures fault { IfErr result (λ f. f ≡ unwrap_or (dialled_refusal self.old.lines line) LineFault.NoMemory) }
@@ -72,6 +73,7 @@ impl<T: Hears> Lines<T> {
             → StandFor (meaning T.heard T.turned T.octets_of self.old.rules) self.old.lines pasts
             → r.ended ≡ fault_at (meaning T.heard T.turned T.octets_of self.old.rules) line piece.now pasts) }
         ensures posted { IfOk result (λ r. put_out self.new.lines line ≡ put_out self.old.lines line + r.posted) }
+        ensures lifted { OnOk result (map (λ l. l.lifted) self.new.lines ≡ map (λ l. l.lifted) self.old.lines) }
         ensures undone { IfOk result (λ r. taken_back r.change self.new.lines ≡ self.old.lines) }
         ensures rules { self.new.rules ≡ self.old.rules }
         ensures fault { IfErr result (λ f. f ≡ unwrap_or (came_refusal self.old.lines line) LineFault.NoMemory) }
@@ -97,6 +99,7 @@ impl<T: Hears> Lines<T> {
             → StandFor (meaning T.heard T.turned T.octets_of self.old.rules) self.new.lines
             (with_step line Gone pasts)) }
         ensures posted { IfOk result (λ r. put_out self.new.lines line ≡ put_out self.old.lines line + r.posted) }
+        ensures lifted { OnOk result (map (λ l. l.lifted) self.new.lines ≡ map (λ l. l.lifted) self.old.lines) }
         ensures undone { IfOk result (λ r. taken_back r.change self.new.lines ≡ self.old.lines) }
         ensures rules { self.new.rules ≡ self.old.rules }
         ensures fault { IfErr result (λ f. f ≡ unwrap_or (lost_refusal self.old.lines line) LineFault.NoMemory) }
@@ -118,6 +121,7 @@ impl<T: Hears> Lines<T> {
             → StandFor (meaning T.heard T.turned T.octets_of self.old.rules) self.old.lines pasts
             → StandFor (meaning T.heard T.turned T.octets_of self.old.rules) self.new.lines
             (with_step item.now.line (Delivered item.now) pasts)) }
+        ensures lifted { OnOk result (map (λ l. l.lifted) self.new.lines ≡ map (λ l. l.lifted) self.old.lines) }
         ensures undone { IfOk result (λ change. taken_back change self.new.lines ≡ self.old.lines) }
         ensures rules { self.new.rules ≡ self.old.rules }
         ensures fault { IfErr result (λ f. f ≡ LineFault.NoMemory) }
@@ -140,6 +144,7 @@ impl<T: Hears> Lines<T> {
             → StandFor (meaning T.heard T.turned T.octets_of self.old.rules) self.old.lines pasts
             → StandFor (meaning T.heard T.turned T.octets_of self.old.rules) self.new.lines
             (map (one_more (Undialled peer generation)) pasts)) }
+        ensures lifted { OnOk result (map (λ l. l.lifted) self.new.lines ≡ map (λ l. l.lifted) self.old.lines) }
         ensures undone { IfOk result (λ change. taken_back change self.new.lines ≡ self.old.lines) }
         ensures rules { self.new.rules ≡ self.old.rules }
         ensures fault { IfErr result (λ f. f ≡ LineFault.NoMemory) }

@@ -1,6 +1,6 @@
 //! All connections of a node: their opening, and how they are seen.
 ghost use Rattle.std.specs.Prelude.{◌≡◌, ◌+◌, ◌++◌, ◌∷◌, [], List, length, IfOk, IfErr, OnOk, OnErr, None};
-ghost use Rattle.std.specs.Prelude.{option_copied, unwrap_or, min, take, drop};
+ghost use Rattle.std.specs.Prelude.{option_copied, unwrap_or, min, take, drop, map};
 
 use crate::fault::LineFault;
 use crate::line::Line;
@@ -83,6 +83,7 @@ impl<T: Hears> Lines<T> {
             → StandFor (meaning T.heard T.turned T.octets_of self.old.rules) self.old.lines pasts
             → StandFor (meaning T.heard T.turned T.octets_of self.old.rules) self.new.lines
             (opened openings.Accepted pasts)) }
+        ensures lifted { OnOk result (map (λ l. l.lifted) self.new.lines ≡ map (λ l. l.lifted) self.old.lines ++ 0 ∷ []) }
         ensures undone { OnOk result (taken_back Change.Opened self.new.lines ≡ self.old.lines) }
         ensures rules { self.new.rules ≡ self.old.rules }
         ensures fault { IfErr result (λ f. f ≡ unwrap_or (opening_refusal self.old.lines) LineFault.NoMemory) }
@@ -100,12 +101,20 @@ impl<T: Hears> Lines<T> {
             → StandFor (meaning T.heard T.turned T.octets_of self.old.rules) self.old.lines pasts
             → StandFor (meaning T.heard T.turned T.octets_of self.old.rules) self.new.lines
             (opened (openings.Dialled peer generation) pasts)) }
+        ensures lifted { OnOk result (map (λ l. l.lifted) self.new.lines ≡ map (λ l. l.lifted) self.old.lines ++ 0 ∷ []) }
         ensures undone { OnOk result (taken_back Change.Opened self.new.lines ≡ self.old.lines) }
         ensures rules { self.new.rules ≡ self.old.rules }
         ensures fault { IfErr result (λ f. f ≡ unwrap_or (opening_refusal self.old.lines) LineFault.NoMemory) }
         ensures err { OnErr result (self.new ≡ self.old) }
     {
         self.add(Opening::Dialled { peer, generation })
+    }
+
+    /// How many connections there are: they have the numbers from 1 on.
+    pub fn count(&self) -> usize
+        ensures { result ≡ length self.now.lines }
+    {
+        self.lines.len()
     }
 
     /// Where a connection stands, if there is one of that number. Takes no memory.

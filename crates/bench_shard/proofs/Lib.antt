@@ -5,3 +5,4 @@ pub mod AbsentLemmas
 pub mod ViewLemmas
 pub mod LegalLemmas
 pub mod NewLemmas
+pub mod SeekLemmas

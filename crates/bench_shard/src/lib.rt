@@ -7,6 +7,7 @@
 //! | `state` | the shard without its tables and callbacks, and how it is seen |
 //! | `open` | a shard is made |
 //! | `queues` | what comes, what is carried on, pauses |
+//! | `seek` | a machine is looked for without memory |
 //! | `settle` | a machine comes, or stands elsewhere, and that is taken back |
 //! | `task` | what the shard is to do next, and why it does not work |
 //! | `work` | work is written, and taken back |
@@ -18,6 +19,7 @@ mod law;
 mod name;
 mod open;
 mod queues;
+mod seek;
 mod settle;
 mod state;
 mod task;

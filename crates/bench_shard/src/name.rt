@@ -7,7 +7,7 @@ use bench_item::{Key, Role};
 use std::alloc::{AllocError, Global};
 
 /// The octet of a role.
-fn role_octet(role: Role) -> u8
+pub(crate) fn role_octet(role: Role) -> u8
     ensures { result ≡ role_octet role }
 {
     match role {

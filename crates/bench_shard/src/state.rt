@@ -66,6 +66,13 @@ impl ShardState {
         self.number
     }
 
+    /// The configured peers of its node.
+    pub fn peers(&self) -> &Peers
+        ensures { result.now ≡ self.now.peers }
+    {
+        &self.peers
+    }
+
     /// How many machines there are.
     pub fn machines(&self) -> usize
         ensures count { result ≡ length self.now.names }

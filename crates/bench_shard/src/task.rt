@@ -1,5 +1,5 @@
 //! What a shard is to do next.
-ghost use Rattle.std.specs.Prelude.{◌≡◌, ◌<◌, ◌≤◌, ◌==◌, IfOk, IfSome, length, slice_get, slice_index, unwrap_or};
+ghost use Rattle.std.specs.Prelude.{◌≡◌, ◌<◌, ◌≤◌, ◌==◌, false, IfOk, IfSome, length, slice_get, slice_index, unwrap_or};
 ghost use Rattle.bench_item.specs.Keys.{number_at};
 ghost use Rattle.bench_item.specs.declared.limit.TheConstants.{MAX_MACHINES, MAX_SHARDS};
 ghost use Rattle.bench_spec.specs.Machines.{holds, start};
@@ -7,7 +7,7 @@ ghost use Rattle.bench_spec.specs.Refusal.{is_empty};
 ghost use Rattle.bench_queue.specs.Inbox.{items_in};
 ghost use Rattle.bench_shard.specs.Refusal.{lacks_work_room, work_refusal};
 ghost use Rattle.bench_shard.specs.Tasks.{fate_of, page_of};
-ghost use Rattle.bench_shard.specs.View.{lacks_room, place_in, state_for};
+ghost use Rattle.bench_shard.specs.View.{lacks_room, place_in, state_for, with_paused};
 
 use crate::fault::WorkFault;
 use crate::open::{number_at, start};
@@ -140,13 +140,10 @@ impl ShardState {
         self.posted() > MAX_WAITING - WORK_ROOM
     }
 
-    /// Why it does not work, memory and the account book's page aside; none where it may. Takes no memory.
-    pub fn work_refusal(&self) -> Option<WorkFault>
-        ensures { result ≡ work_refusal self.now }
+    /// Why it would not work if it were not paused, memory and the account book's page aside. Takes no memory.
+    pub fn unpaused_refusal(&self) -> Option<WorkFault>
+        ensures { result ≡ work_refusal (with_paused self.now false) }
     {
-        if self.paused {
-            return Some(WorkFault::Paused);
-        }
         if self.is_idle() {
             return Some(WorkFault::Nothing);
         }
@@ -154,5 +151,15 @@ impl ShardState {
             return Some(WorkFault::Full);
         }
         None
+    }
+
+    /// Why it does not work, memory and the account book's page aside; none where it may. Takes no memory.
+    pub fn work_refusal(&self) -> Option<WorkFault>
+        ensures { result ≡ work_refusal self.now }
+    {
+        if self.paused {
+            return Some(WorkFault::Paused);
+        }
+        self.unpaused_refusal()
     }
 }

@@ -25,10 +25,11 @@ pub enum Undo {
     Lines(Change),
     /// That desk put an item out.
     Told(u32),
-    /// The timer of that machine fired, which was armed so.
+    /// The timer of that machine fired, which was armed so; the clock put so many items out.
     Fired {
         machine: u64,
         old: Option<Armed>,
+        posted: usize,
     },
     /// An item of the clock, of a desk or of a shard was lifted.
     Lifted(Source),

@@ -2,7 +2,7 @@
 use Rattle.std.specs.Prelude.{ℕ, ◌==◌, ◌&&◌, not, nat_le, Bool, false, List, [], ◌∷◌, length, find, if◌then◌else◌, unwrap_or}
 use Rattle.std.specs.Option.{option_map_or}
 use Rattle.base_codes.specs.declared.avp_code.TheConstants.{SUBSCRIPTION_ID_TYPE, SUBSCRIPTION_ID_DATA}
-use Rattle.bench_text.specs.Numbers.{number_of}
+use Rattle.base_text.specs.Numbers.{number_of}
 use Rattle.dia_avp.specs.declared.avp.Avp.{Avp}
 use Rattle.dia_tree.specs.Faults.{is_coded}
 use Rattle.dia_command.specs.declared.typed.TypedAvp.{TypedAvp}

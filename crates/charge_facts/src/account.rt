@@ -5,7 +5,7 @@ ghost use Rattle.charge_facts.specs.Accounts.{begins_with_0, account_number, is_
 
 use crate::group::{first, first_number};
 use base_codes::avp_code;
-use bench_text::number_of;
+use base_text::number_of;
 use dia_avp::AvpList;
 use dia_command::TypedAvp;
 

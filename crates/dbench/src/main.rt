@@ -1,9 +1,9 @@
 //! A test bench for Diameter online charging: the program.
 #![tactic(auto)]
 
-use bench_device::{Counting, Inputs};
-use bench_run::{main_on, tell_no_words};
-use bench_words::given_words;
+use base_device::{Counting, Inputs};
+use cmd_run::{main_on, tell_no_words};
+use cmd_words::given_words;
 use std::io;
 use std::process::ExitCode;
 

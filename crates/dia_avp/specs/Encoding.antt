@@ -46,6 +46,10 @@ encoding list = flat_map encoded list
 abbrev pub group_avp : ℕ → Bool → Bool → List Avp → Avp
 group_avp code mandatory protected list = record { code = code; vendor = None; mandatory = mandatory; protected = protected; octets = encoding list }
 
+-- the AVP without vendor whose data is a number in 4 octets (RFC 6733 section 4.2)
+abbrev pub number_avp : ℕ → Bool → Bool → ℕ → Avp
+number_avp code mandatory protected number = record { code = code; vendor = None; mandatory = mandatory; protected = protected; octets = big_bytes 4 number }
+
 -- some AVP is too long for 24 bits of length
 abbrev pub HasLong : List Avp → Type 0
 HasLong list = Any (λ a. 2 ^ 24 ≤ length_of a) list

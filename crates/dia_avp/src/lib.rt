@@ -21,4 +21,4 @@ pub use field::{identity_of, text_of, u32_of, u64_of};
 pub use first::{avp_at, first_avp};
 pub use group::{AvpsIn, group_of};
 pub use reading::{MAX_AVPS, MAX_DEPTH, read_avps};
-pub use writing::{put_avp, put_avps, put_group, write_avp, write_avps};
+pub use writing::{put_avp, put_avps, put_group, put_number, write_avp, write_avps};

@@ -2,7 +2,7 @@
 
 ghost use Rattle.std.specs.Prelude.{◌≡◌, ◌+◌, ◌<◌, ◌≤◌, ◌^◌, ◌↔◌, ◌++◌, length, replicate, All, OnOk, OnErr, IsErrOf, IfSome, vec_len, vec_capacity};
 ghost use Rattle.dia_avp.specs.View.{seen};
-ghost use Rattle.dia_avp.specs.Encoding.{length_of, encoded, encoding, header, flags_of, has_vendor, vendor_id, group_avp, HasLong};
+ghost use Rattle.dia_avp.specs.Encoding.{length_of, encoded, encoding, header, flags_of, has_vendor, vendor_id, group_avp, number_avp, HasLong};
 ghost use Rattle.dia_avp.specs.Writing.{HasNumbers, MeansAvp, MeansAvps, IsReadBack};
 
 use crate::avp::{Avp, AvpView};
@@ -12,6 +12,7 @@ use crate::length::{encoded_len_of, has_long, is_long, length_of};
 use base_codes::AVP_HEADER_LEN;
 use byteorder::{BigEndian, ByteOrder};
 
+#[inline(always)]
 fn flags_of(vendor: Option<u32>, mandatory: bool, protected: bool) -> u8
     ensures { result ≡ flags_of (has_vendor vendor) mandatory protected }
 {
@@ -24,6 +25,7 @@ fn flags_of(vendor: Option<u32>, mandatory: bool, protected: bool) -> u8
     vendor + mandatory + protected
 }
 
+#[inline(always)]
 fn header_of(code: u32, flags: u8, len: u32) -> [u8; AVP_HEADER_LEN]
     requires { len < 2 ^ 24 }
     ensures octets { result ≡ header code flags len }
@@ -37,6 +39,7 @@ fn header_of(code: u32, flags: u8, len: u32) -> [u8; AVP_HEADER_LEN]
 }
 
 /// Appends octets for which there is room.
+#[inline(always)]
 fn put(out: &mut Vec<u8>, octets: &[u8])
     requires { vec_len out.old + length octets.now ≤ vec_capacity out.old }
     ensures items { out.new.items ≡ out.old.items ++ octets.now }
@@ -67,7 +70,12 @@ fn put_padding(out: &mut Vec<u8>, count: usize)
     ensures items { out.new.items ≡ out.old.items ++ replicate count 0 }
     ensures room { vec_capacity out.old ≤ vec_capacity out.new }
 {
-    put(out, &[0; 3][..count]);
+    match count {
+        0 => {}
+        1 => put(out, &[0; 1]),
+        2 => put(out, &[0; 2]),
+        _ => put(out, &[0; 3]),
+    }
 }
 
 /// Appends the canonical encoding of an AVP (RFC 6733 section 4.1) to octets that have room for it. Takes no memory.
@@ -86,6 +94,23 @@ pub fn put_avp(avp: &AvpView<'_>, out: &mut Vec<u8>)
     put_vendor(out, avp.vendor);
     put(out, avp.octets);
     put_padding(out, len.div_ceil(4) * 4 - len);
+}
+
+/// Appends the canonical encoding of the AVP without vendor whose data is a number in 4 octets (RFC 6733 section 4.2) to octets
+/// that have room for its 12. Takes no memory.
+#[inline]
+#[tactic(auto, unfolding(crate::specs::Encoding::encoded, crate::specs::Encoding::length_of))]
+pub fn put_number(code: u32, mandatory: bool, protected: bool, number: u32, out: &mut Vec<u8>)
+    requires { vec_len out.old + 12 ≤ vec_capacity out.old }
+    ensures items { out.new.items ≡ out.old.items ++ encoded (number_avp code mandatory protected number) }
+    ensures len { vec_len out.new ≡ vec_len out.old + 12 }
+    ensures room { vec_capacity out.old ≤ vec_capacity out.new }
+{
+    let mut octets = [0; 4];
+    BigEndian::write_u32(&mut octets, number);
+    let flags = flags_of(None, mandatory, protected);
+    put(out, &header_of(code, flags, 12));
+    put(out, &octets);
 }
 
 /// Appends the canonical encoding of the AVPs, the last padding too, to octets that have room for it. Takes no memory.

@@ -34,7 +34,7 @@ use Rattle.dia_command.specs.Field.{type_in, IsTypedOf, AreTypedOf}
 use Rattle.dia_msg.specs.declared.sorting.Sorted.{Sorted}
 use Rattle.dia_msg.specs.Taken.{is_for, first_of, taken, is_missing, missing}
 use Rattle.dia_msg.specs.Sorting.{seen_all, placed, all_placed, IsSorted}
-use Rattle.dia_msg.specs.Source.{entry_at, takes, IsReady, IsOne, IsPerhaps, AreNumbers, AreTexts, IsSound}
+use Rattle.dia_msg.specs.Source.{entry_at, takes, IsReady, IsOne, IsPerhaps, IsSeveral, AreNumbers, AreTexts, IsSound}
 use Rattle.dia_msg.proofs.SortLemmas.{front-more}
 
 both_true : (a b : Bool) → (a && b) ≡ true → (a ≡ true) × (b ≡ true)
@@ -222,6 +222,21 @@ pub taken_seen : (added : List Definition) (formats : List AvpFormat) (list : Li
     → takes formats list place ≡ option_to_list (option_map seen r)
 taken_seen added formats list s place r ready held e =
     takes_once formats list place held.1 ∙ ap (λ (o : Option Avp). option_to_list o) (sym (first_taken added formats list s place r ready held e))
+
+-- an entry of any number of AVPs that has no first one takes none
+no_first : (list : List Avp) → None ≡ slice_get list 0 → list ≡ []
+no_first [] e = refl
+no_first (a ∷ list) e = absurd cc
+
+taken_all : (b : Bool) (f : AvpFormat) (list : List Avp) → f.several ≡ b → b ≡ true → taken f list ≡ filter (is_for f) list
+taken_all true f list e h = rw e refl
+taken_all false f list e h = absurd cc
+
+pub none_taken : (added : List Definition) (formats : List AvpFormat) (list : List Avp) (s : Sorted) (place : ℕ) → IsReady added formats list s → IsSeveral formats place → None ≡ placed list (get_or s.firsts place None)
+    → takes formats list place ≡ []
+none_taken added formats list s place ready held e =
+    let f = entry_at formats place in
+    taken_all f.several f list refl held.1 ∙ no_first (filter (is_for f) list) (e ∙ placed_first formats list s place ready.sorted held.0)
 
 pub taken_sound : (added : List Definition) (formats : List AvpFormat) (list : List Avp) (s : Sorted) (place : ℕ) (r : Option AvpView) (v : AvpView) → IsReady added formats list s → IsPerhaps formats place → option_map seen r ≡ placed list (get_or s.firsts place None)
     → r ≡ Some v → IsSound added (entry_at formats place).code (seen v)

@@ -25,6 +25,8 @@ impl From<AllocError> for MsgError {
 }
 
 /// The error for a fault, with a copy of its failed AVP.
+#[cold]
+#[inline(never)]
 pub(crate) fn error_of(alloc: Global, fault: &FaultView<'_>) -> MsgError
     ensures { IsErrorOf (seen_fault fault.now) result }
 {

@@ -22,7 +22,7 @@ use crate::services::{are_faulty, first_number, has_services};
 use crate::sorting::{Sorted, sort};
 use crate::source::Source;
 use base_codes::{HEADER_LEN, ResultCode, avp_code};
-use base_fixed::FixedList;
+use base_list::FixedList;
 use dia_avp::{AvpView, MAX_AVPS};
 use dia_command::{Command, CommandKind, Header, RequestType, format_of, header_of};
 use dia_dict::Dictionary;
@@ -51,6 +51,8 @@ fn has_failed(avps: &[AvpView<'_>]) -> bool
 }
 
 // A fault without a failed AVP.
+#[cold]
+#[inline(never)]
 fn fault_of(code: ResultCode) -> MsgError
     ensures { result ≡ MsgError.Fault (fault code None) }
 {
@@ -162,6 +164,8 @@ fn concluded(
 }
 
 // A message of any number of AVPs, whose header has no fault.
+#[cold]
+#[inline(never)]
 fn reading_of_many(
     alloc: Global,
     dictionary: &Dictionary,

@@ -12,7 +12,7 @@ ghost use Rattle.dia_msg.specs.Sorting.{seen_all};
 ghost use Rattle.dia_msg.specs.Walk.{groups_in};
 
 use base_codes::avp_code;
-use base_fixed::FixedList;
+use base_list::FixedList;
 use dia_avp::{AvpView, first_avp};
 use dia_command::CommandKind;
 

@@ -231,8 +231,8 @@ impl Source<'_> {
         self.perhaps_number(place).unwrap()
     }
 
-    /// The values of an entry of any number of AVPs.
-    pub fn all<T: FromAvp>(&self, place: usize, wanting: &mut bool) -> TypedAvps<T>
+    // The values of an entry of any number of AVPs, each AVP looked at.
+    fn every<T: FromAvp>(&self, place: usize, wanting: &mut bool) -> TypedAvps<T>
         requires ready { IsReady self.now.dictionary.now self.now.format.now (seen_all self.now.avps.now) self.now.sorted.now }
         requires held { IsSeveral self.now.format.now place }
         requires kind { T.has_kind self.now.dictionary.now (entry_at self.now.format.now place).code }
@@ -249,6 +249,19 @@ impl Source<'_> {
             }
         }
         values
+    }
+
+    /// The values of an entry of any number of AVPs.
+    pub fn all<T: FromAvp>(&self, place: usize, wanting: &mut bool) -> TypedAvps<T>
+        requires ready { IsReady self.now.dictionary.now self.now.format.now (seen_all self.now.avps.now) self.now.sorted.now }
+        requires held { IsSeveral self.now.format.now place }
+        requires kind { T.has_kind self.now.dictionary.now (entry_at self.now.format.now place).code }
+        ensures { wanting.new ≡ false → (wanting.old ≡ false) × AreTypedOf (T.is_value (known self.now.dictionary.now)) result (takes self.now.format.now (seen_all self.now.avps.now) place) }
+    {
+        match self.sorted.first(place, self.avps) {
+            None => TypedAvps::new(self.alloc),
+            Some(_) => self.every(place, wanting),
+        }
     }
 
     // The AVPs that no entry takes, each in its canonical encoding.

@@ -8,6 +8,7 @@ use Rattle.std.specs.Net.Addr.{segments_of}
 use Rattle.dia_dict.specs.declared.definition.AvpKind.{AvpKind}
 use Rattle.dia_dict.specs.declared.definition.AvpKind.TheVariants.{Unsigned32, Unsigned64, Enumerated, Utf8String, DiameterIdentity, Address, Grouped, Time, OctetString}
 use Rattle.dia_dict.specs.declared.definition.Definition.{Definition}
+use Rattle.dia_show.specs.Glossary.{Naming, added_name}
 use Rattle.dia_show.specs.Names.{enumerated_name}
 use Rattle.dia_show.specs.Dates.{time_text}
 use Rattle.dia_show.specs.Parts.{quoted, octets_text}
@@ -25,15 +26,10 @@ ill_sized octets = octets_text octets ++ codes " (a size that its type does not 
 abbrev pub number_name : ℕ → ℕ → List ℕ
 number_name code number = if code == 268 then result_name number else []
 
--- an Unsigned32 in decimal, and its name where it has one
-abbrev pub unsigned_text : ℕ → List ℕ → List ℕ
-unsigned_text code octets =
-    if length octets == 4 then decimal (big_number 4 octets) ++ name_behind (number_name code (big_number 4 octets)) else ill_sized octets
-
--- an Enumerated likewise
-abbrev pub enumerated_text : ℕ → List ℕ → List ℕ
-enumerated_text code octets =
-    if length octets == 4 then decimal (big_number 4 octets) ++ name_behind (enumerated_name code (big_number 4 octets)) else ill_sized octets
+-- a number of 4 octets in decimal, and its name where it has one
+abbrev pub named_text : (ℕ → List ℕ) → List ℕ → List ℕ
+named_text name octets =
+    if length octets == 4 then decimal (big_number 4 octets) ++ name_behind (name (big_number 4 octets)) else ill_sized octets
 
 -- an Unsigned64 in decimal
 abbrev pub long_text : List ℕ → List ℕ
@@ -54,18 +50,6 @@ family_text family octets =
 abbrev pub address_text : List ℕ → List ℕ
 address_text octets = if is_address octets then family_text (big_number 2 octets) (drop 2 octets) else ill_sized octets
 
--- data of a type, in an AVP of this code, 0 where it has a vendor
-abbrev pub typed_text : AvpKind → ℕ → List ℕ → List ℕ
-typed_text Unsigned32 code octets = unsigned_text code octets
-typed_text Unsigned64 code octets = long_text octets
-typed_text Enumerated code octets = enumerated_text code octets
-typed_text Utf8String code octets = quoted octets
-typed_text DiameterIdentity code octets = quoted octets
-typed_text Address code octets = address_text octets
-typed_text Grouped code octets = octets_text octets
-typed_text Time code octets = moment_text octets
-typed_text OctetString code octets = octets_text octets
-
 -- the code by which the names of an AVP's values are found: 0 where it has a vendor
 abbrev pub names_code : Definition → ℕ
 names_code d = if unwrap_or d.vendor 0 == 0 then d.code else 0
@@ -76,11 +60,32 @@ name_of_kind Unsigned32 code number = number_name code number
 name_of_kind Enumerated code number = enumerated_name code number
 name_of_kind kind code number = []
 
--- the same by the definition
-abbrev pub value_name : Definition → ℕ → List ℕ
-value_name d number = name_of_kind d.kind (names_code d) number
+-- the name of a number in the AVP of a definition by the standards
+abbrev pub standard_name : Definition → ℕ → List ℕ
+standard_name d number = name_of_kind d.kind (names_code d) number
+
+-- a name, or another one where it is empty
+abbrev pub name_or : List ℕ → List ℕ → List ℕ
+name_or [] other = other
+name_or (c ∷ name) other = c ∷ name
+
+-- the name of a number in the AVP of a definition: that of the standards, or else the one that was added
+abbrev pub value_name : List Naming → Definition → ℕ → List ℕ
+value_name namings d number = name_or (standard_name d number) (added_name namings d number)
+
+-- data of a type, by the names of its numbers
+abbrev pub typed_text : (ℕ → List ℕ) → AvpKind → List ℕ → List ℕ
+typed_text name Unsigned32 octets = named_text name octets
+typed_text name Unsigned64 octets = long_text octets
+typed_text name Enumerated octets = named_text name octets
+typed_text name Utf8String octets = quoted octets
+typed_text name DiameterIdentity octets = quoted octets
+typed_text name Address octets = address_text octets
+typed_text name Grouped octets = octets_text octets
+typed_text name Time octets = moment_text octets
+typed_text name OctetString octets = octets_text octets
 
 -- data by the definition that the AVP has, in hexadecimal where it has none
-abbrev pub value_text : Option Definition → List ℕ → List ℕ
-value_text None octets = octets_text octets
-value_text (Some d) octets = typed_text d.kind (names_code d) octets
+abbrev pub value_text : List Naming → Option Definition → List ℕ → List ℕ
+value_text namings None octets = octets_text octets
+value_text namings (Some d) octets = typed_text (value_name namings d) d.kind octets

@@ -2,7 +2,7 @@
 ghost use Rattle.std.specs.Prelude.{◌≡◌, ◌<◌, ◌≤◌, ◌+◌, ◌^◌, ◌++◌, OnOk};
 ghost use Rattle.dia_show.specs.Dates.{seconds_of, even_days, year_of_four, year_of, leap_day, day_of_year, month_at, two_digits, date_text, clock_text, utc_text, time_text};
 
-use bench_text::put_number;
+use base_text::put_number;
 use std::alloc::AllocError;
 
 /// Days from 1 January 1900 to 1 March 2100.

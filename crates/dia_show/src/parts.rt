@@ -5,7 +5,7 @@ ghost use Rattle.std.specs.Net.Text.{ipv4_text, ipv6_text};
 ghost use Rattle.std.specs.Net.Addr.{segments_of};
 ghost use Rattle.dia_show.specs.Parts.{escaped, quoted, octets_text, seen_address_text};
 
-use bench_text::{put_hex, put_number};
+use base_text::{put_hex, put_number};
 use dia_avp::Address;
 use std::alloc::AllocError;
 use std::net::{Ipv4Addr, Ipv6Addr};

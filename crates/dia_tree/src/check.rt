@@ -18,7 +18,7 @@ use crate::fault::FaultView;
 use crate::kind::is_group;
 use crate::zeros::{broken_fault, zeros};
 use base_codes::ResultCode;
-use base_fixed::FixedList;
+use base_list::FixedList;
 use dia_avp::{AvpView, FieldFault, MAX_AVPS, first_avp};
 use dia_dict::{AvpKind, Dictionary};
 

@@ -37,6 +37,8 @@ fn zeroed<'a>(dictionary: &Dictionary, avp: &AvpView<'a>) -> AvpView<'a>
 }
 
 /// The fault of an AVP whose length is broken.
+#[cold]
+#[inline(never)]
 pub(crate) fn broken_fault<'a>(dictionary: &Dictionary, octets: &[u8]) -> FaultView<'a>
     ensures { seen_fault result ≡ fault_of_broken (known dictionary.now) octets.now }
 {
@@ -48,6 +50,8 @@ pub(crate) fn broken_fault<'a>(dictionary: &Dictionary, octets: &[u8]) -> FaultV
 
 /// The fault of a required AVP that is missing: `MissingAvp`, and as the failed AVP one of that code with flag M and
 /// zeros of the least size of its type (RFC 6733 section 7.1.5). Takes no memory.
+#[cold]
+#[inline(never)]
 pub fn missing_fault<'a>(dictionary: &Dictionary, code: u32) -> FaultView<'a>
     ensures { seen_fault result ≡ fault_of_missing (known dictionary.now) code }
 {

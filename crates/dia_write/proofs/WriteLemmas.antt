@@ -103,3 +103,9 @@ encode-first_frame command short = whole-first_frame (encode command) (encode-wh
 pub avps-all : (command : Command) (format : List AvpFormat) (values : List Values) → format ≡ format_of (kind_of command) false → map field_of values ≡ fields command → values_avps format values ++ rest_of command ≡ avps_of command
 avps-all command format values e f =
     ap (λ (x : List AvpFormat). avps_by x (map field_of values) ++ rest_of command) e ∙ ap (λ (x : List Field). avps_by (format_of (kind_of command) false) x ++ rest_of command) f
+
+-- no fields are no AVPs
+pub values_avps-none : (format : List AvpFormat) (values : List Values) → length values ≡ 0 → values_avps format values ≡ []
+values_avps-none [] values e = refl
+values_avps-none (f ∷ format) [] e = refl
+values_avps-none (f ∷ format) (v ∷ values) e = absurd (omega arith)

@@ -12,8 +12,7 @@ ghost use Rattle.dia_write.specs.Encoding.{message_len, encode, IsTooLong, Write
 
 use crate::values::{Content, Item, Values};
 use base_codes::{AVP_HEADER_LEN, HEADER_LEN, MAX_LENGTH};
-use byteorder::{BigEndian, ByteOrder};
-use dia_avp::{AvpList, AvpView, WriteError, put_avp, put_avps, put_group};
+use dia_avp::{AvpList, AvpView, WriteError, put_avp, put_avps, put_group, put_number};
 use dia_command::{
     AvpFormat, CapabilitiesExchangeAnswer, CapabilitiesExchangeRequest, Command,
     CreditControlAnswer, CreditControlRequest, DeviceWatchdogAnswer, DeviceWatchdogRequest,
@@ -72,13 +71,15 @@ fn with_fields(start: usize, format: &[AvpFormat], fields: &[Values<'_>]) -> Opt
     requires { start < 2 ^ 24 }
     ensures { let len = start + length (encoding (values_avps format.now fields.now)) in SomeIff result (len < 2 ^ 24) len }
 {
-    match (format.split_first(), fields.split_first()) {
-        (Some((entry, format)), Some((values, fields))) => {
-            let len = with_values(start, entry.code, values)?;
-            with_fields(len, format, fields)
-        }
-        _ => Some(start),
+    let mut len = start;
+    let mut format = format;
+    let mut fields = fields;
+    'fields: while !format.is_empty() && !fields.is_empty() {
+        len = with_values(len, format[0].code, &fields[0])?;
+        format = &format[1..];
+        fields = &fields[1..];
     }
+    Some(len)
 }
 
 // How many octets a message of these fields and this rest has, where 24 bits hold the number.
@@ -111,11 +112,13 @@ fn put_item(item: &Item<'_>, out: &mut Vec<u8>)
 {
     match item.content {
         Content::Octets(octets) => put_avp(&view_of(item, octets), out),
-        Content::Number(number) => {
-            let mut octets = [0; 4];
-            BigEndian::write_u32(&mut octets, number);
-            put_avp(&view_of(item, &octets), out);
-        }
+        Content::Number(number) => put_number(
+            item.code,
+            item.mandatory,
+            item.protected,
+            number,
+            out,
+        ),
         Content::Group(list) => put_group(item.code, item.mandatory, item.protected, list, out),
     }
 }
@@ -139,12 +142,12 @@ fn put_fields(format: &[AvpFormat], fields: &[Values<'_>], out: &mut Vec<u8>)
     ensures items { out.new.items ≡ out.old.items ++ encoding (values_avps format.now fields.now) }
     ensures room { vec_capacity out.old ≤ vec_capacity out.new }
 {
-    if let (Some((entry, format)), Some((values, fields))) = (
-        format.split_first(),
-        fields.split_first(),
-    ) {
-        put_values(entry.code, values, out);
-        put_fields(format, fields, out);
+    let mut format = format;
+    let mut fields = fields;
+    'fields: while !format.is_empty() && !fields.is_empty() {
+        put_values(format[0].code, &fields[0], out);
+        format = &format[1..];
+        fields = &fields[1..];
     }
 }
 

@@ -1,7 +1,7 @@
 -- Short texts, and the facts that their words are.
 use Rattle.std.proofs.Common.{◌≡◌, ◌∷◌, ◌++◌, replicate, Some, None, codes, refl}
 use Rattle.text_parts.specs.Words.{words}
-use Rattle.bench_text.specs.Numbers.{number_of}
+use Rattle.base_text.specs.Numbers.{number_of}
 use Rattle.event_text.specs.Events.{fact_of, facts_of}
 
 pub facts_of-two : facts_of (words (codes "12=5 3=7")) ≡ Some (0 ∷ 0 ∷ 0 ∷ 7 ∷ replicate 8 0 ++ 5 ∷ replicate 51 0)

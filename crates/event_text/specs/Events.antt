@@ -1,7 +1,7 @@
 -- Which events a text lists: a line each, `KIND N=V ..`, a kind by its name and then facts by number.
 use Rattle.std.specs.Prelude.{◌≡◌, ℕ, ◌==◌, ◌&&◌, not, nat_lt, Bool, true, List, [], ◌∷◌, filter, map, Option, Some, None, is_none, is_some, option_map, unwrap_or, if◌then◌else◌}
 use Rattle.std.specs.List.{filter_map, find, list_all, list_any, range_with_len, slice_split}
-use Rattle.bench_text.specs.Numbers.{number_of}
+use Rattle.base_text.specs.Numbers.{number_of}
 use Rattle.tab_law.specs.Books.{Laws}
 use Rattle.base_list.specs.Named.{place_of}
 use Rattle.tab_law.specs.declared.limits.TheConstants.{PLACES}

@@ -5,7 +5,7 @@ ghost use Rattle.std.specs.Option.{option_map};
 ghost use Rattle.event_text.specs.Deeds.{deed_line, deed_name, deed_words, name_or, without_last_zeros};
 
 use base_codes::DeedCode;
-use bench_text::put_number;
+use base_text::put_number;
 use std::alloc::AllocError;
 use tab_law::Deed;
 

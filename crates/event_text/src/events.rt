@@ -4,7 +4,7 @@ ghost use Rattle.std.specs.List.{slice_split};
 ghost use Rattle.event_text.specs.Events.{IsBadText, event_of, events_of, fact_between, fact_of, facts_of, first_bad, is_skipped};
 ghost use Rattle.text_parts.specs.Pieces.{words_left};
 
-use bench_text::number_of;
+use base_text::number_of;
 use std::alloc::{AllocError, AllocFailed, Global};
 use tab_law::{LawBook, PLACES};
 use tab_step::Event;

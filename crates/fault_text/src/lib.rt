@@ -4,7 +4,7 @@
 ghost use Rattle.std.specs.Prelude.{◌≡◌, ◌++◌, IfOk, OnOk, codes};
 ghost use Rattle.fault_text.specs.Faults.{bad_text, event_form, table_fault, unbound_text, wanted_of};
 
-use bench_text::put_number;
+use base_text::put_number;
 use std::alloc::{AllocError, Global};
 use tab_text::{TextCode, TextFault};
 

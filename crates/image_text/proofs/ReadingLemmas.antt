@@ -1,10 +1,10 @@
 -- Which octets a text spells.
 use Rattle.std.proofs.Common.{◌≡◌, ◌≤◌, ℕ, true, false, List, take, length, Option, Some, None, get_or, arith, ap, subst, ◌∙◌}
 use Rattle.std.proofs.Math.Seq.{take-length}
-use Rattle.bench_text.specs.Digits.{Means, is_hex_text}
-use Rattle.bench_text.specs.Stops.{StopsBy}
-use Rattle.bench_text.specs.declared.digits.Stop.{Stop}
-use Rattle.bench_text.specs.declared.digits.Stop.TheVariants.{TextEnds, PieceFull, BadCharacter}
+use Rattle.base_text.specs.Digits.{Means, is_hex_text}
+use Rattle.base_text.specs.Stops.{StopsBy}
+use Rattle.base_text.specs.declared.digits.Stop.{Stop}
+use Rattle.base_text.specs.declared.digits.Stop.TheVariants.{TextEnds, PieceFull, BadCharacter}
 use Rattle.image_text.specs.Images.{Spells, is_whole}
 
 -- a text that was read to its end

@@ -1,8 +1,8 @@
 -- Images as text: which program a text gives, and why it gives none.
 use Rattle.std.specs.Prelude.{ℕ, Bool, false, List, ◌++◌, is_none, Option, Some, None, codes, decimal}
-use Rattle.bench_text.specs.Digits.{Means}
-use Rattle.bench_text.specs.declared.digits.Stop.{Stop}
-use Rattle.bench_text.specs.declared.digits.Stop.TheVariants.{TextEnds}
+use Rattle.base_text.specs.Digits.{Means}
+use Rattle.base_text.specs.declared.digits.Stop.{Stop}
+use Rattle.base_text.specs.declared.digits.Stop.TheVariants.{TextEnds}
 use Rattle.tab_law.specs.Books.{Laws}
 use Rattle.tab_load.specs.Faults.{number_of}
 use Rattle.tab_load.specs.Loading.{HasFault, IsLoaded, IsReadFrom, Loaded}

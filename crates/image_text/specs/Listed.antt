@@ -1,8 +1,8 @@
 -- What is told where an image's text is listed.
 use Rattle.std.specs.Prelude.{◌≡◌, ◌⊎◌, ℕ, Bool, true, false, List, Option, Some, codes}
-use Rattle.bench_device.specs.Devices.{Tells}
-use Rattle.bench_device.specs.declared.status.Status.{Status}
-use Rattle.bench_device.specs.declared.status.Status.TheVariants as statuses
+use Rattle.base_device.specs.Devices.{Tells}
+use Rattle.base_device.specs.declared.status.Status.{Status}
+use Rattle.base_device.specs.declared.status.Status.TheVariants as statuses
 use Rattle.tab_law.specs.Books.{Laws}
 use Rattle.tab_load.specs.Loading.{Loaded}
 use Rattle.image_text.specs.Images.{IsImageOf, IsNoImage, refusal_text}

@@ -1,7 +1,7 @@
 -- With which status a text is told.
 use Rattle.std.specs.Prelude.{Bool, true, false}
-use Rattle.bench_device.specs.declared.status.Status.{Status}
-use Rattle.bench_device.specs.declared.status.Status.TheVariants.{Refused, Done}
+use Rattle.base_device.specs.declared.status.Status.{Status}
+use Rattle.base_device.specs.declared.status.Status.TheVariants.{Refused, Done}
 
 -- refused or done
 abbrev pub told_status : Bool → Status

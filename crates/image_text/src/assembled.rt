@@ -1,13 +1,13 @@
 //! A table's text assembled, and its image told in hexadecimal.
 ghost use Rattle.std.specs.Prelude.{◌≡◌, ◌≢◌, ◌<◌, ◌≤◌, ◌-◌, ◌^◌, max, if◌then◌else◌, Some, None, IfOk};
 ghost use Rattle.std.specs.List.{slice_get};
-ghost use Rattle.bench_device.specs.Devices.{HasWriteCause};
+ghost use Rattle.base_device.specs.Devices.{HasWriteCause};
 ghost use Rattle.fault_text.specs.Faults.{table_fault};
 ghost use Rattle.image_text.specs.Assembled.{IsAssembledOn, IsTold, image_text};
 
 use crate::told::{Told, told_status};
-use bench_device::{ByteSink, MAX_IDLE_WRITES, Status, tell};
-use bench_text::put_hex;
+use base_device::{ByteSink, MAX_IDLE_WRITES, Status, tell};
+use base_text::put_hex;
 use fault_text::{table_fault, unbound_text};
 use std::alloc::{AllocError, Global};
 use tab_asm::assemble;

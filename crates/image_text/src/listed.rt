@@ -1,13 +1,13 @@
 //! An image's text listed, or its first refusal told.
 ghost use Rattle.std.specs.Prelude.{◌≡◌, ◌≢◌, ◌<◌, ◌≤◌, ◌-◌, ◌^◌, max, IfOk};
-ghost use Rattle.bench_device.specs.Devices.{HasWriteCause};
+ghost use Rattle.base_device.specs.Devices.{HasWriteCause};
 ghost use Rattle.image_text.specs.Images.{IsNoImage};
 ghost use Rattle.image_text.specs.Listed.{IsListedOn, IsTold};
 
 use crate::listing::listing;
 use crate::reading::{ImageError, read_image, refusal_text};
 use crate::told::{Told, told_status};
-use bench_device::{ByteSink, MAX_IDLE_WRITES, Status, tell};
+use base_device::{ByteSink, MAX_IDLE_WRITES, Status, tell};
 use std::alloc::{AllocError, Global};
 use tab_law::LawBook;
 

@@ -8,7 +8,7 @@ ghost use Rattle.image_text.specs.Listings.{IsListing, IsCodeListing, entries_te
 ghost use Rattle.image_text.specs.Listings.{entry_text, instruction_text, line_text};
 
 use base_list::Octets;
-use bench_text::put_number;
+use base_text::put_number;
 use std::alloc::{AllocError, Global};
 use tab_law::LawBook;
 use tab_load::{Program, Step, size_of_step, step_in};

@@ -3,7 +3,7 @@ ghost use Rattle.std.specs.Prelude.{◌≡◌, Some, IfOk, IfErr, codes};
 ghost use Rattle.image_text.specs.Images.{IsImageOf, IsNoImage, IsNoText, Spells, fault_text, is_whole, refusal_text};
 ghost use Rattle.image_text.specs.declared.reading.ImageError.TheVariants.{NoMemory};
 
-use bench_text::{Decoded, Stop, decode, one_meaning, put_number};
+use base_text::{Decoded, Stop, decode, one_meaning, put_number};
 use std::alloc::{AllocError, Global};
 use tab_law::LawBook;
 use tab_load::{LoadError, LoadFault, Program, load};

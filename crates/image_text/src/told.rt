@@ -3,7 +3,7 @@
 ghost use Rattle.std.specs.Prelude.{◌≡◌};
 ghost use Rattle.image_text.specs.Told.{told_status};
 
-use bench_device::Status;
+use base_device::Status;
 
 /// What is told, and whether it is a refusal.
 #[derive(Drop)]

@@ -6,7 +6,7 @@ ghost use Rattle.law_text.specs.declared.words.Reads.TheVariants.{Before, After}
 
 use crate::words::{Reads, put_atom, put_field, put_place, put_term};
 use base_codes::DeedCode;
-use bench_text::put_number;
+use base_text::put_number;
 use std::alloc::AllocError;
 use tab_law::{Atom, Change, Field, Term, Test};
 

@@ -2,7 +2,7 @@
 ghost use Rattle.std.specs.Prelude.{◌≡◌, ◌++◌, OnOk, codes};
 ghost use Rattle.law_text.specs.Atoms.{atom_text, field_text, place_text, term_text};
 
-use bench_text::put_number;
+use base_text::put_number;
 use std::alloc::AllocError;
 use tab_law::{Atom, Field, PLACES, Term};
 

@@ -15,7 +15,7 @@ use Rattle.acct_totals.specs.declared.op.Outcome.TheVariants.{Done, Refused}
 use Rattle.base_codes.specs.DeedCodes.{all, coded, name_of, number_of}
 use Rattle.base_codes.specs.declared.deed_code.DeedCode.{DeedCode}
 use Rattle.base_codes.specs.declared.deed_code.DeedCode.TheVariants.{Unlisted, ToPeer, ToSession, Close, Dial, Undial, Arm, Disarm, SndCer, SndCea, SndDwa, SndDpr, SndDpa, SndMsg, Elect, Reserve, Debit, Release, Charge, Refund, Service}
-use Rattle.bench_text.specs.Numbers as numbers
+use Rattle.base_text.specs.Numbers as numbers
 use Rattle.event_text.specs.Deeds.{deed_name, name_or, without_last_zeros}
 use Rattle.tab_law.specs.declared.limits.TheConstants.{PLACES}
 use Rattle.text_parts.specs.Pieces.{pieces_in}

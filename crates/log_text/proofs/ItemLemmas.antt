@@ -13,7 +13,7 @@ use Rattle.base_list.proofs.NamedLemmas.{position-None}
 use Rattle.base_list.specs.declared.named.Named as Named
 use Rattle.hex.specs.Hex.{IsBytes}
 use Rattle.std.specs.Option.{option_map_or}
-use Rattle.bench_text.specs.Numbers.{number_of}
+use Rattle.base_text.specs.Numbers.{number_of}
 use Rattle.text_parts.specs.Pieces.{pieces_in}
 use Rattle.event_text.specs.Deeds.{name_or}
 use Rattle.bench_item.specs.declared.key.Role.{Role}

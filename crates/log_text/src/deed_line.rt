@@ -10,7 +10,7 @@ ghost use Rattle.log_text.specs.DeedLines.{IsDeedLine, args_of, behind_stop, cod
 use crate::deeds::{is_booking, put_outcome};
 use acct_totals::Outcome;
 use base_codes::DeedCode;
-use bench_text::number_of;
+use base_text::number_of;
 use event_text::put_deed_words;
 use std::alloc::{AllocError, Global};
 use step_text::{StepTextError, next_number};

@@ -5,7 +5,7 @@ ghost use Rattle.tab_law.specs.declared.scene.Deed.{Deed};
 
 use acct_totals::Outcome;
 use base_codes::DeedCode;
-use bench_text::put_number;
+use base_text::put_number;
 use event_text::put_deed_words;
 use std::alloc::AllocError;
 use tab_law::Deed;

@@ -8,7 +8,7 @@ ghost use Rattle.log_text.specs.EntryLines.{below, entry_lines, handled_lines, i
 use crate::book::NameBook;
 use crate::deeds::put_deed_lines;
 use bench_item::{Entry, Handled, Item, Key, MachineItem, Moved, Role, Step};
-use bench_text::put_number;
+use base_text::put_number;
 use event_text::put_name;
 use std::alloc::AllocError;
 use step_text::{put_key, put_kind, write_step};

@@ -12,7 +12,7 @@ use crate::book::NameBook;
 use crate::entries::{put_moved, put_stale};
 use base_list::Octets;
 use bench_item::{Key, Role};
-use bench_text::number_of;
+use base_text::number_of;
 use std::alloc::{AllocError, Global};
 use step_text::{StepTextError, next_key, next_kind};
 use text_parts::Pieces;

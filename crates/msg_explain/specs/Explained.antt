@@ -2,6 +2,7 @@
 use Rattle.std.specs.Prelude.{◌≡◌, ℕ, ◌++◌, Bool, true, false, List, [], Result, Ok, Err}
 use Rattle.std.specs.List.{flat_map}
 use Rattle.dia_dict.specs.declared.definition.Definition.{Definition}
+use Rattle.dia_show.specs.Glossary.{Naming}
 use Rattle.dia_tree.specs.declared.fault.MsgFault.{MsgFault}
 use Rattle.dia_command.specs.declared.command.Command.{Command}
 use Rattle.dia_msg.specs.Reading.{IsReading}
@@ -16,13 +17,13 @@ fault_lines definitions number offset octets (Ok command) = []
 fault_lines definitions number offset octets (Err f) = fault_line definitions number offset (message_parts definitions octets) f
 
 -- the lines of the AVPs of a message, in the order of the octets, groups opened
-unfoldable pub avp_lines : List Definition → List ℕ → List ℕ
-avp_lines definitions octets = flat_map (part_line definitions) (message_parts definitions octets)
+unfoldable pub avp_lines : List Naming → List Definition → List ℕ → List ℕ
+avp_lines namings definitions octets = flat_map (part_line namings definitions) (message_parts definitions octets)
 
 -- what is said of a message, the `number`th of an input, which begins at an octet of it, by what it is read as
-abbrev pub explained : List Definition → ℕ → ℕ → List ℕ → Result Command MsgFault → List ℕ
-explained definitions number offset octets answer =
-    message_line number offset octets ++ avp_lines definitions octets ++ fault_lines definitions number offset octets answer
+abbrev pub explained : List Naming → List Definition → ℕ → ℕ → List ℕ → Result Command MsgFault → List ℕ
+explained namings definitions number offset octets answer =
+    message_line number offset octets ++ avp_lines namings definitions octets ++ fault_lines definitions number offset octets answer
 
 -- whether an answer is a fault
 abbrev pub is_fault : Result Command MsgFault → Bool
@@ -37,8 +38,8 @@ pub record Concludes (definitions : List Definition) (number offset : ℕ) (octe
   pub is_refused : refused ≡ is_fault answer
 
 -- A text is what is said of a message by what it is read as (RFC 6733 sections 3, 4 and 7), and whether that is a fault.
-pub record Explains (definitions : List Definition) (number offset : ℕ) (octets text : List ℕ) (refused : Bool) : Type 0 where
+pub record Explains (namings : List Naming) (definitions : List Definition) (number offset : ℕ) (octets text : List ℕ) (refused : Bool) : Type 0 where
   pub answer : Result Command MsgFault
   pub reading : IsReading definitions octets answer
-  pub said : text ≡ explained definitions number offset octets answer
+  pub said : text ≡ explained namings definitions number offset octets answer
   pub is_refused : refused ≡ is_fault answer

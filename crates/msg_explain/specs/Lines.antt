@@ -10,6 +10,7 @@ use Rattle.dia_dict.specs.declared.definition.Definition.{Definition}
 use Rattle.dia_dict.specs.Dictionary.{definition_of}
 use Rattle.dia_tree.specs.Kind.{is_grouped}
 use Rattle.dia_tree.specs.Faults.{cut_avp}
+use Rattle.dia_show.specs.Glossary.{Naming}
 use Rattle.dia_show.specs.Parts.{octets_text}
 use Rattle.dia_show.specs.Values.{value_text}
 use Rattle.msg_explain.specs.Parts.{Piece, length_at}
@@ -48,10 +49,10 @@ unfoldable pub title_text : Option Definition → List ℕ → List ℕ
 title_text definition octets =
     code_text definition octets ++ codes " " ++ flag_letters (slice_index octets 4) ++ codes " " ++ decimal (length_at octets)
 
--- what the data says, behind one blank; a group that is opened has its AVPs below
-unfoldable pub data_text : Option Definition → ℕ → List ℕ → List ℕ
-data_text definition room octets =
-    if is_grouped definition && nat_lt 0 room then [] else codes " " ++ value_text definition octets
+-- what the data says, by the names that were added, behind one blank; a group that is opened has its AVPs below
+unfoldable pub data_text : List Naming → Option Definition → ℕ → List ℕ → List ℕ
+data_text namings definition room octets =
+    if is_grouped definition && nat_lt 0 room then [] else codes " " ++ value_text namings definition octets
 
 -- what is wrong with an AVP that is broken
 unfoldable pub broken_words : FaultCode → List ℕ
@@ -66,13 +67,13 @@ unfoldable pub broken_text : FaultCode → List ℕ → List ℕ
 broken_text code octets = codes ": broken, " ++ broken_words code ++ codes ": " ++ octets_text octets
 
 -- the AVP at the front of octets without its place, or what is broken there with all octets behind it
-abbrev pub front_text : List Definition → ℕ → List ℕ → Result (Avp × List ℕ) FaultCode → List ℕ
-front_text definitions room octets (Ok x) =
+abbrev pub front_text : List Naming → List Definition → ℕ → List ℕ → Result (Avp × List ℕ) FaultCode → List ℕ
+front_text namings definitions room octets (Ok x) =
     let definition = definition_of definitions x.0.code x.0.vendor in
-    title_text definition octets ++ data_text definition room x.0.octets
-front_text definitions room octets (Err code) =
+    title_text definition octets ++ data_text namings definition room x.0.octets
+front_text namings definitions room octets (Err code) =
     title_text (definition_of definitions (cut_avp octets).code (cut_avp octets).vendor) octets ++ broken_text code octets
 
 -- the line of a part
-unfoldable pub part_line : List Definition → Piece → List ℕ
-part_line definitions p = place_text p ++ front_text definitions p.room p.octets (avp_at p.octets) ++ codes "\n"
+unfoldable pub part_line : List Naming → List Definition → Piece → List ℕ
+part_line namings definitions p = place_text p ++ front_text namings definitions p.room p.octets (avp_at p.octets) ++ codes "\n"

@@ -10,19 +10,20 @@ use crate::messages::put_message_line;
 use crate::parts::{Part, parts_of};
 use dia_dict::Dictionary;
 use dia_msg::{MsgError, read_message};
+use dia_show::Glossary;
 use std::alloc::AllocError;
 
 #[tactic(auto, unfolding(crate::specs::Explained::avp_lines))]
 fn put_avps(
     out: &mut Vec<u8>,
-    dictionary: &Dictionary,
+    glossary: &Glossary,
     octets: &[u8],
     parts: &[Part<'_>],
 ) -> Result<(), AllocError>
-    requires { map seen_part parts.now ≡ message_parts (known dictionary.now) octets.now }
-    ensures { OnOk result (out.new.items ≡ out.old.items ++ avp_lines (known dictionary.now) octets.now) }
+    requires { map seen_part parts.now ≡ message_parts (known glossary.now.definitions) octets.now }
+    ensures { OnOk result (out.new.items ≡ out.old.items ++ avp_lines glossary.now.namings (known glossary.now.definitions) octets.now) }
 {
-    put_parts(out, dictionary, parts)
+    put_parts(out, glossary, parts)
 }
 
 // Puts the line of the fault, where the message has one.
@@ -52,17 +53,18 @@ fn put_end(
 /// the order of the octets, groups opened, and one for its fault, where it has one. Says whether it has one.
 pub fn explain(
     out: &mut Vec<u8>,
-    dictionary: &Dictionary,
+    glossary: &Glossary,
     number: u64,
     offset: u64,
     octets: &[u8],
 ) -> Result<bool, AllocError>
     requires { length octets.now < 2 ^ 32 }
-    ensures { IfOk result (λ refused. (text : List ℕ) × Explains (known dictionary.now) number offset octets.now text refused
+    ensures { IfOk result (λ refused. (text : List ℕ) × Explains glossary.now.namings (known glossary.now.definitions) number offset octets.now text refused
         × (out.new.items ≡ out.old.items ++ text)) }
 {
+    let dictionary = glossary.definitions();
     let parts = parts_of(*out.allocator(), dictionary, octets)?;
     put_message_line(out, number, offset, octets)?;
-    put_avps(out, dictionary, octets, &parts)?;
+    put_avps(out, glossary, octets, &parts)?;
     put_end(out, dictionary, number, offset, octets, &parts)
 }

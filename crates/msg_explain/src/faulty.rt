@@ -11,7 +11,7 @@ use crate::lines::put_name;
 use crate::messages::put_numbered;
 use crate::parts::Part;
 use base_codes::ResultCode;
-use bench_text::put_number;
+use base_text::put_number;
 use dia_avp::{Avp, AvpView, avp_at};
 use dia_dict::{DictFault, Dictionary};
 use dia_msg::MsgFault;

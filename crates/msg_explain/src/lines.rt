@@ -9,10 +9,10 @@ ghost use Rattle.msg_explain.specs.Parts.{seen_part};
 ghost use Rattle.msg_explain.specs.Lines.{indent, place_text, flag_letter, flag_letters, vendor_text, name_text, code_text, title_text, data_text, broken_words, broken_text, front_text, part_line};
 
 use crate::parts::{Part, length_at};
-use bench_text::put_number;
+use base_text::put_number;
 use dia_avp::{FaultCode, avp_at};
-use dia_dict::{AvpKind, Definition, Dictionary};
-use dia_show::{put_octets, put_value};
+use dia_dict::{AvpKind, Definition};
+use dia_show::{Glossary, put_octets, put_value};
 use dia_tree::{cut_avp, number_at, octet_at};
 use std::alloc::AllocError;
 
@@ -106,17 +106,18 @@ fn is_group(definition: Option<&Definition>) -> bool
 #[tactic(auto, unfolding(crate::specs::Lines::data_text))]
 fn put_data(
     out: &mut Vec<u8>,
+    glossary: &Glossary,
     definition: Option<&Definition>,
     room: u8,
     octets: &[u8],
 ) -> Result<(), AllocError>
-    ensures { OnOk result (out.new.items ≡ out.old.items ++ data_text (option_copied definition.entry) room octets.now) }
+    ensures { OnOk result (out.new.items ≡ out.old.items ++ data_text glossary.now.namings (option_copied definition.entry) room octets.now) }
 {
     if is_group(definition) && room > 0 {
         return Ok(());
     }
     out.extend_from_slice(b" ")?;
-    put_value(out, definition, octets)
+    put_value(out, glossary, definition, octets)
 }
 
 /// What is wrong with an AVP that is broken.
@@ -146,45 +147,45 @@ fn put_broken(out: &mut Vec<u8>, code: FaultCode, octets: &[u8]) -> Result<(), A
 // The AVP at the front, or what is broken there.
 fn put_front(
     out: &mut Vec<u8>,
-    dictionary: &Dictionary,
+    glossary: &Glossary,
     room: u8,
     octets: &[u8],
 ) -> Result<(), AllocError>
-    ensures { OnOk result (out.new.items ≡ out.old.items ++ front_text (known dictionary.now) room octets.now (avp_at octets.now)) }
+    ensures { OnOk result (out.new.items ≡ out.old.items ++ front_text glossary.now.namings (known glossary.now.definitions) room octets.now (avp_at octets.now)) }
 {
     match avp_at(octets) {
         Ok((avp, _)) => {
-            let definition = dictionary.find(avp.code, avp.vendor);
+            let definition = glossary.definitions().find(avp.code, avp.vendor);
             put_title(out, definition, octets)?;
-            put_data(out, definition, room, avp.octets)
+            put_data(out, glossary, definition, room, avp.octets)
         }
         Err(code) => {
             let avp = cut_avp(octets);
-            put_title(out, dictionary.find(avp.code, avp.vendor), octets)?;
+            put_title(out, glossary.definitions().find(avp.code, avp.vendor), octets)?;
             put_broken(out, code, octets)
         }
     }
 }
 
 #[tactic(auto, unfolding(crate::specs::Lines::part_line))]
-fn put_part(out: &mut Vec<u8>, dictionary: &Dictionary, part: &Part<'_>) -> Result<(), AllocError>
-    ensures { OnOk result (out.new.items ≡ out.old.items ++ part_line (known dictionary.now) (seen_part part.now)) }
+fn put_part(out: &mut Vec<u8>, glossary: &Glossary, part: &Part<'_>) -> Result<(), AllocError>
+    ensures { OnOk result (out.new.items ≡ out.old.items ++ part_line glossary.now.namings (known glossary.now.definitions) (seen_part part.now)) }
 {
     put_place(out, part)?;
-    put_front(out, dictionary, part.room, part.octets)?;
+    put_front(out, glossary, part.room, part.octets)?;
     out.extend_from_slice(b"\n")
 }
 
 /// Puts the lines of parts.
 pub(crate) fn put_parts(
     out: &mut Vec<u8>,
-    dictionary: &Dictionary,
+    glossary: &Glossary,
     parts: &[Part<'_>],
 ) -> Result<(), AllocError>
-    ensures { OnOk result (out.new.items ≡ out.old.items ++ flat_map (part_line (known dictionary.now)) (map seen_part parts.now)) }
+    ensures { OnOk result (out.new.items ≡ out.old.items ++ flat_map (part_line glossary.now.namings (known glossary.now.definitions)) (map seen_part parts.now)) }
 {
     for part in parts {
-        put_part(out, dictionary, part)?;
+        put_part(out, glossary, part)?;
     }
     Ok(())
 }

@@ -5,7 +5,7 @@ ghost use Rattle.msg_explain.specs.Messages.{header_letters, session_in, session
 
 use crate::lines::flag_letter;
 use base_codes::{HEADER_LEN, avp_code};
-use bench_text::put_number;
+use base_text::put_number;
 use dia_avp::first_avp;
 use dia_command::{Header, header_of};
 use dia_show::{put_command, put_octets, put_quoted};

@@ -17,7 +17,7 @@ use Rattle.msg_input.specs.declared.ends.End.TheVariants.{Refused}
 use Rattle.msg_input.specs.declared.ends.Place.{Place}
 use Rattle.msg_input.specs.declared.reading.Reading.{Reading}
 use Rattle.msg_input.specs.declared.by_line.ByLine.{ByLine}
-use Rattle.bench_text.proofs.Meaning.{cut_at, front_more}
+use Rattle.base_text.proofs.Meaning.{cut_at, front_more}
 use Rattle.msg_input.proofs.ReadLemmas.{FrontText-so_far, or_assoc, or_false}
 
 -- one line behind others

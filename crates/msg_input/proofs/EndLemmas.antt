@@ -1,6 +1,6 @@
 -- Why an end holds of a source.
 use Rattle.std.proofs.Common.{◌≡◌, ◌<◌, ℕ, List, [], length, take, Option, Some, None, Ok}
-use Rattle.bench_device.specs.Devices.{Gives}
+use Rattle.base_device.specs.Devices.{Gives}
 use Rattle.std.specs.Io.KnownBytes.{Consumes, IsAtEnd}
 use Rattle.msg_input.specs.Ends.{EndsBy, IsLast}
 use Rattle.msg_input.specs.declared.ends.End.{End}

@@ -12,7 +12,7 @@ use Rattle.dia_frame.specs.declared.fault.FrameFault.{FrameFault}
 use Rattle.dia_frame.specs.declared.fault.FrameFault.TheVariants.{Version, Length, Broken}
 use Rattle.dia_frame.specs.declared.fault.FeedError.{FeedError}
 use Rattle.dia_frame.specs.declared.fault.FeedError.TheVariants.{Fault, NoMemory}
-use Rattle.bench_text.specs.Digits.{Means}
+use Rattle.base_text.specs.Digits.{Means}
 use Rattle.msg_input.specs.Ends.{end_status, refusal_of}
 use Rattle.msg_input.specs.Inputs.{FrontText, HaltedText, IsPrintedOf, IsReport, Printing, ShortText, WholeText, left_over}
 use Rattle.msg_input.specs.Printed.{PrintsAll, Saying}
@@ -25,12 +25,12 @@ use Rattle.msg_input.specs.declared.ends.Refusal.TheVariants as refusals
 use Rattle.msg_input.specs.declared.ends.End.{End}
 use Rattle.msg_input.specs.declared.ends.Place.{Place}
 use Rattle.msg_input.specs.declared.ends.End.TheVariants.{Whole, Refused, ReadFailed, TooManyReads}
-use Rattle.bench_device.specs.declared.status.Status.{Status}
-use Rattle.bench_device.specs.declared.status.Status.TheVariants as statuses
-use Rattle.bench_device.specs.Devices.{HasWriteCause, Tells}
+use Rattle.base_device.specs.declared.status.Status.{Status}
+use Rattle.base_device.specs.declared.status.Status.TheVariants as statuses
+use Rattle.base_device.specs.Devices.{HasWriteCause, Tells}
 use Rattle.dia_frame.proofs.FrameLemmas.{frames-append}
 use Rattle.dia_frame.proofs.LawLemmas.{some_frames}
-use Rattle.bench_text.proofs.Meaning.{Means-append, Means-nothing}
+use Rattle.base_text.proofs.Meaning.{Means-append, Means-nothing}
 use Rattle.msg_input.proofs.RunLemmas.{later_cause}
 
 pub or_assoc : (a b c : Bool) → ((a || b) || c) ≡ (a || (b || c))

@@ -1,14 +1,14 @@
 -- Why a run is one: by how reading ended, and how the last texts were taken.
 use Rattle.std.proofs.Common.{◌≡◌, ◌≤◌, ℕ, ◌+◌, inl, inr, Bool, true, false, List, Option, sym, ap, ◌∙◌, arith}
 use Rattle.std.specs.Io.KnownBytes.{IsAtEnd}
-use Rattle.bench_device.specs.Devices.{HasReadCause, HasWriteCause, IsRun, Tells}
+use Rattle.base_device.specs.Devices.{HasReadCause, HasWriteCause, IsRun, Tells}
 use Rattle.msg_input.specs.Ends.{EndsBy, end_status}
 use Rattle.msg_input.specs.declared.ends.End.{End}
 use Rattle.msg_input.specs.declared.ends.End.TheVariants.{Whole, Refused, ReadFailed, TooManyReads}
 use Rattle.msg_input.specs.declared.ends.Refusal.TheVariants as refusals
-use Rattle.bench_device.specs.declared.status.Status.{Status}
-use Rattle.bench_device.specs.declared.status.Status.TheVariants.{Fault}
-use Rattle.bench_device.specs.declared.status.Status.TheVariants as statuses
+use Rattle.base_device.specs.declared.status.Status.{Status}
+use Rattle.base_device.specs.declared.status.Status.TheVariants.{Fault}
+use Rattle.base_device.specs.declared.status.Status.TheVariants as statuses
 
 -- a write fault is the status where no read failed
 pub IsRun-write : {I O : Type 0} (reads read_failures : I → ℕ) (write_failures idle : O → ℕ) (source source' : I) (sink sink' : O) (status : Status)

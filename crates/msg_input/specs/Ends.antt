@@ -7,8 +7,8 @@ use Rattle.dia_frame.specs.declared.fault.FeedError.{FeedError}
 use Rattle.dia_frame.specs.declared.fault.FeedError.TheVariants as feeding
 use Rattle.msg_input.specs.declared.ends.Refusal.{Refusal}
 use Rattle.msg_input.specs.declared.ends.Refusal.TheVariants as refusals
-use Rattle.bench_device.specs.declared.status.Status.{Status}
-use Rattle.bench_device.specs.declared.status.Status.TheVariants as statuses
+use Rattle.base_device.specs.declared.status.Status.{Status}
+use Rattle.base_device.specs.declared.status.Status.TheVariants as statuses
 use Rattle.msg_input.specs.declared.ends.End.{End}
 use Rattle.msg_input.specs.declared.ends.EndWords.{EndWords}
 use Rattle.msg_input.specs.declared.ends.End.TheVariants.{Whole, Refused, ReadFailed, TooManyReads}

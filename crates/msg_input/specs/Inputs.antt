@@ -3,14 +3,14 @@ use Rattle.std.specs.Prelude.{◌≡◌, ◌⊎◌, ◌≤◌, ℕ, Bool, false,
 use Rattle.std.specs.Io.KnownBytes.{Appends, Consumes, IsAtEnd}
 use Rattle.dia_frame.specs.Frames.{Frames, fault_of, joined}
 use Rattle.dia_frame.specs.declared.fault.FrameFault.{FrameFault}
-use Rattle.bench_text.specs.Digits.{Means, is_hex_text}
+use Rattle.base_text.specs.Digits.{Means, is_hex_text}
 use Rattle.msg_input.specs.Ends.{end_status}
 use Rattle.msg_input.specs.Printed.{PrintsAll, Saying}
 use Rattle.msg_input.specs.declared.ends.Refusal.TheVariants as refusals
 use Rattle.msg_input.specs.declared.ends.End.{End}
 use Rattle.msg_input.specs.declared.ends.Place.{Place}
 use Rattle.msg_input.specs.declared.ends.End.TheVariants.{Whole, Refused, ReadFailed, TooManyReads}
-use Rattle.bench_device.specs.declared.status.Status.{Status}
+use Rattle.base_device.specs.declared.status.Status.{Status}
 
 -- The text means some octets and leaves this digit or none; the messages of the octets are printed as these lines, and
 -- their rest, which begins at this place, shows this fault or none (RFC 6733 section 3).

@@ -4,7 +4,7 @@ use Rattle.std.specs.Io.KnownBytes.{Appends, Consumes, IsAtEnd}
 use Rattle.dia_frame.specs.Frames.{Frames, joined}
 use Rattle.dia_frame.specs.Framer.{FramerState, Shows}
 use Rattle.dia_frame.specs.declared.fault.FrameFault.{FrameFault}
-use Rattle.bench_text.specs.Digits.{Means, is_hex_text}
+use Rattle.base_text.specs.Digits.{Means, is_hex_text}
 use Rattle.msg_input.specs.Inputs.{OddText, Printing, ShortText, WholeText}
 use Rattle.msg_input.specs.Printed.{PrintsAll, Saying}
 use Rattle.msg_input.specs.Reports.{Gains}

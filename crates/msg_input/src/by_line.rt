@@ -7,6 +7,7 @@ use crate::ends::{End, Place, Refusal};
 use crate::manner::Manner;
 use crate::reading::Reading;
 use crate::report::counted;
+use dia_show::Glossary;
 use std::alloc::{AllocError, Global};
 
 // How many characters the line at the front has, without its newline.
@@ -56,10 +57,11 @@ impl<M: Manner> ByLine<M> {
     ghost use Rattle.msg_input.specs.ByLineSoFar.{IsAlong, KeepsTexts, LinesSoFar, Ended, MayStop, TakesLines, AreFinished};
     ghost use Rattle.msg_input.specs.Inputs.{IsPrintedOf};
     ghost use Rattle.msg_input.specs.Readings.{place_of};
+    ghost use Rattle.dia_show.specs.Glossary.{Meanings};
 
     /// Nothing is read yet.
     pub(crate) fn new(alloc: Global) -> Result<ByLine<M>, AllocError>
-        ensures start { IfOk result (λ lines. LinesSoFar M.Says M.line_text lines [] []) }
+        ensures start { IfOk result (λ lines. (g : Meanings) → LinesSoFar (M.Says g) M.line_text lines [] []) }
         ensures begun { IfOk result (λ lines. lines.reading.characters ≡ 0) }
     {
         Ok(ByLine {
@@ -97,8 +99,8 @@ impl<M: Manner> ByLine<M> {
     /// Forgets what was written out.
     pub(crate) fn clear(&mut self)
         ensures characters { self.new.reading.characters ≡ self.old.reading.characters }
-        ensures so_far { (text written : List ℕ) → LinesSoFar M.Says M.line_text self.old text written
-            → LinesSoFar M.Says M.line_text self.new text (written ++ self.old.out.items) }
+        ensures so_far { (g : Meanings) (text written : List ℕ) → LinesSoFar (M.Says g) M.line_text self.old text written
+            → LinesSoFar (M.Says g) M.line_text self.new text (written ++ self.old.out.items) }
     {
         self.out.clear();
     }
@@ -119,42 +121,42 @@ impl<M: Manner> ByLine<M> {
     }
 
     // Takes more of the line.
-    fn take_part(&mut self, part: &[u8]) -> Result<(), AllocError>
+    fn take_part(&mut self, glossary: &Glossary, part: &[u8]) -> Result<(), AllocError>
         requires room { self.old.reading.characters + length part.now < 2 ^ 64 }
         ensures characters { self.new.reading.characters ≤ self.old.reading.characters + length part.now }
         ensures kept { KeepsTexts self.old self.new }
-        ensures along { OnOk result ((first : ℕ) (line : List ℕ) → IsAlong M.Says first self.old.reading line self.old.stopped
-            → IsAlong M.Says first self.new.reading (line ++ part.now) self.new.stopped) }
+        ensures along { OnOk result ((first : ℕ) (line : List ℕ) → IsAlong (M.Says glossary.now) first self.old.reading line self.old.stopped
+            → IsAlong (M.Says glossary.now) first self.new.reading (line ++ part.now) self.new.stopped) }
     {
         if self.stopped.is_some() {
             return Ok(());
         }
-        match self.reading.take_text(part) {
+        match self.reading.take_text(glossary, part) {
             Ok(()) => Ok(()),
             Err(refusal) => self.stop(refusal),
         }
     }
 
     // How the line ended.
-    fn end_of_line(&mut self) -> End
+    fn end_of_line(&mut self, glossary: &Glossary) -> End
         ensures last { IsLast result }
         ensures kept { KeepsTexts self.old self.new }
-        ensures printed { (first : ℕ) (line : List ℕ) → IsAlong M.Says first self.old.reading line self.old.stopped
-            → IsPrintedOf M.Says first (Unit {0}) line self.new.reading.report.out.items result self.new.reading.report.refused (place_of self.new.reading) }
+        ensures printed { (first : ℕ) (line : List ℕ) → IsAlong (M.Says glossary.now) first self.old.reading line self.old.stopped
+            → IsPrintedOf (M.Says glossary.now) first (Unit {0}) line self.new.reading.report.out.items result self.new.reading.report.refused (place_of self.new.reading) }
     {
         match self.stopped {
             Some(refusal) => End::Refused(refusal),
-            None => self.reading.end(),
+            None => self.reading.end(glossary),
         }
     }
 
     // Makes the text of the line, and says whether it tells a fault.
-    fn make_text(&mut self) -> Result<bool, AllocError>
+    fn make_text(&mut self, glossary: &Glossary) -> Result<bool, AllocError>
         ensures kept { KeepsTexts self.old self.new }
-        ensures made { IfOk result (λ refused. (line : List ℕ) → IsAlong M.Says self.old.before self.old.reading line self.old.stopped
-            → PrintsLine M.Says M.line_text self.old.before line self.new.text.items refused) }
+        ensures made { IfOk result (λ refused. (line : List ℕ) → IsAlong (M.Says glossary.now) self.old.before self.old.reading line self.old.stopped
+            → PrintsLine (M.Says glossary.now) M.line_text self.old.before line self.new.text.items refused) }
     {
-        let end = self.end_of_line();
+        let end = self.end_of_line(glossary);
         let number = counted(self.before, 1)?;
         self.text.clear();
         self.text.extend_from_slice(self.reading.text())?;
@@ -163,13 +165,13 @@ impl<M: Manner> ByLine<M> {
     }
 
     // Ends the line, and begins the next.
-    fn end_line(&mut self) -> Result<(), AllocError>
-        ensures ended { OnOk result ((line : List ℕ) → IsAlong M.Says self.old.before self.old.reading line self.old.stopped
-            → Ended M.Says M.line_text self.old self.new line) }
+    fn end_line(&mut self, glossary: &Glossary) -> Result<(), AllocError>
+        ensures ended { OnOk result ((line : List ℕ) → IsAlong (M.Says glossary.now) self.old.before self.old.reading line self.old.stopped
+            → Ended (M.Says glossary.now) M.line_text self.old self.new line) }
         ensures begun { OnOk result (self.new.reading.characters ≡ 0) }
         ensures err { OnErr result (KeepsTexts self.old self.new) }
     {
-        let refused = self.make_text()?;
+        let refused = self.make_text(glossary)?;
         let before = counted(self.before, 1)?;
         self.out.extend_from_slice(&self.text)?;
         self.refused = self.refused | refused;
@@ -180,30 +182,30 @@ impl<M: Manner> ByLine<M> {
     }
 
     /// Takes the next characters, and prints the lines that they complete.
-    pub(crate) fn take_text(&mut self, text: &[u8]) -> Result<(), AllocError>
+    pub(crate) fn take_text(&mut self, glossary: &Glossary, text: &[u8]) -> Result<(), AllocError>
         requires room { self.old.reading.characters + length text.now < 2 ^ 64 }
         ensures characters { OnOk result (self.new.reading.characters ≤ self.old.reading.characters + length text.now) }
-        ensures taken { (before written : List ℕ) → LinesSoFar M.Says M.line_text self.old before written
-            → TakesLines M.Says M.line_text result self.new before text.now written }
+        ensures taken { (before written : List ℕ) → LinesSoFar (M.Says glossary.now) M.line_text self.old before written
+            → TakesLines (M.Says glossary.now) M.line_text result self.new before text.now written }
     {
         let mut rest = text;
         'lines: while !rest.is_empty() {
             let len = line_len(rest);
-            self.take_part(&rest[..len])?;
+            self.take_part(glossary, &rest[..len])?;
             if len == rest.len() {
                 return Ok(());
             }
-            self.end_line()?;
+            self.end_line(glossary)?;
             rest = &rest[len + 1..];
         }
         Ok(())
     }
 
     /// Ends with the input, and with it the last line.
-    pub(crate) fn end(&mut self) -> Result<(), AllocError>
-        ensures { (text written : List ℕ) → LinesSoFar M.Says M.line_text self.old text written
-            → AreFinished M.Says M.line_text result self.new text written }
+    pub(crate) fn end(&mut self, glossary: &Glossary) -> Result<(), AllocError>
+        ensures { (text written : List ℕ) → LinesSoFar (M.Says glossary.now) M.line_text self.old text written
+            → AreFinished (M.Says glossary.now) M.line_text result self.new text written }
     {
-        self.end_line()
+        self.end_line(glossary)
     }
 }

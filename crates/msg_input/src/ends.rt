@@ -3,7 +3,7 @@ ghost use Rattle.std.specs.Prelude.{◌≡◌, ◌++◌, decimal};
 ghost use Rattle.msg_input.specs.declared.ends.Refusal.TheVariants.{NoMemory};
 ghost use Rattle.msg_input.specs.Ends.{end_status, end_text, frame_text, refusal_of, words_of};
 
-use bench_device::Status;
+use base_device::Status;
 use dia_frame::{FeedError, FrameFault};
 use std::alloc::AllocError;
 

@@ -3,16 +3,18 @@ ghost use Rattle.std.specs.Prelude.{◌≡◌, ◌++◌, ℕ, List, Bool, IfOk, 
 ghost use Rattle.msg_input.specs.Ends.{words_of};
 
 use crate::ends::{End, EndWords, Place};
+use dia_show::Glossary;
 use std::alloc::{AllocError, Global};
 
 /// A manner of printing: what is printed of a message, and of how reading ended.
 pub trait Manner: Drop {
     ghost use Rattle.msg_input.specs.declared.ends.End.{End};
     ghost use Rattle.msg_input.specs.declared.ends.Place.{Place};
+    ghost use Rattle.dia_show.specs.Glossary.{Meanings};
 
-    /// What is printed of a message, by its number from 1, the octet of the input at which it begins, and its octets: a text, and
+    /// What is printed of a message, by the glossary, its number from 1, the octet of the input at which it begins, and its octets: a text, and
     /// whether it tells a fault.
-    ghost Says: { ℕ → ℕ → List ℕ → List ℕ → Bool → Type 0 };
+    ghost Says: { Meanings → ℕ → ℕ → List ℕ → List ℕ → Bool → Type 0 };
 
     /// What is printed of how reading ended, by how far the input was read then.
     ghost end_text: { End → Place → List ℕ };
@@ -26,12 +28,13 @@ pub trait Manner: Drop {
     /// Puts what is printed of a message, and says whether it tells a fault.
     fn put(
         &mut self,
+        glossary: &Glossary,
         out: &mut Vec<u8>,
         number: u64,
         offset: u64,
         octets: &[u8],
     ) -> Result<bool, AllocError>
-        ensures { IfOk result (λ refused. (text : List ℕ) × Says number offset octets.now text refused
+        ensures { IfOk result (λ refused. (text : List ℕ) × Says glossary.now number offset octets.now text refused
             × (out.new.items ≡ out.old.items ++ text)) };
 
     /// What is printed of how reading ended.

@@ -1,7 +1,8 @@
 //! Messages from hexadecimal digits, printed as they come.
 ghost use Rattle.std.specs.Prelude.{◌≡◌, ◌≢◌, ◌⊎◌, ◌<◌, ◌≤◌, ◌+◌, ◌-◌, ◌^◌, ◌++◌, [], None, max, length, IfOk, OnOk, OnErr};
 ghost use Rattle.std.specs.Io.KnownBytes.{IsAtEnd};
-ghost use Rattle.bench_device.specs.Devices.{HasWriteCause, IsRun, TakesWhole, Tells};
+ghost use Rattle.dia_show.specs.Glossary.{Meanings};
+ghost use Rattle.base_device.specs.Devices.{HasWriteCause, IsRun, TakesWhole, Tells};
 ghost use Rattle.msg_input.specs.Ends.{EndsBy, end_status, place_text, words_of};
 ghost use Rattle.msg_input.specs.Inputs.{IsPrintedOf, IsReport};
 ghost use Rattle.msg_input.specs.Readings.{IsPoured, SoFar, place_of};
@@ -9,9 +10,10 @@ ghost use Rattle.msg_input.specs.Readings.{IsPoured, SoFar, place_of};
 use crate::ends::{End, EndWords, Place, Refusal};
 use crate::manner::Manner;
 use crate::reading::Reading;
-use bench_device::{
+use base_device::{
     ByteSink, ByteSource, MAX_IDLE_WRITES, MAX_READS, Status, WriteFault, write_whole,
 };
+use dia_show::Glossary;
 use std::alloc::{AllocError, Global};
 
 /// How many characters are read at once.
@@ -19,6 +21,7 @@ pub(crate) const TEXT: usize = 65_536;
 
 // Reads to the end of the input, and writes out the text of what each read completes.
 fn pour<M: Manner, I: ByteSource, O: ByteSink>(
+    glossary: &Glossary,
     reading: &mut Reading<M>,
     text: &mut [u8],
     source: &mut I,
@@ -26,13 +29,13 @@ fn pour<M: Manner, I: ByteSource, O: ByteSink>(
 ) -> Result<End, WriteFault>
     requires room { 0 < length text.old }
     requires few { length text.old ≤ TEXT }
-    requires start { SoFar M.Says 0 reading.old [] [] None }
+    requires start { SoFar (M.Says glossary.now) 0 reading.old [] [] None }
     requires reads { I.reads source.old + MAX_READS < 2 ^ 64 }
     requires read_failures { I.failures source.old < 2 ^ 64 - 1 }
     requires idle { O.idle sink.old ≡ 0 }
     requires write_failures { O.failures sink.old < 2 ^ 64 - 1 }
     ensures end { IfOk result (EndsBy I.remaining I.reads I.failures source.old source.new) }
-    ensures report { IfOk result (IsPoured (IsPrintedOf M.Says 0) I.remaining O.contents source.old source.new sink.old sink.new
+    ensures report { IfOk result (IsPoured (IsPrintedOf (M.Says glossary.now) 0) I.remaining O.contents source.old source.new sink.old sink.new
         reading.new.report.out.items reading.new.report.refused (place_of reading.new)) }
     ensures some { OnOk result (I.reads source.old < I.reads source.new) }
     ensures sound { OnOk result ((O.failures sink.new ≡ O.failures sink.old) × (O.idle sink.new ≡ 0)) }
@@ -45,10 +48,10 @@ fn pour<M: Manner, I: ByteSource, O: ByteSink>(
         let count = match source.read(text) {
             Err(_) => return Ok(End::ReadFailed),
             Ok(None) => continue,
-            Ok(Some(0)) => return Ok(reading.end()),
+            Ok(Some(0)) => return Ok(reading.end(glossary)),
             Ok(Some(count)) => count,
         };
-        if let Err(refusal) = reading.take_text(&text[..count]) {
+        if let Err(refusal) = reading.take_text(glossary, &text[..count]) {
             return Ok(End::Refused(refusal));
         }
         write_whole(sink, reading.text())?;
@@ -166,16 +169,17 @@ pub(crate) fn tell_no_memory<M: Manner, O: ByteSink>(sink: &mut O) -> Status
 
 // What is known before the first read, and room for what is read at once.
 fn begun<M: Manner>(alloc: Global) -> Result<(Reading<M>, Vec<u8>), AllocError>
-    ensures start { IfOk result (λ begun. SoFar M.Says 0 begun.0 [] [] None) }
+    ensures start { IfOk result (λ begun. (g : Meanings) → SoFar (M.Says g) 0 begun.0 [] [] None) }
     ensures room { IfOk result (λ begun. length begun.1.items ≡ TEXT) }
 {
     let reading = Reading::new(alloc)?;
     Ok((reading, vec![in alloc; 0u8; TEXT]?))
 }
 
-/// Reads messages to the end of `source`, and prints them to `sink` in a manner.
+/// Reads messages to the end of `source`, and prints them to `sink` in a manner, by a glossary.
 pub fn read_in<M: Manner, I: ByteSource, O: ByteSink>(
     alloc: Global,
+    glossary: &Glossary,
     source: &mut I,
     sink: &mut O,
 ) -> Status
@@ -186,7 +190,7 @@ pub fn read_in<M: Manner, I: ByteSource, O: ByteSink>(
     ensures reads { I.reads source.new ≤ I.reads source.old + MAX_READS }
     ensures row { O.most_idle sink.new ≤ max (O.most_idle sink.old) MAX_IDLE_WRITES }
     ensures run { IsRun I.reads I.failures O.failures O.idle source.old source.new sink.old sink.new result }
-    ensures report { IsReport (IsPrintedOf M.Says 0) M.end_text I.remaining O.contents source.old source.new sink.old sink.new result
+    ensures report { IsReport (IsPrintedOf (M.Says glossary.now) 0) M.end_text I.remaining O.contents source.old source.new sink.old sink.new result
         ⊎ (HasWriteCause O.failures O.idle sink.old sink.new × (result ≡ Status.Fault)) }
     ensures whole { result ≡ Status.Done → IsAtEnd (I.remaining source.new) }
     ensures refused { result ≡ Status.Refused → I.reads source.old < I.reads source.new }
@@ -195,7 +199,7 @@ pub fn read_in<M: Manner, I: ByteSource, O: ByteSink>(
     let Ok((mut reading, mut text)) = begun::<M>(alloc) else {
         return tell_no_memory::<M, O>(sink);
     };
-    match pour(&mut reading, &mut text, source, sink) {
+    match pour(glossary, &mut reading, &mut text, source, sink) {
         Ok(end) => close(&reading, end, sink),
         Err(WriteFault) => Status::Fault,
     }

@@ -6,8 +6,9 @@ ghost use Rattle.msg_input.specs.Ends.{IsLast};
 use crate::ends::{End, Place, Refusal};
 use crate::manner::Manner;
 use crate::report::Report;
-use bench_text::{Stop, decode};
+use base_text::{Stop, decode};
 use dia_frame::Framer;
+use dia_show::Glossary;
 use std::alloc::{AllocError, Global};
 
 /// How many octets go to the Framer at once, and how long a message may be.
@@ -28,10 +29,11 @@ pub(crate) struct Reading<M> {
 impl<M: Manner> Reading<M> {
     ghost use Rattle.msg_input.specs.Readings.{Finishes, Halts, PrintsFront, PrintsWaiting, SoFar, Stands, TakesPiece, TakesText, place_of};
     ghost use Rattle.msg_input.specs.Inputs.{IsPrintedOf};
+    ghost use Rattle.dia_show.specs.Glossary.{Meanings};
 
     /// Nothing is read yet.
     pub(crate) fn new(alloc: Global) -> Result<Reading<M>, AllocError>
-        ensures start { IfOk result (λ reading. SoFar M.Says 0 reading [] [] None) }
+        ensures start { IfOk result (λ reading. (g : Meanings) → SoFar (M.Says g) 0 reading [] [] None) }
         ensures characters { IfOk result (λ reading. reading.characters ≡ 0) }
     {
         Ok(Reading {
@@ -44,7 +46,7 @@ impl<M: Manner> Reading<M> {
 
     /// Begins anew behind so many messages.
     pub(crate) fn restart(&mut self, alloc: Global, messages: u64)
-        ensures start { SoFar M.Says messages self.new [] [] None }
+        ensures start { (g : Meanings) → SoFar (M.Says g) messages self.new [] [] None }
         ensures characters { self.new.characters ≡ 0 }
     {
         self.framer = Framer::new(alloc, PIECE);
@@ -80,33 +82,33 @@ impl<M: Manner> Reading<M> {
     /// Forgets what was written out.
     pub(crate) fn clear(&mut self)
         ensures characters { self.new.characters ≡ self.old.characters }
-        ensures so_far { (first : ℕ) (text written : List ℕ) → SoFar M.Says first self.old text written None
-            → SoFar M.Says first self.new text (written ++ self.old.report.out.items) None }
+        ensures so_far { (g : Meanings) (first : ℕ) (text written : List ℕ) → SoFar (M.Says g) first self.old text written None
+            → SoFar (M.Says g) first self.new text (written ++ self.old.report.out.items) None }
     {
         self.report.clear();
     }
 
     // Prints the messages that wait, oldest first.
-    fn print_waiting(&mut self) -> Result<(), AllocError>
+    fn print_waiting(&mut self, glossary: &Glossary) -> Result<(), AllocError>
         ensures kept { (self.new.half ≡ self.old.half) × (self.new.characters ≡ self.old.characters) }
-        ensures printed { OnOk result (PrintsWaiting M.Says self.old.framer self.new.framer self.old.report self.new.report) }
-        ensures halted { OnErr result (PrintsFront M.Says self.old.framer self.old.report self.new.report) }
+        ensures printed { OnOk result (PrintsWaiting (M.Says glossary.now) self.old.framer self.new.framer self.old.report self.new.report) }
+        ensures halted { OnErr result (PrintsFront (M.Says glossary.now) self.old.framer self.old.report self.new.report) }
     {
         while let Some(frame) = self.framer.next_frame() {
-            self.report.message(frame.as_slice())?;
+            self.report.message(glossary, frame.as_slice())?;
         }
         Ok(())
     }
 
     // The messages that a piece completes are printed, also where the octets behind them show a fault.
-    fn take_piece(&mut self, piece: &[u8]) -> Result<(), Refusal>
+    fn take_piece(&mut self, glossary: &Glossary, piece: &[u8]) -> Result<(), Refusal>
         ensures kept { (self.new.half ≡ self.old.half) × (self.new.characters ≡ self.old.characters) }
-        ensures stands { (first : ℕ) (octets written : List ℕ) (before : Stands M.Says first self.old.framer self.old.report octets written None)
-            → TakesPiece result (Stands M.Says first self.new.framer self.new.report (octets ++ piece.now) written)
-            (Halts M.Says first before.messages self.new.report (octets ++ piece.now) written) }
+        ensures stands { (first : ℕ) (octets written : List ℕ) (before : Stands (M.Says glossary.now) first self.old.framer self.old.report octets written None)
+            → TakesPiece result (Stands (M.Says glossary.now) first self.new.framer self.new.report (octets ++ piece.now) written)
+            (Halts (M.Says glossary.now) first before.messages self.new.report (octets ++ piece.now) written) }
     {
         let fed = self.framer.feed(piece);
-        self.print_waiting()?;
+        self.print_waiting(glossary)?;
         match fed {
             Ok(_) => Ok(()),
             Err(error) => Err(Refusal::from(error)),
@@ -114,11 +116,11 @@ impl<M: Manner> Reading<M> {
     }
 
     /// Takes the next characters, and prints the messages that they complete.
-    pub(crate) fn take_text(&mut self, text: &[u8]) -> Result<(), Refusal>
+    pub(crate) fn take_text(&mut self, glossary: &Glossary, text: &[u8]) -> Result<(), Refusal>
         requires room { self.old.characters + length text.now < 2 ^ 64 }
         ensures characters { self.new.characters ≤ self.old.characters + length text.now }
-        ensures taken { (first : ℕ) (before written : List ℕ) → SoFar M.Says first self.old before written None
-            → TakesText M.Says first result self.new before text.now written }
+        ensures taken { (first : ℕ) (before written : List ℕ) → SoFar (M.Says glossary.now) first self.old before written None
+            → TakesText (M.Says glossary.now) first result self.new before text.now written }
     {
         let mut rest = text;
         'pieces: while !rest.is_empty() {
@@ -126,7 +128,7 @@ impl<M: Manner> Reading<M> {
             let decoded = decode(self.half, rest, &mut piece);
             self.half = decoded.half;
             self.characters += decoded.used as u64;
-            self.take_piece(&piece[..decoded.made])?;
+            self.take_piece(glossary, &piece[..decoded.made])?;
             if let Stop::BadCharacter = decoded.stop {
                 return Err(Refusal::BadHex);
             }
@@ -136,26 +138,26 @@ impl<M: Manner> Reading<M> {
     }
 
     /// Ends with the input: a digit that is left over is bad, and octets that are left over are a message.
-    pub(crate) fn end(&mut self) -> End
+    pub(crate) fn end(&mut self, glossary: &Glossary) -> End
         ensures last { IsLast result }
-        ensures printed { (first : ℕ) (text written : List ℕ) → SoFar M.Says first self.old text written None
-            → IsPrintedOf M.Says first (Unit {0}) text (written ++ self.new.report.out.items) result self.new.report.refused (place_of self.new) }
+        ensures printed { (first : ℕ) (text written : List ℕ) → SoFar (M.Says glossary.now) first self.old text written None
+            → IsPrintedOf (M.Says glossary.now) first (Unit {0}) text (written ++ self.new.report.out.items) result self.new.report.refused (place_of self.new) }
     {
-        match self.finish() {
+        match self.finish(glossary) {
             Ok(()) => End::Whole,
             Err(refusal) => End::Refused(refusal),
         }
     }
 
-    fn finish(&mut self) -> Result<(), Refusal>
-        ensures { (first : ℕ) (text written : List ℕ) → SoFar M.Says first self.old text written None → Finishes M.Says first result self.new text written }
+    fn finish(&mut self, glossary: &Glossary) -> Result<(), Refusal>
+        ensures { (first : ℕ) (text written : List ℕ) → SoFar (M.Says glossary.now) first self.old text written None → Finishes (M.Says glossary.now) first result self.new text written }
     {
         if self.half.is_some() {
             return Err(Refusal::BadHex);
         }
         let rest = self.framer.rest();
         if !rest.is_empty() {
-            self.report.message(rest)?;
+            self.report.message(glossary, rest)?;
         }
         Ok(())
     }

@@ -2,6 +2,7 @@
 ghost use Rattle.std.specs.Prelude.{◌≡◌, ◌+◌, ℕ, List, [], ◌∷◌, false, Bool, IfOk, OnOk, OnErr};
 
 use crate::manner::Manner;
+use dia_show::Glossary;
 use std::alloc::{AllocError, Global};
 
 /// Reads messages and keeps what is printed of them.
@@ -90,9 +91,9 @@ impl<M: Manner> Report<M> {
     }
 
     /// Reads the octets of the next message and keeps what is printed of it. Without memory nothing of it is kept.
-    pub fn message(&mut self, octets: &[u8]) -> Result<(), AllocError>
+    pub fn message(&mut self, glossary: &Glossary, octets: &[u8]) -> Result<(), AllocError>
         ensures ok { OnOk result ((text : List ℕ) × (refused : Bool)
-            × M.Says (self.old.messages + 1) self.old.octets octets.now text refused
+            × M.Says glossary.now (self.old.messages + 1) self.old.octets octets.now text refused
             × Gains self.old self.new (octets.now ∷ []) text refused) }
         ensures err { OnErr result (Stays self.old self.new) }
     {
@@ -101,7 +102,7 @@ impl<M: Manner> Report<M> {
         self.lines.clear();
         let refused = self
             .manner
-            .put(&mut self.lines, number, self.octets, octets)?;
+            .put(glossary, &mut self.lines, number, self.octets, octets)?;
         self.out.extend_from_slice(&self.lines)?;
         self.refused = self.refused | refused;
         self.messages = number;

@@ -3,7 +3,8 @@
 use crate::members::{put_made, put_null, put_number, put_word};
 use crate::values::{put_value, put_wrong, type_name};
 use dia_avp::{AvpView, FaultCode, MAX_DEPTH, avp_at};
-use dia_dict::{AvpKind, Definition, Dictionary};
+use dia_dict::{AvpKind, Definition};
+use dia_show::Glossary;
 use dia_tree::{cut_avp, number_at, octet_at};
 use msg_explain::{Part, broken_words, flag_letter, length_at};
 use serde::Serializer;
@@ -78,18 +79,18 @@ fn is_opened(definition: Option<&Definition>, room: u8) -> bool {
 fn put_whole<S: Serializer>(
     out: &mut S,
     alloc: Global,
-    dictionary: &Dictionary,
+    glossary: &Glossary,
     part: &Part<'_>,
     avp: &AvpView<'_>,
 ) -> Result<u8, S::Error> {
-    let definition = dictionary.find(avp.code, avp.vendor);
+    let definition = glossary.definitions().find(avp.code, avp.vendor);
     put_title(out, part, definition)?;
     if is_opened(definition, part.room) {
         out.key("avps")?;
         out.begin_seq(None)?;
         return Ok(part.room.saturating_sub(1));
     }
-    put_value(out, alloc, definition, avp)?;
+    put_value(out, alloc, glossary, definition, avp)?;
     out.end_map()?;
     Ok(part.room)
 }
@@ -98,12 +99,12 @@ fn put_whole<S: Serializer>(
 fn put_broken<S: Serializer>(
     out: &mut S,
     alloc: Global,
-    dictionary: &Dictionary,
+    glossary: &Glossary,
     part: &Part<'_>,
     code: FaultCode,
 ) -> Result<(), S::Error> {
     let cut = cut_avp(part.octets);
-    put_title(out, part, dictionary.find(cut.code, cut.vendor))?;
+    put_title(out, part, glossary.definitions().find(cut.code, cut.vendor))?;
     put_wrong(out, alloc, broken_words(code), part.octets)?;
     out.end_map()
 }
@@ -112,14 +113,14 @@ fn put_broken<S: Serializer>(
 fn put_part<S: Serializer>(
     out: &mut S,
     alloc: Global,
-    dictionary: &Dictionary,
+    glossary: &Glossary,
     part: &Part<'_>,
 ) -> Result<u8, S::Error> {
     out.begin_map(None)?;
     match avp_at(part.octets) {
-        Ok((avp, _)) => put_whole(out, alloc, dictionary, part, &avp),
+        Ok((avp, _)) => put_whole(out, alloc, glossary, part, &avp),
         Err(code) => {
-            put_broken(out, alloc, dictionary, part, code)?;
+            put_broken(out, alloc, glossary, part, code)?;
             Ok(part.room)
         }
     }
@@ -138,7 +139,7 @@ fn end_groups<S: Serializer>(out: &mut S, room: u8, level: u8) -> Result<(), S::
 pub(crate) fn put_avps<S: Serializer>(
     out: &mut S,
     alloc: Global,
-    dictionary: &Dictionary,
+    glossary: &Glossary,
     parts: &[Part<'_>],
 ) -> Result<(), S::Error> {
     out.key("avps")?;
@@ -146,7 +147,7 @@ pub(crate) fn put_avps<S: Serializer>(
     let mut room = MAX_DEPTH;
     for part in parts {
         end_groups(out, room, part.room)?;
-        room = put_part(out, alloc, dictionary, part)?;
+        room = put_part(out, alloc, glossary, part)?;
     }
     end_groups(out, room, MAX_DEPTH)?;
     out.end_seq()

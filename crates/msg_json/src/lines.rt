@@ -7,8 +7,8 @@ use crate::avps::put_avps;
 use crate::faults::put_fault;
 use crate::headers::put_header;
 use crate::members::{put_null, put_number};
-use dia_dict::Dictionary;
 use dia_msg::{MsgError, MsgFault, read_message};
+use dia_show::Glossary;
 use msg_explain::{Part, parts_of};
 use serde::{Described, Serialize, Serializer};
 use std::alloc::{AllocError, Global};
@@ -17,7 +17,7 @@ use std::alloc::{AllocError, Global};
 #[derive(Clone, Copy)]
 struct Message<'a> {
     alloc: Global,
-    dictionary: &'a Dictionary,
+    glossary: &'a Glossary,
     number: u64,
     offset: u64,
     octets: &'a [u8],
@@ -33,10 +33,10 @@ impl Serialize for Message<'_> {
         put_number(out, "number", self.number)?;
         put_number(out, "offset", self.offset)?;
         put_header(out, self.alloc, self.octets)?;
-        put_avps(out, self.alloc, self.dictionary, self.parts)?;
+        put_avps(out, self.alloc, self.glossary, self.parts)?;
         match self.fault {
             None => put_null(out, "fault")?,
-            Some(fault) => put_fault(out, self.dictionary, fault, self.parts)?,
+            Some(fault) => put_fault(out, self.glossary.definitions(), fault, self.parts)?,
         }
         out.end_map()
     }
@@ -54,7 +54,7 @@ fn put_line(out: &mut Vec<u8>, message: &Message<'_>) -> Result<(), AllocError>
 
 fn put_message<'a>(
     out: &mut Vec<u8>,
-    dictionary: &'a Dictionary,
+    glossary: &'a Glossary,
     number: u64,
     offset: u64,
     octets: &'a [u8],
@@ -65,7 +65,7 @@ fn put_message<'a>(
 {
     let message = Message {
         alloc: *out.allocator(),
-        dictionary,
+        glossary,
         number,
         offset,
         octets,
@@ -80,33 +80,26 @@ fn put_message<'a>(
 /// one.
 pub fn put_json(
     out: &mut Vec<u8>,
-    dictionary: &Dictionary,
+    glossary: &Glossary,
     number: u64,
     offset: u64,
     octets: &[u8],
 ) -> Result<bool, AllocError>
     requires { length octets.now < 2 ^ 32 }
-    ensures { IfOk result (λ refused. (text : List ℕ) × SaysInJson (known dictionary.now) octets.now text refused
+    ensures { IfOk result (λ refused. (text : List ℕ) × SaysInJson (known glossary.now.definitions) octets.now text refused
         × (out.new.items ≡ out.old.items ++ text)) }
 {
     let alloc = *out.allocator();
+    let dictionary = glossary.definitions();
     let parts = parts_of(alloc, dictionary, octets)?;
     match read_message(alloc, dictionary, octets) {
         Ok(_) => {
-            put_message(out, dictionary, number, offset, octets, &parts, None)?;
+            put_message(out, glossary, number, offset, octets, &parts, None)?;
             Ok(false)
         }
         Err(MsgError::NoMemory) => Err(AllocError),
         Err(MsgError::Fault(fault)) => {
-            put_message(
-                out,
-                dictionary,
-                number,
-                offset,
-                octets,
-                &parts,
-                Some(&fault),
-            )?;
+            put_message(out, glossary, number, offset, octets, &parts, Some(&fault))?;
             Ok(true)
         }
     }

@@ -3,7 +3,7 @@
 use crate::members::{no_memory, put_digits, put_made, put_number, put_text, put_word};
 use dia_avp::{Address, AvpView};
 use dia_dict::{AvpKind, Definition};
-use dia_show::{put_utc, value_name};
+use dia_show::{Glossary, put_utc, value_name};
 use serde::Serializer;
 use std::alloc::Global;
 use std::net::{Ipv4Addr, Ipv6Addr};
@@ -46,6 +46,7 @@ fn put_ill_sized<S: Serializer>(out: &mut S, alloc: Global, octets: &[u8]) -> Re
 fn put_named<S: Serializer>(
     out: &mut S,
     alloc: Global,
+    glossary: &Glossary,
     definition: &Definition,
     avp: &AvpView<'_>,
 ) -> Result<(), S::Error> {
@@ -53,11 +54,11 @@ fn put_named<S: Serializer>(
         return put_ill_sized(out, alloc, avp.octets);
     };
     put_number(out, "value", u64::from(number))?;
-    let name = value_name(definition, number);
+    let name = value_name(glossary, definition, number);
     if name.is_empty() {
         return Ok(());
     }
-    put_word(out, "value_name", name)
+    put_made(out, "value_name", name)
 }
 
 // A number of 64 bits is text, since readers of JSON lose its digits past 2^53.
@@ -107,6 +108,7 @@ fn put_address<S: Serializer>(
 pub(crate) fn put_value<S: Serializer>(
     out: &mut S,
     alloc: Global,
+    glossary: &Glossary,
     definition: Option<&Definition>,
     avp: &AvpView<'_>,
 ) -> Result<(), S::Error> {
@@ -114,7 +116,9 @@ pub(crate) fn put_value<S: Serializer>(
         return put_digits(out, alloc, "hex", avp.octets);
     };
     match definition.kind {
-        AvpKind::Unsigned32 | AvpKind::Enumerated => put_named(out, alloc, definition, avp),
+        AvpKind::Unsigned32 | AvpKind::Enumerated => {
+            put_named(out, alloc, glossary, definition, avp)
+        }
         AvpKind::Unsigned64 => put_long(out, alloc, avp),
         AvpKind::Utf8String | AvpKind::DiameterIdentity => {
             put_text(out, alloc, ("value", "hex"), avp.octets)

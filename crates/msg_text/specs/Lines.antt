@@ -2,7 +2,7 @@
 use Rattle.std.specs.Prelude.{◌≡◌, ℕ, ◌+◌, Bool, List, [], ◌∷◌, ◌++◌, length, drop, codes, decimal, is_some, Option, Some, None, if◌then◌else◌}
 use Rattle.std.specs.List.{flat_map}
 use Rattle.hex.specs.Hex.{encode_lower}
-use Rattle.bench_text.specs.Contents.{content_text}
+use Rattle.base_text.specs.Contents.{content_text}
 use Rattle.dia_avp.specs.declared.avp.Avp.{Avp}
 use Rattle.dia_avp.specs.Avps.{AvpThen, AvpsThen}
 use Rattle.dia_command.specs.declared.header.Header.{Header}

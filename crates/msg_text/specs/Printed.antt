@@ -43,7 +43,3 @@ pub record Prints (added : List Definition) (octets text : List ℕ) (refused : 
   pub answer : Result Command MsgFault
   pub reading : IsReading (known added) octets answer
   pub printed : AnswerText answer text refused
-
--- what a run adds to the dictionary: nothing
-abbrev pub dictionary : List Definition
-dictionary = []

@@ -1,22 +1,18 @@
 //! Messages in names, and where reading stopped.
 ghost use Rattle.std.specs.Prelude.{◌≡◌, ◌++◌, List, ℕ, IfOk};
 ghost use Rattle.msg_input.specs.Ends.{words_of};
-ghost use Rattle.msg_text.specs.Printed.{dictionary};
 ghost use Rattle.msg_text.specs.Styles.{IsExplained, explained_end, explained_line, frame_words};
 
 use crate::line_ends::put_line_words;
-use dia_dict::Dictionary;
 use dia_frame::FrameFault;
+use dia_show::Glossary;
 use msg_explain::explain;
 use msg_input::{End, EndWords, Manner, Place, Refusal, placed, unplaced};
 use std::alloc::{AllocError, Global};
 
 /// Prints what a message says, in names.
 #[derive(Drop)]
-pub struct Explaining {
-    definitions: Dictionary,
-    ghost base: { definitions ≡ dictionary },
-}
+pub struct Explaining {}
 
 // What is told of a frame fault at this octet.
 fn frame_words(fault: FrameFault, octet: u64) -> EndWords
@@ -48,14 +44,13 @@ impl Manner for Explaining {
 
     ghost line_text = { explained_line };
 
-    fn new(alloc: Global) -> Result<Explaining, AllocError> {
-        Ok(Explaining {
-            definitions: Dictionary::base(alloc)?,
-        })
+    fn new(_alloc: Global) -> Result<Explaining, AllocError> {
+        Ok(Explaining {})
     }
 
     fn put(
         &mut self,
+        glossary: &Glossary,
         out: &mut Vec<u8>,
         number: u64,
         offset: u64,
@@ -65,7 +60,7 @@ impl Manner for Explaining {
             out.extend_from_slice(b"too long\n")?;
             return Ok(true);
         }
-        explain(out, &self.definitions, number, offset, octets)
+        explain(out, glossary, number, offset, octets)
     }
 
     fn end_words(end: End, place: Place) -> EndWords {

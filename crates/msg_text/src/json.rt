@@ -1,23 +1,19 @@
 //! Messages as objects of JSON, a line each, and where reading stopped as one more.
 ghost use Rattle.std.specs.Prelude.{◌≡◌, ◌++◌, List, ℕ, IfOk, OnOk, drop};
 ghost use Rattle.msg_input.specs.Ends.{words_of};
-ghost use Rattle.msg_text.specs.Printed.{dictionary};
 ghost use Rattle.msg_text.specs.Styles.{IsJson, json_end, json_fault, json_line, json_line_end};
 
 use crate::line_ends::put_words;
-use bench_text::put_number;
-use dia_dict::Dictionary;
+use base_text::put_number;
 use dia_frame::FrameFault;
+use dia_show::Glossary;
 use msg_input::{End, EndWords, Manner, Place, Refusal, placed, unplaced};
 use msg_json::put_json;
 use std::alloc::{AllocError, Global};
 
 /// Prints what a message says, as an object of JSON.
 #[derive(Drop)]
-pub struct Json {
-    definitions: Dictionary,
-    ghost base: { definitions ≡ dictionary },
-}
+pub struct Json {}
 
 // The object of a frame fault at this octet.
 fn json_fault(fault: FrameFault, octet: u64) -> EndWords
@@ -80,14 +76,13 @@ impl Manner for Json {
 
     ghost line_text = { json_line };
 
-    fn new(alloc: Global) -> Result<Json, AllocError> {
-        Ok(Json {
-            definitions: Dictionary::base(alloc)?,
-        })
+    fn new(_alloc: Global) -> Result<Json, AllocError> {
+        Ok(Json {})
     }
 
     fn put(
         &mut self,
+        glossary: &Glossary,
         out: &mut Vec<u8>,
         number: u64,
         offset: u64,
@@ -97,7 +92,7 @@ impl Manner for Json {
             out.extend_from_slice(b"{\"stop\":\"too long\"}\n")?;
             return Ok(true);
         }
-        put_json(out, &self.definitions, number, offset, octets)
+        put_json(out, glossary, number, offset, octets)
     }
 
     fn end_words(end: End, place: Place) -> EndWords {

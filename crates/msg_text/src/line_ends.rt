@@ -3,7 +3,7 @@ ghost use Rattle.std.specs.Prelude.{◌≡◌, ◌++◌, OnOk};
 ghost use Rattle.msg_input.specs.Ends.{place_text, words_of};
 ghost use Rattle.msg_text.specs.Styles.{line_end};
 
-use bench_text::put_number;
+use base_text::put_number;
 use msg_input::{End, EndWords};
 use std::alloc::AllocError;
 

@@ -1,6 +1,6 @@
 //! Messages as plain lines: a header, AVPs and the encoding, or a fault.
 ghost use Rattle.std.specs.Prelude.{◌≡◌, ◌++◌, List, [], ℕ, IfOk, OnOk};
-ghost use Rattle.msg_text.specs.Printed.{CommandText, FaultText, Prints, dictionary};
+ghost use Rattle.msg_text.specs.Printed.{CommandText, FaultText, Prints};
 ghost use Rattle.msg_text.specs.Styles.{IsPlain, plain_end, plain_line};
 
 use crate::line_ends::put_line_words;
@@ -8,6 +8,7 @@ use crate::show::{put_fault, put_message};
 use dia_avp::{WriteError, write_avp};
 use dia_dict::Dictionary;
 use dia_msg::{Command, MsgError, MsgFault, read_message, write_message};
+use dia_show::Glossary;
 use msg_input::{End, EndWords, Manner, Place, unplaced};
 use std::alloc::{AllocError, Global};
 
@@ -15,18 +16,21 @@ use std::alloc::{AllocError, Global};
 #[derive(Drop)]
 pub struct Plain {
     alloc: Global,
-    definitions: Dictionary,
     /// The encoding of the message that is being printed.
     encoding: Vec<u8>,
-    ghost base: { definitions ≡ dictionary },
 }
 
 impl Plain {
-    fn read(&mut self, out: &mut Vec<u8>, octets: &[u8]) -> Result<bool, AllocError>
-        ensures { IfOk result (λ refused. (text : List ℕ) × Prints dictionary octets.now text refused
+    fn read(
+        &mut self,
+        definitions: &Dictionary,
+        out: &mut Vec<u8>,
+        octets: &[u8],
+    ) -> Result<bool, AllocError>
+        ensures { IfOk result (λ refused. (text : List ℕ) × Prints definitions.now octets.now text refused
             × (out.new.items ≡ out.old.items ++ text)) }
     {
-        match read_message(self.alloc, &self.definitions, octets) {
+        match read_message(self.alloc, definitions, octets) {
             Ok(command) => {
                 self.command(out, &command)?;
                 Ok(false)
@@ -75,19 +79,19 @@ impl Manner for Plain {
     fn new(alloc: Global) -> Result<Plain, AllocError> {
         Ok(Plain {
             alloc,
-            definitions: Dictionary::base(alloc)?,
             encoding: Vec::new(alloc),
         })
     }
 
     fn put(
         &mut self,
+        glossary: &Glossary,
         out: &mut Vec<u8>,
         _number: u64,
         _offset: u64,
         octets: &[u8],
     ) -> Result<bool, AllocError> {
-        self.read(out, octets)
+        self.read(glossary.definitions(), out, octets)
     }
 
     fn end_words(end: End, _place: Place) -> EndWords {

@@ -1,21 +1,24 @@
 //! `read`: messages from hexadecimal digits, printed as they come, whole or line by line.
 ghost use Rattle.std.specs.Prelude.{false, true, ◌≡◌, ◌≢◌, ◌⊎◌, ◌<◌, ◌≤◌, ◌+◌, ◌-◌, ◌^◌, max};
 ghost use Rattle.std.specs.Io.KnownBytes.{IsAtEnd};
-ghost use Rattle.bench_device.specs.Devices.{HasWriteCause, IsRun};
+ghost use Rattle.base_device.specs.Devices.{HasWriteCause, IsRun};
 ghost use Rattle.msg_input.specs.Inputs.{IsReport};
 ghost use Rattle.msg_text.specs.Styles.{end_in, printed_in};
 
 use crate::explaining::Explaining;
 use crate::json::Json;
 use crate::plain::Plain;
-use bench_device::{ByteSink, ByteSource, MAX_IDLE_WRITES, MAX_READS, Status};
+use base_device::{ByteSink, ByteSource, MAX_IDLE_WRITES, MAX_READS, Status};
+use dia_show::Glossary;
 use msg_input::{Style, read_in, read_lines_in};
 use std::alloc::Global;
 
-/// Reads messages in hexadecimal to the end of `source`, and prints them to `sink` in a style.
+/// Reads messages in hexadecimal to the end of `source`, and prints them to `sink` in a style, by a
+/// glossary.
 pub fn read_on<I: ByteSource, O: ByteSink>(
     style: Style,
     alloc: Global,
+    glossary: &Glossary,
     source: &mut I,
     sink: &mut O,
 ) -> Status
@@ -32,7 +35,7 @@ pub fn read_on<I: ByteSource, O: ByteSink>(
     ensures run { IsRun I.reads I.failures O.failures O.idle source.old source.new sink.old sink.new result }
 
     // What was written out is what the text that was read prints: its messages in order, and then its end.
-    ensures report { IsReport (printed_in style false) (end_in style) I.remaining O.contents source.old source.new sink.old sink.new result
+    ensures report { IsReport (printed_in style false glossary.now) (end_in style) I.remaining O.contents source.old source.new sink.old sink.new result
         ⊎ (HasWriteCause O.failures O.idle sink.old sink.new × (result ≡ Status.Fault)) }
 
     // It is done only where nothing is left to read, and refused only where something was read.
@@ -41,16 +44,18 @@ pub fn read_on<I: ByteSource, O: ByteSink>(
     ensures words { result ≢ Status.Usage }
 {
     match style {
-        Style::Plain => read_in::<Plain, I, O>(alloc, source, sink),
-        Style::Explained => read_in::<Explaining, I, O>(alloc, source, sink),
-        Style::Json => read_in::<Json, I, O>(alloc, source, sink),
+        Style::Plain => read_in::<Plain, I, O>(alloc, glossary, source, sink),
+        Style::Explained => read_in::<Explaining, I, O>(alloc, glossary, source, sink),
+        Style::Json => read_in::<Json, I, O>(alloc, glossary, source, sink),
     }
 }
 
-/// Reads lines to the end of `source`, each of which is messages in hexadecimal by itself, and prints them to `sink` in a style.
+/// Reads lines to the end of `source`, each of which is messages in hexadecimal by itself, and prints them to `sink` in a style, by a
+/// glossary.
 pub fn read_lines<I: ByteSource, O: ByteSink>(
     style: Style,
     alloc: Global,
+    glossary: &Glossary,
     source: &mut I,
     sink: &mut O,
 ) -> Status
@@ -67,7 +72,7 @@ pub fn read_lines<I: ByteSource, O: ByteSink>(
     ensures run { IsRun I.reads I.failures O.failures O.idle source.old source.new sink.old sink.new result }
 
     // What was written out is what each line of the text that was read prints by itself, in order, and then its end.
-    ensures report { IsReport (printed_in style true) (end_in style) I.remaining O.contents source.old source.new sink.old sink.new result
+    ensures report { IsReport (printed_in style true glossary.now) (end_in style) I.remaining O.contents source.old source.new sink.old sink.new result
         ⊎ (HasWriteCause O.failures O.idle sink.old sink.new × (result ≡ Status.Fault)) }
 
     // It is done only where nothing is left to read, and refused only where something was read.
@@ -76,8 +81,8 @@ pub fn read_lines<I: ByteSource, O: ByteSink>(
     ensures words { result ≢ Status.Usage }
 {
     match style {
-        Style::Plain => read_lines_in::<Plain, I, O>(alloc, source, sink),
-        Style::Explained => read_lines_in::<Explaining, I, O>(alloc, source, sink),
-        Style::Json => read_lines_in::<Json, I, O>(alloc, source, sink),
+        Style::Plain => read_lines_in::<Plain, I, O>(alloc, glossary, source, sink),
+        Style::Explained => read_lines_in::<Explaining, I, O>(alloc, glossary, source, sink),
+        Style::Json => read_lines_in::<Json, I, O>(alloc, glossary, source, sink),
     }
 }

@@ -4,7 +4,7 @@ ghost use Rattle.dia_avp.specs.View.{seen};
 ghost use Rattle.msg_text.specs.Lines.{letter, header_letters, header_line, vendor_text, avp_letters, printed_length, avp_name, avp_line, AvpLines, MessageText, fault_line};
 
 use base_codes::{AVP_HEADER_LEN, AVP_VENDOR_HEADER_LEN, HEADER_LEN};
-use bench_text::{put_content, put_hex, put_number};
+use base_text::{put_content, put_hex, put_number};
 use dia_avp::{AvpView, first_avp};
 use dia_msg::{Flags, Header};
 use std::alloc::AllocError;

@@ -5,7 +5,7 @@ use Rattle.std.specs.Str.{bytes_eq}
 use Rattle.hex.specs.Hex.{decode_of}
 use Rattle.hex.specs.declared.error.FromHexError.{FromHexError}
 use Rattle.base_list.specs.Named.{place_of}
-use Rattle.bench_text.specs.Numbers.{number_of}
+use Rattle.base_text.specs.Numbers.{number_of}
 use Rattle.event_text.specs.Events.{facts_of, is_skipped}
 use Rattle.tab_law.specs.Books.{Laws}
 use Rattle.text_parts.specs.Lines.{Line, lines}

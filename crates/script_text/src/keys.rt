@@ -6,7 +6,7 @@ ghost use Rattle.std.specs.Prelude.{Some};
 
 use base_list::Octets;
 use bench_item::{Key, Role};
-use bench_text::digit_value;
+use base_text::digit_value;
 use std::alloc::{AllocError, Global};
 use step_text::is_plain;
 

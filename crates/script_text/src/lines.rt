@@ -8,7 +8,7 @@ use crate::keys::read_key;
 use crate::words::{only_short, piece_of, short_of, source_from};
 use base_list::Octets;
 use bench_item::Step;
-use bench_text::number_of;
+use base_text::number_of;
 use event_text::facts_of;
 use std::alloc::{AllocError, Global};
 use tab_law::LawBook;

@@ -6,7 +6,7 @@ ghost use Rattle.text_parts.specs.Pieces.{words_left};
 use crate::keys::octet_of;
 use base_list::Octets;
 use bench_item::Source;
-use bench_text::number_of;
+use base_text::number_of;
 use hex::FromHexError;
 use std::alloc::{AllocError, Global};
 use text_parts::Words;

@@ -6,8 +6,8 @@ use Rattle.std.proofs.lemmas.Bool.Decides.{nat_tests}
 use Rattle.std.proofs.lemmas.Fmt.{decimal_by_steps}
 use Rattle.std.proofs.lemmas.List.Folds.{list_all-append}
 use Rattle.std.proofs.lemmas.List.Sums.{fold-append}
-use Rattle.bench_text.specs.Numbers.{decimal_value, is_digit, number_of}
-use Rattle.bench_text.proofs.NumberLemmas.{number_of-digits}
+use Rattle.base_text.specs.Numbers.{decimal_value, is_digit, number_of}
+use Rattle.base_text.proofs.NumberLemmas.{number_of-digits}
 use Rattle.step_text.specs.Guess.{large, small}
 
 -- digits that spell a number

@@ -4,7 +4,7 @@ use Rattle.std.specs.Str.{bytes_eq}
 use Rattle.hex.specs.Hex.{decode_of, hex_digit_value}
 use Rattle.base_list.specs.Named.{entry_of, place_of}
 use Rattle.base_list.specs.declared.named.Named.{Named}
-use Rattle.bench_text.specs.Numbers.{number_of}
+use Rattle.base_text.specs.Numbers.{number_of}
 use Rattle.event_text.specs.Events.{fact_of}
 use Rattle.tab_law.specs.declared.limits.TheConstants.{PLACES}
 use Rattle.bench_item.specs.declared.key.Key.{Key}

@@ -5,7 +5,7 @@ ghost use Rattle.std.specs.Str.{bytes_eq};
 ghost use Rattle.step_text.specs.Names.{is_plain, key_name, prefix_of, shown, shown_octet};
 
 use bench_item::{Key, Role};
-use bench_text::put_hex;
+use base_text::put_hex;
 use std::alloc::{AllocError, Global};
 
 /// Whether an octet stands for itself.

@@ -8,7 +8,7 @@ ghost use Rattle.step_text.specs.Guess.{facts_in, first_name, key_of, large, nib
 
 use base_list::Octets;
 use bench_item::{Key, Role, Source};
-use bench_text::number_of;
+use base_text::number_of;
 use event_text::fact_of;
 use std::alloc::{AllocError, Global};
 use tab_law::PLACES;

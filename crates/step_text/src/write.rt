@@ -9,7 +9,7 @@ use crate::command::which;
 use crate::machines::Machines;
 use crate::name::{prefix_of, put_shown};
 use bench_item::{Key, Source, Step};
-use bench_text::{put_content, put_number};
+use base_text::{put_content, put_number};
 use std::alloc::AllocError;
 use tab_law::{LawBook, PLACES};
 use tab_step::Event;

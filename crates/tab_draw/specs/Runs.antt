@@ -1,9 +1,9 @@
 -- What is told where a table's text is drawn.
 use Rattle.std.specs.Prelude.{◌≡◌, ◌⊎◌, ℕ, List, Option, Some, None, codes}
 use Rattle.std.specs.Option.{option_map_or}
-use Rattle.bench_device.specs.Devices.{Tells}
-use Rattle.bench_device.specs.declared.status.Status.{Status}
-use Rattle.bench_device.specs.declared.status.Status.TheVariants as statuses
+use Rattle.base_device.specs.Devices.{Tells}
+use Rattle.base_device.specs.declared.status.Status.{Status}
+use Rattle.base_device.specs.declared.status.Status.TheVariants as statuses
 use Rattle.fault_text.specs.Faults.{table_fault}
 use Rattle.tab_text.specs.Faults.{first_fault}
 use Rattle.tab_text.specs.Rows.{table_of}

@@ -5,7 +5,7 @@ ghost use Rattle.tab_text.specs.Contents.{IsRowOf};
 ghost use Rattle.tab_text.specs.Rows.{name_at};
 ghost use Rattle.tab_draw.specs.Labels.{and_guard, guards_text, label};
 
-use bench_text::put_number;
+use base_text::put_number;
 use std::alloc::AllocError;
 use tab_text::{NameList, Row, Table};
 

@@ -1,10 +1,10 @@
 //! A table's text drawn to a sink.
 ghost use Rattle.std.specs.Prelude.{◌≡◌, ◌≢◌, ◌<◌, ◌≤◌, ◌-◌, ◌^◌, max, IfOk};
-ghost use Rattle.bench_device.specs.Devices.{HasWriteCause};
+ghost use Rattle.base_device.specs.Devices.{HasWriteCause};
 ghost use Rattle.tab_draw.specs.Runs.{IsDrawnOn, IsTold};
 
 use crate::graph::draw;
-use bench_device::{ByteSink, MAX_IDLE_WRITES, Status, tell};
+use base_device::{ByteSink, MAX_IDLE_WRITES, Status, tell};
 use fault_text::table_fault;
 use std::alloc::{AllocError, Global};
 use tab_text::{ParseError, parse};

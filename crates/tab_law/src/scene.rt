@@ -2,7 +2,7 @@
 ghost use Rattle.tab_law.specs.Scenes.{IsScene, IsDeed};
 
 use crate::limits::{MAX_DEEDS, MAX_EMITS, MAX_ROW_ACTIONS, PLACES};
-use base_fixed::FixedList;
+use base_list::FixedList;
 
 /// What a guard or an action sees: the machine's registers and the event's facts.
 #[derive(Clone, Copy, PartialEq, Eq)]

@@ -9,8 +9,7 @@ use crate::cells::{Name, RowNames};
 use crate::limits::{MAX_ACTIONS, MAX_GUARDS, MAX_KINDS, MAX_ROW_ACTIONS, MAX_STATES};
 use crate::name::NameList;
 use crate::row::{Places, Row};
-use base_fixed::FixedList;
-use base_list::Octets;
+use base_list::{FixedList, Octets};
 use std::alloc::{AllocError, Global};
 
 /// Names in order of first appearance.

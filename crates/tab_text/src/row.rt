@@ -1,6 +1,6 @@
 //! A row of a table.
 use crate::limits::MAX_ROW_ACTIONS;
-use base_fixed::FixedList;
+use base_list::FixedList;
 
 /// Numbers of a row's guards or actions, in order.
 pub type Places = FixedList<u8, MAX_ROW_ACTIONS>;

@@ -5,7 +5,7 @@ use Rattle.std.specs.List.{slice_get}
 use Rattle.std.proofs.lemmas.List.{drop-drop}
 use Rattle.std.proofs.Math.ListN.{drop_of_length-le}
 use Rattle.hex.specs.Hex.{is_hex_digit}
-use Rattle.bench_text.specs.Digits.{is_blank}
+use Rattle.base_text.specs.Digits.{is_blank}
 use Rattle.tab_law.specs.Books.{Laws}
 use Rattle.tab_text.specs.Contents.{Contents}
 use Rattle.tab_text.specs.Faults.{first_fault}

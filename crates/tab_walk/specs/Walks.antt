@@ -22,15 +22,15 @@ use Rattle.tab_image.specs.RunBy.{IsRunBy}
 use Rattle.image_text.specs.Images.{IsImageOf, IsNoImage, refusal_text}
 use Rattle.image_text.specs.declared.reading.ImageError.{ImageError}
 use Rattle.hex.specs.Hex.{is_hex_digit}
-use Rattle.bench_text.specs.Digits.{is_blank}
+use Rattle.base_text.specs.Digits.{is_blank}
 use Rattle.tab_walk.specs.declared.steps.Rules.{Rules}
 use Rattle.tab_walk.specs.declared.steps.Rules.TheVariants as rules
-use Rattle.bench_device.specs.Devices.{Tells}
+use Rattle.base_device.specs.Devices.{Tells}
 use Rattle.fault_text.specs.Faults.{bad_text, table_fault, unbound_text}
 use Rattle.event_text.specs.Deeds.{deed_line, name_or}
 use Rattle.event_text.specs.Events.{events_of, first_bad}
-use Rattle.bench_device.specs.declared.status.Status.{Status}
-use Rattle.bench_device.specs.declared.status.Status.TheVariants as statuses
+use Rattle.base_device.specs.declared.status.Status.{Status}
+use Rattle.base_device.specs.declared.status.Status.TheVariants as statuses
 
 -- the name of a state behind a blank, or its number where there is none
 abbrev pub state_text : (names : List (List ℕ)) → ℕ → List ℕ

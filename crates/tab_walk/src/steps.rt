@@ -5,7 +5,7 @@ ghost use Rattle.std.specs.Option.{option_map};
 ghost use Rattle.tab_walk.specs.Walks.{IsReady, StepBy, kind_text, names_of, row_text, state_text, step_text};
 
 use base_list::Octets;
-use bench_text::put_number;
+use base_text::put_number;
 use event_text::{put_deeds, put_name};
 use std::alloc::AllocError;
 use tab_call::Registry;

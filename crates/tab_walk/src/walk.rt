@@ -1,13 +1,13 @@
 //! A walk: a table, or its image, stepped over a list of events, printed event by event.
 ghost use Rattle.std.specs.Prelude.{◌≡◌, ◌≢◌, ◌<◌, ◌≤◌, ◌-◌, ◌^◌, max, if◌then◌else◌, true, IfOk};
-ghost use Rattle.bench_device.specs.Devices.{HasWriteCause};
-ghost use Rattle.bench_text.specs.Digits.{is_blank};
+ghost use Rattle.base_device.specs.Devices.{HasWriteCause};
+ghost use Rattle.base_text.specs.Digits.{is_blank};
 ghost use Rattle.hex.specs.Hex.{is_hex_digit};
 ghost use Rattle.tab_walk.specs.Walks.{IsImageWalked, IsReady, IsRefused, IsRunOver, IsWalked, IsWalkedOf};
 ghost use Rattle.tab_walk.specs.Walks.{IsWalkedOn, RunText, StepBy, bind_text, is_image, names_of, parse_text};
 
 use crate::steps::{Rules, names_of, put_step, step_by};
-use bench_device::{ByteSink, MAX_IDLE_WRITES, Status, tell};
+use base_device::{ByteSink, MAX_IDLE_WRITES, Status, tell};
 use event_text::{LinesError, read_events};
 use fault_text::{bad_line, table_fault, unbound_text};
 use image_text::{read_image, refusal_text};

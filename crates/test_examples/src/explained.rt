@@ -1,6 +1,7 @@
 //! What `read_on` prints in names, and where it says that reading stopped. The expected texts are written by hand.
 use crate::messages::Wrong;
-use bench_device::{Counting, Status};
+use base_device::{Counting, Status};
+use dia_show::Glossary;
 use msg_text::{Style, read_on};
 use std::alloc::{AllocError, Global};
 
@@ -42,9 +43,12 @@ const BEHIND: &[(&str, &str, &str)] = &[
 
 /// Whether this is printed of a text in names, and its fault makes the status.
 fn prints(alloc: Global, input: &str, wanted: &str) -> bool {
+    let Ok(glossary) = Glossary::base(alloc) else {
+        return false;
+    };
     let mut source = Counting::new(input.as_bytes());
     let mut sink = Counting::new(Vec::new(alloc));
-    read_on(Style::Explained, alloc, &mut source, &mut sink) == Status::Refused
+    read_on(Style::Explained, alloc, &glossary, &mut source, &mut sink) == Status::Refused
         && sink.device.as_slice() == wanted.as_bytes()
 }
 

@@ -1,6 +1,7 @@
 //! Which fault `read` prints of a message that has one.
 use crate::messages::{Rows, Wrong, wrong_row};
 use crate::streams::filled;
+use dia_show::Glossary;
 use msg_text::{Plain, Report};
 use std::alloc::{AllocError, Global};
 
@@ -61,10 +62,13 @@ const OTHER_VERSIONS: &[[u8; 20]] = &[
 
 /// Whether another version is printed of a header. Of a stream that is a frame fault, so it is read by itself.
 fn is_other_version(alloc: Global, octets: &[u8]) -> bool {
+    let Ok(glossary) = Glossary::base(alloc) else {
+        return false;
+    };
     let Ok(mut report) = Report::<Plain>::new(alloc) else {
         return false;
     };
-    report.message(octets).is_ok() && report.text() == b"fault 5011\n".as_slice()
+    report.message(&glossary, octets).is_ok() && report.text() == b"fault 5011\n".as_slice()
 }
 
 /// Whether a row that is filled with so many of a part is as it says.

@@ -1,7 +1,8 @@
 //! What is printed of an input, and how reading it ends.
 use crate::messages::Wrong;
 use crate::streams::{Narrow, Pieces, filled, prints, prints_filled, prints_from};
-use bench_device::{Counting, Status};
+use base_device::{Counting, Status};
+use dia_show::Glossary;
 use msg_text::{Style, read_on};
 use std::alloc::{AllocError, Global};
 use std::io::ErrorKind;
@@ -171,13 +172,14 @@ fn wrong_size(alloc: Global) -> Result<Wrong<'static>, AllocError> {
 
 /// Whether a reader without end is a read fault.
 fn is_endless(alloc: Global) -> Result<bool, AllocError> {
+    let glossary = Glossary::base(alloc)?;
     let mut source = Counting::new(Pieces {
         octets: DWR.as_bytes(),
         size: 9,
         error: Some(ErrorKind::Interrupted),
     });
     let mut sink = Counting::new(Vec::new(alloc));
-    let status = read_on(Style::Plain, alloc, &mut source, &mut sink);
+    let status = read_on(Style::Plain, alloc, &glossary, &mut source, &mut sink);
     let wanted = format!(in alloc; "{DWR_TEXT}read fault: no end of input after 1048576 reads\n")?;
     Ok(
         sink.device.as_slice() == wanted.as_bytes()
@@ -190,6 +192,9 @@ fn is_endless(alloc: Global) -> Result<bool, AllocError> {
 /// Whether a writer with this room takes a front of the text, and the status is 3. It fails with the error, or takes nothing
 /// in 1,048,576 writes.
 fn is_write_fault(alloc: Global, room: usize, error: Option<ErrorKind>) -> bool {
+    let Ok(glossary) = Glossary::base(alloc) else {
+        return false;
+    };
     let mut source = Counting::new(Pieces {
         octets: DWR.as_bytes(),
         size: 4095,
@@ -197,7 +202,7 @@ fn is_write_fault(alloc: Global, room: usize, error: Option<ErrorKind>) -> bool 
     });
     let taken = Vec::new(alloc);
     let mut sink = Counting::new(Narrow { taken, room, error });
-    let status = read_on(Style::Plain, alloc, &mut source, &mut sink);
+    let status = read_on(Style::Plain, alloc, &glossary, &mut source, &mut sink);
     let failures = if error == Some(ErrorKind::BrokenPipe) {
         1
     } else {

@@ -1,7 +1,8 @@
 //! What `read_lines` prints: each line by itself, and what is told of a bad one. The expected texts are written by hand.
 use crate::messages::Wrong;
 use crate::streams::filled;
-use bench_device::{Counting, Status};
+use base_device::{Counting, Status};
+use dia_show::Glossary;
 use msg_text::{Style, read_lines};
 use std::alloc::{AllocError, Global};
 
@@ -34,9 +35,12 @@ const PLAIN: &[(&str, &str, Status)] = &[
 
 /// Whether this is printed of lines, and this is the status.
 fn prints(alloc: Global, style: Style, input: &str, wanted: &str, status: Status) -> bool {
+    let Ok(glossary) = Glossary::base(alloc) else {
+        return false;
+    };
     let mut source = Counting::new(input.as_bytes());
     let mut sink = Counting::new(Vec::new(alloc));
-    read_lines(style, alloc, &mut source, &mut sink) == status
+    read_lines(style, alloc, &glossary, &mut source, &mut sink) == status
         && sink.device.as_slice() == wanted.as_bytes()
 }
 

@@ -12,8 +12,9 @@ mod lines;
 mod messages;
 mod streams;
 
-use bench_device::Counting;
+use base_device::Counting;
 use commands::wrong_command;
+use dia_show::Glossary;
 use explained::wrong_stop;
 use faults::wrong_fault;
 use inputs::wrong_input;
@@ -36,11 +37,12 @@ fn styled(word: &str) -> (Style, &str) {
 fn is_as_expected(rt: &HostRuntime, word: &str) -> io::Result<bool> {
     let alloc = rt.alloc();
     let (style, name) = styled(word);
+    let glossary = Glossary::base(alloc)?;
     let input = format!(in alloc; "{name}.hex")?;
     let wanted = format!(in alloc; "expected/{word}.txt")?;
     let mut source = Counting::new(fs::open(rt, input.as_str())?);
     let mut sink = Counting::new(Vec::new(alloc));
-    let status = read_on(style, alloc, &mut source, &mut sink);
+    let status = read_on(style, alloc, &glossary, &mut source, &mut sink);
     let last = format!(in alloc; "status {}\n", status.code())?;
     sink.device.extend_from_slice(last.as_bytes())?;
     Ok(sink.device.as_slice() == fs::read(rt, wanted.as_str())?.as_slice())

@@ -1,5 +1,6 @@
 //! Readers and writers in memory, and what `read_on` prints of a text.
-use bench_device::Counting;
+use base_device::{Counting, Status};
+use dia_show::Glossary;
 use msg_text::{Style, read_on};
 use std::alloc::{AllocError, Global};
 use std::io;
@@ -58,9 +59,12 @@ impl Write for Narrow {
 
 /// What is printed of a reader's text, and the status.
 pub(crate) fn read_from(alloc: Global, reader: Pieces<'_>) -> (u8, Vec<u8>) {
+    let Ok(glossary) = Glossary::base(alloc) else {
+        return (Status::NoMemory.code(), Vec::new(alloc));
+    };
     let mut source = Counting::new(reader);
     let mut sink = Counting::new(Vec::new(alloc));
-    let status = read_on(Style::Plain, alloc, &mut source, &mut sink);
+    let status = read_on(Style::Plain, alloc, &glossary, &mut source, &mut sink);
     (status.code(), sink.device)
 }
 

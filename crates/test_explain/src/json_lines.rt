@@ -1,7 +1,7 @@
 //! Whole lines: the expected ones are written by hand from the octets.
 
 use crate::octets::{BAD_SIZE, BROKEN_INSIDE, CUT, TERMINATION, UNKNOWN, octets_of};
-use dia_dict::Dictionary;
+use dia_show::Glossary;
 use msg_json::put_json;
 use std::alloc::Global;
 
@@ -13,10 +13,10 @@ fn says(alloc: Global, row: &Row) -> bool {
     let (number, offset, digits, refused, line) = *row;
     let (octets, made) = octets_of(digits);
     let mut out = Vec::new(alloc);
-    let Ok(dictionary) = Dictionary::base(alloc) else {
+    let Ok(glossary) = Glossary::base(alloc) else {
         return false;
     };
-    put_json(&mut out, &dictionary, number, offset, &octets[..made]) == Ok(refused)
+    put_json(&mut out, &glossary, number, offset, &octets[..made]) == Ok(refused)
         && out.as_slice() == line.as_bytes()
 }
 

@@ -1,6 +1,6 @@
 //! Members of an AVP's data by its type: the expected ones are those of the standards, or worked out by hand.
 
-use dia_dict::Dictionary;
+use dia_show::Glossary;
 use msg_json::put_json;
 use std::alloc::Global;
 use std::test::Fail;
@@ -17,11 +17,11 @@ fn message_with(code: u32, data: &[u8], octets: &mut [u8; 64]) -> usize {
 }
 
 /// Whether the line of such a message has these members behind the AVP's type.
-fn says(alloc: Global, dictionary: &Dictionary, code: u32, data: &[u8], members: &str) -> bool {
+fn says(alloc: Global, glossary: &Glossary, code: u32, data: &[u8], members: &str) -> bool {
     let mut octets = [0u8; 64];
     let length = message_with(code, data, &mut octets).min(64);
     let mut out = Vec::new(alloc);
-    if put_json(&mut out, dictionary, 1, 0, &octets[..length]).is_err() {
+    if put_json(&mut out, glossary, 1, 0, &octets[..length]).is_err() {
         return false;
     }
     match str::from_utf8(&out) {
@@ -111,9 +111,9 @@ const ROWS: &[(u32, &[u8], &str)] = &[
 ];
 
 /// The members of the first row that aren't there.
-fn wrong_row(alloc: Global, dictionary: &Dictionary) -> Option<&'static str> {
+fn wrong_row(alloc: Global, glossary: &Glossary) -> Option<&'static str> {
     for (code, data, members) in ROWS {
-        if !says(alloc, dictionary, *code, data, members) {
+        if !says(alloc, glossary, *code, data, members) {
             return Some(members);
         }
     }
@@ -122,8 +122,8 @@ fn wrong_row(alloc: Global, dictionary: &Dictionary) -> Option<&'static str> {
 
 #[test]
 fn data_say_what_their_type_is(rt: HostRuntime) -> Result<(), Fail> {
-    let dictionary = Dictionary::base(rt.alloc())?;
-    let wrong = wrong_row(rt.alloc(), &dictionary);
+    let glossary = Glossary::base(rt.alloc())?;
+    let wrong = wrong_row(rt.alloc(), &glossary);
     assert!(rt; wrong.is_none(), "{wrong:?}");
     Ok(())
 }

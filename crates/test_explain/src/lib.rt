@@ -3,6 +3,8 @@
 #![tactic(auto)]
 
 #[cfg(test)]
+mod dictionaries;
+#[cfg(test)]
 mod json_lines;
 #[cfg(test)]
 mod json_values;

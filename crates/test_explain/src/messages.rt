@@ -1,7 +1,7 @@
 //! What is said of a message: the expected lines are written by hand from its octets.
 
 use crate::octets::{BAD_SIZE, BROKEN_INSIDE, CUT, TERMINATION, UNKNOWN, octets_of};
-use dia_dict::Dictionary;
+use dia_show::Glossary;
 use msg_explain::explain;
 use std::alloc::Global;
 
@@ -13,10 +13,10 @@ fn says(alloc: Global, row: &Row) -> bool {
     let (number, offset, digits, refused, text) = *row;
     let (octets, made) = octets_of(digits);
     let mut out = Vec::new(alloc);
-    let Ok(dictionary) = Dictionary::base(alloc) else {
+    let Ok(glossary) = Glossary::base(alloc) else {
         return false;
     };
-    explain(&mut out, &dictionary, number, offset, &octets[..made]) == Ok(refused)
+    explain(&mut out, &glossary, number, offset, &octets[..made]) == Ok(refused)
         && out.as_slice() == text.as_bytes()
 }
 

@@ -2,7 +2,7 @@
 
 ghost use Rattle.std.specs.Prelude.{◌≤◌};
 
-use bench_text::decode;
+use base_text::decode;
 
 /// The octets that the digits spell, and how many they are.
 pub(crate) fn octets_of(digits: &str) -> ([u8; 256], usize)

@@ -1,6 +1,6 @@
 //! Trees of AVPs: the first fault at every level, values of credit control, missing AVPs, canonical encodings.
 
-use base_fixed::FixedList;
+use base_list::FixedList;
 use dia_avp::{AvpView, MAX_AVPS, WriteError, write_avp, write_avps};
 use dia_dict::{AvpKind, Dictionary};
 use dia_tree::{FaultView, MsgFault, canonical_avp, group_list, missing_fault, survey};

@@ -1,14 +1,19 @@
 //! Values by their type: the expected texts are those of the standards, or worked out by hand.
 
-use dia_dict::Dictionary;
-use dia_show::{put_command, put_value};
+use dia_show::{Glossary, put_command, put_value};
 use std::alloc::Global;
 use std::test::Fail;
 
 /// Whether the data of an AVP of this code has this text.
-fn says(alloc: Global, dictionary: &Dictionary, code: u32, data: &[u8], text: &str) -> bool {
+fn says(alloc: Global, glossary: &Glossary, code: u32, data: &[u8], text: &str) -> bool {
     let mut out = Vec::new(alloc);
-    put_value(&mut out, dictionary.find(code, None), data).is_ok()
+    put_value(
+        &mut out,
+        glossary,
+        glossary.definitions().find(code, None),
+        data,
+    )
+    .is_ok()
         && out.as_slice() == text.as_bytes()
 }
 
@@ -91,9 +96,9 @@ const COMMANDS: &[(u32, bool, &str)] = &[
 ];
 
 /// The first text that isn't that of its data.
-fn wrong_value(alloc: Global, dictionary: &Dictionary) -> Option<&'static str> {
+fn wrong_value(alloc: Global, glossary: &Glossary) -> Option<&'static str> {
     for (code, data, text) in ROWS {
-        if !says(alloc, dictionary, *code, data, text) {
+        if !says(alloc, glossary, *code, data, text) {
             return Some(text);
         }
     }
@@ -101,9 +106,9 @@ fn wrong_value(alloc: Global, dictionary: &Dictionary) -> Option<&'static str> {
 }
 
 /// The first date that isn't that of its time.
-fn wrong_time(alloc: Global, dictionary: &Dictionary) -> Option<&'static str> {
+fn wrong_time(alloc: Global, glossary: &Glossary) -> Option<&'static str> {
     for (data, text) in TIMES {
-        if !says(alloc, dictionary, 55, data, text) {
+        if !says(alloc, glossary, 55, data, text) {
             return Some(text);
         }
     }
@@ -128,10 +133,10 @@ fn wrong_name(alloc: Global) -> Option<&'static str> {
 
 #[test]
 fn data_times_and_commands_are_told_in_words(rt: HostRuntime) -> Result<(), Fail> {
-    let dictionary = Dictionary::base(rt.alloc())?;
-    let value = wrong_value(rt.alloc(), &dictionary);
+    let glossary = Glossary::base(rt.alloc())?;
+    let value = wrong_value(rt.alloc(), &glossary);
     assert!(rt; value.is_none(), "data: {value:?}");
-    let time = wrong_time(rt.alloc(), &dictionary);
+    let time = wrong_time(rt.alloc(), &glossary);
     assert!(rt; time.is_none(), "a time: {time:?}");
     let name = wrong_name(rt.alloc());
     assert!(rt; name.is_none(), "a command: {name:?}");

@@ -5,7 +5,7 @@ ghost use Rattle.tab_law.specs.Acts.{Permits};
 
 use crate::peer_steps::wins_the_election;
 use base_list::AddError;
-use bench_device::{Counting, Status};
+use base_device::{Counting, Status};
 use client_rules::{client_laws, register_client};
 use peer_rules::{peer_laws, register_peer};
 use role_tables::{CLIENT_TABLE, SERVER_TABLE};

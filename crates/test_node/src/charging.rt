@@ -7,7 +7,7 @@ use crate::roles::Roles;
 use DeedCode::{Charge, Debit, Refund, Release, Reserve};
 use acct_totals::{Booked, Op, Outcome, Totals};
 use base_codes::{DeedCode, session_fact};
-use bench_text::number_of;
+use base_text::number_of;
 use charge_facts::answer_facts;
 use charge_message::request_message;
 use deed_message::Names;

@@ -1,6 +1,6 @@
 //! Octets typed as hexadecimal digits, and facts typed as words.
 
-use bench_text::number_of;
+use base_text::number_of;
 use std::alloc::Global;
 use std::test::Fail;
 use tab_law::PLACES;

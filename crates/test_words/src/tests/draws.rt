@@ -1,5 +1,5 @@
 //! What drawing a table's text prints.
-use bench_device::{Counting, Status};
+use base_device::{Counting, Status};
 use std::alloc::Global;
 use tab_draw::draw_on;
 

@@ -1,5 +1,5 @@
 //! What assembling a table's text prints, and listing an image's.
-use bench_device::{Counting, Status};
+use base_device::{Counting, Status};
 use image_text::{assemble_on, list_on};
 use role_tables::all_laws;
 use std::test::Fail;

@@ -1,5 +1,5 @@
 //! Inputs that are read whole, and why one is not.
-use bench_device::{Counting, FileSource, InputError, Inputs, Status, read_input, tell_unread};
+use base_device::{Counting, FileSource, InputError, Inputs, Status, read_input, tell_unread};
 use std::alloc::Global;
 use std::test::Fail;
 

@@ -1,5 +1,5 @@
 //! What a walk prints.
-use bench_device::{Counting, Status};
+use base_device::{Counting, Status};
 use std::alloc::Global;
 use std::test::Fail;
 use tab_call::{Ask, Do, Registry, StoredAct, StoredGuard};

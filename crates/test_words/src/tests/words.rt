@@ -1,6 +1,6 @@
 //! What words ask for, over a reader and a writer in memory.
-use bench_device::{Counting, Inputs};
-use bench_run::main_on;
+use base_device::{Counting, Inputs};
+use cmd_run::main_on;
 use role_tables::PEER_TABLE;
 use std::test::Fail;
 
@@ -60,6 +60,16 @@ fn words_ask_for_a_text_or_an_input_or_are_refused(rt: HostRuntime) -> Result<()
             "wanted at most one of: --explain, --json",
         ),
         (["dbench", "read", "--fast"].as_slice(), 2, "Usage: dbench"),
+        (
+            ["dbench", "read", "--dict"].as_slice(),
+            2,
+            "a value is required for '--dict <DICT>'",
+        ),
+        (
+            ["dbench", "read", "--dict", "no/such.dict"].as_slice(),
+            3,
+            "read fault: no/such.dict can't be opened\n",
+        ),
         (["dbench", "walk", "--help"].as_slice(), 0, "KIND N=V .."),
         (
             ["dbench", "walk", "--names"].as_slice(),

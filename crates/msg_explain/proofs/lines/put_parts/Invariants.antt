@@ -7,4 +7,4 @@ use Rattle.msg_explain.proofs.lines.put_parts.Given as goal
 
 -- the parts so far have their lines
 abbrev pub invariant-loop-part : goal.invariant-loop-part
-invariant-loop-part l = l.out.items ≡ l.initial.out.items ++ flat_map (part_line (known l.dictionary)) (map seen_part (take l.part-index l.parts))
+invariant-loop-part l = l.out.items ≡ l.initial.out.items ++ flat_map (part_line l.glossary.namings (known l.glossary.definitions)) (map seen_part (take l.part-index l.parts))

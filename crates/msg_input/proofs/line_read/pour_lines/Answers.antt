@@ -2,7 +2,7 @@ use Rattle.std.proofs.Common.{◌<◌, ◌≤◌, ◌++◌, ◌∙◌, [], List,
 use Rattle.std.specs.Io.KnownBytes.{Consumes, IsAtEnd}
 use Rattle.std.proofs.lemmas.List.{append-nil}
 use Rattle.std.proofs.KnownBytes.{Appends-trans, Consumes-trans}
-use Rattle.bench_device.specs.declared.device.DeviceFailed.{DeviceFailed}
+use Rattle.base_device.specs.declared.device.DeviceFailed.{DeviceFailed}
 use Rattle.msg_input.proofs.EndLemmas.{Consumes-given, Consumes-none, EndsBy-last, IsAtEnd-given}
 use Rattle.msg_input.proofs.ByLineLemmas.{AreLinesOf-at_end, AreLinesOf-taken, IsLast-end_of}
 use Rattle.msg_input.proofs.ReadLemmas.{front_is_no_longer}
@@ -34,7 +34,7 @@ returns-in-Ok-Some-eq0-clause-report g c =
       written = written;
       read = rw append-nil at (Consumes-trans _ _ _ read [] c.reads.invariant.8 last);
       taken = c.reads.invariant.9;
-      printed = AreLinesOf-at_end g.M.Manner.Says g.M.Manner.line_text _ c.end.new.self read written c.end.result c.end_of.result _ at_end c.end_of.ensures (c.end.ensures read written c.reads.invariant.10);
+      printed = AreLinesOf-at_end (g.M.Manner.Says c.args.glossary.now) g.M.Manner.line_text _ c.end.new.self read written c.end.result c.end_of.result _ at_end c.end_of.ensures (c.end.ensures read written c.reads.invariant.10);
     }
 
 -- the text that came was refused
@@ -52,7 +52,7 @@ returns-in-Err-take_text-clause-report g c =
       written = written;
       read = Consumes-trans _ _ _ read (take arm.count c.read.new.buffer) c.reads.invariant.8 came;
       taken = c.reads.invariant.9;
-      printed = AreLinesOf-taken g.M.Manner.Says g.M.Manner.line_text (IsAtEnd (g.I.ByteSource.remaining c.read.new.self)) c.take_text.new.self read (take arm.count c.read.new.buffer) written
+      printed = AreLinesOf-taken (g.M.Manner.Says c.args.glossary.now) g.M.Manner.line_text (IsAtEnd (g.I.ByteSource.remaining c.read.new.self)) c.take_text.new.self read (take arm.count c.read.new.buffer) written
           (place_of c.take_text.new.self.reading) few (c.in-Err-take_text.ensures.taken read written c.reads.invariant.10);
     }
 
@@ -79,5 +79,5 @@ reads-preserved g c =
       written ++ lines,
       Consumes-trans _ _ _ read (take arm.count c.read.new.buffer) c.reads.invariant.8 came,
       Appends-trans _ _ _ written lines c.reads.invariant.9 whole.appended,
-      c.clear.ensures.so_far (read ++ take arm.count c.read.new.buffer) written (c.in_default.ensures.taken read written c.reads.invariant.10),
+      c.clear.ensures.so_far c.args.glossary.now (read ++ take arm.count c.read.new.buffer) written (c.in_default.ensures.taken read written c.reads.invariant.10),
     )

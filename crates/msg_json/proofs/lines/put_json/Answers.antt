@@ -8,11 +8,13 @@ use Rattle.msg_json.proofs.lines.put_json.Goals as goal
 pub returns-in-Ok : goal.returns-in-Ok
 returns-in-Ok c =
     let put = c.in_ok-put_message-in-Ok.ensures in
-    (put.0, record { answer = Ok c.in-Ok.field-0; reading = c.in-Ok.ensures.reading; is_refused = refl; is_line = put.1 }, put.2)
+    let read = rw c.definitions-dictionary.ensures at c.in-Ok.ensures.reading in
+    (put.0, record { answer = Ok c.in-Ok.field-0; reading = read; is_refused = refl; is_line = put.1 }, put.2)
 
 -- the line of the first fault
 pub returns : goal.returns
 returns c =
     let put = c.in_ok-put_message-in-Err-Fault.ensures in
-    let read = subst (λ (e : MsgError). UnlessNoMemory (Err e) (IsReading (known c.args.dictionary.now) c.args.octets.now)) c.in-Err-Fault.field-0-is c.in-Err-Fault.ensures.reading in
+    let first = rw c.definitions-dictionary.ensures at c.in-Err-Fault.ensures.reading in
+    let read = subst (λ (e : MsgError). UnlessNoMemory (Err e) (IsReading (known c.args.glossary.now.definitions) c.args.octets.now)) c.in-Err-Fault.field-0-is first in
     (put.0, record { answer = Err c.in-Err-Fault.fault; reading = read; is_refused = refl; is_line = put.1 }, put.2)

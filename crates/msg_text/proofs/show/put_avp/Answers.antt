@@ -1,6 +1,6 @@
 use Rattle.std.proofs.Common.{◌≡◌, ◌++◌, codes, decimal}
 use Rattle.dia_avp.specs.View.{seen}
-use Rattle.bench_text.specs.Contents.{content_text}
+use Rattle.base_text.specs.Contents.{content_text}
 use Rattle.msg_text.specs.Lines.{avp_name, printed_length}
 use Rattle.msg_text.proofs.Puts.{OnOk-put, four_behind}
 use Rattle.msg_text.proofs.show.put_avp.Goals as goal

@@ -1,5 +1,5 @@
 use Rattle.bench_line.specs.Talk.{meaning}
-use Rattle.bench_line.proofs.CallLemmas.{came-stands, came-ended, undone, posted}
+use Rattle.bench_line.proofs.CallLemmas.{came-stands, came-ended, lifted_kept, undone, posted}
 use Rattle.bench_line.proofs.lines.Lines.came.Goals as goal
 
 pub returns-clause-stands : goal.returns-clause-stands
@@ -22,4 +22,9 @@ returns-clause-posted g c =
 pub returns-clause-undone : goal.returns-clause-undone
 returns-clause-undone g c =
     rw (← c.self.view_is) (undone c.self.inside.lines.items c.args.line c.in_ok-place.place c.index_mut-at.result.now c.receive.new.self c.in_ok-ended.before
+    (rw (← c.self.view_is) at c.in_ok-place.ensures.ok) c.index_mut-at.ensures.value c.in_ok-ended.ensures.undone)
+
+pub returns-clause-lifted : goal.returns-clause-lifted
+returns-clause-lifted g c =
+    rw (← c.self.view_is) (lifted_kept c.self.inside.lines.items c.args.line c.in_ok-place.place c.index_mut-at.result.now c.receive.new.self c.in_ok-ended.before
     (rw (← c.self.view_is) at c.in_ok-place.ensures.ok) c.index_mut-at.ensures.value c.in_ok-ended.ensures.undone)

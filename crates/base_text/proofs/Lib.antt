@@ -1,0 +1,4 @@
+pub mod Meaning
+pub mod HexText
+pub mod NumberLemmas
+mod DigitLemmas

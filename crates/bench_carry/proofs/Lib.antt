@@ -1,0 +1,6 @@
+pub mod PartLemmas
+pub mod LiftLemmas
+pub mod HandLemmas
+pub mod DropLemmas
+pub mod TimerLemmas
+pub mod BackLemmas

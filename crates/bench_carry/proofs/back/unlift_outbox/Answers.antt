@@ -1,0 +1,12 @@
+use Rattle.std.proofs.Common.{ap, sym}
+use Rattle.bench_queue.specs.Outbox.{unlifted_one}
+use Rattle.bench_carry.proofs.BackLemmas.{views-past, views-within}
+use Rattle.bench_carry.proofs.back.unlift_outbox.Goals as goal
+
+pub returns-then-place-outboxes : goal.returns-then-place-outboxes
+returns-then-place-outboxes c =
+    views-within c.args.outboxes.now c.args.place c.unlift.new.self _ unlifted_one
+    c.if-place-outboxes.true (ap (λ o. o.view) c.unlift.ensures)
+
+pub returns-else-place-outboxes : goal.returns-else-place-outboxes
+returns-else-place-outboxes c = sym (views-past c.args.outboxes.now c.args.place unlifted_one c.if-place-outboxes.false)

@@ -1,0 +1,6 @@
+pub mod Seen
+pub mod Undone
+pub mod Placed
+pub mod Hands
+pub mod Dropped
+pub mod Parts

@@ -1,0 +1,14 @@
+use Rattle.std.proofs.Common.{◌≡◌, ◌∙◌, ap, subst}
+use Rattle.bench_item.specs.declared.step.Step.TheVariants as steps
+use Rattle.bench_spec.specs.Refusal.{refusal}
+use Rattle.bench_core.specs.Faults.{line_fault_or}
+use Rattle.bench_core.specs.Inside.{paused_in, settings_in, stored_in}
+use Rattle.bench_core.proofs.LineFaults.{came-log, full-log}
+use Rattle.bench_core.proofs.keeping.Core.came_fault.Goals as goal
+
+pub returns : goal.returns
+returns c piece =
+    let w = c.self.inside in
+    subst (λ run. c.line_fault_or.result ≡ refusal run.settings run.log run.paused (steps.Came c.args.line piece)) c.self.view_is
+    (c.line_fault_or.ensures ∙ ap (λ f. line_fault_or f c.is_full-full.result) c.came_fault-fault.ensures ∙ ap (line_fault_or _) (c.is_full-full.ensures ∙ full-log w.log.entries)
+    ∙ came-log (settings_in w) w.log.entries (paused_in w) (stored_in w) c.args.line piece c.self.invariant.whole.tied)

@@ -1,0 +1,11 @@
+use Rattle.std.proofs.Common.{◌≡◌, ◌∙◌, subst}
+use Rattle.bench_spec.specs.Sent.{sent}
+use Rattle.bench_views.proofs.LineViews.{sent_on-log}
+use Rattle.bench_core.specs.Inside.{settings_in}
+use Rattle.bench_core.proofs.keeping.Core.sent.Goals as goal
+
+pub returns : goal.returns
+returns c =
+    let w = c.self.inside in
+    subst (λ run. c.sent.result.now ≡ sent run.settings run.log c.args.line) c.self.view_is
+    (c.sent.ensures ∙ sent_on-log (settings_in w) w.lines.lines w.log.entries c.args.line c.self.invariant.whole.tied.lines)

@@ -1,0 +1,9 @@
+pub mod Entries
+pub mod Whole
+pub mod Inside
+pub mod Working
+pub mod Faults
+pub mod Firings
+pub mod Carrying
+pub mod Starting
+pub mod Replaying

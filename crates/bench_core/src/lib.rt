@@ -1,0 +1,41 @@
+//! The whole bench in one value, but its callbacks.
+//!
+//! | File | What it has |
+//! |---|---|
+//! | `keeping` | all of a world but its callbacks |
+//! | `looks` | what a world shows |
+//! | `refusal`, `told`, `carry_faults` | why a step is refused |
+//! | `room`, `entries` | room for one more entry and its record; entries that carry nothing and move nothing |
+//! | `opening`, `parts` | a world is opened, and each of its parts |
+//! | `tell` | a desk tells a machine an event |
+//! | `lines` | what happens to connections |
+//! | `fire` | a timer fires |
+//! | `carry` | an item is lifted from a source, or dropped where it is for |
+//! | `work` | a shard handles its oldest item |
+//! | `back` | the last step is taken back |
+//! | `pause` | a shard is paused, and goes on |
+//! | `step` | a step is taken, or refused |
+//! | `replay` | an entry is added as it is |
+#![tactic(auto)]
+
+mod back;
+mod carry;
+mod carry_faults;
+mod entries;
+mod fire;
+mod keeping;
+mod lines;
+mod looks;
+mod opening;
+mod parts;
+mod pause;
+mod refusal;
+mod replay;
+mod room;
+mod step;
+mod tell;
+mod told;
+mod work;
+
+pub use keeping::Core;
+pub use replay::ReplayError;

@@ -1,0 +1,4 @@
+pub mod Given
+pub mod Faults
+pub mod Openable
+pub mod Kinds

@@ -1,5 +1,0 @@
-use Rattle.bench_text.proofs.Meaning.{Means-one}
-use Rattle.bench_text.proofs.digits.one_meaning.Goals as goal
-
-pub returns : goal.returns
-returns c = Means-one

@@ -1,5 +1,0 @@
-use Rattle.bench_text.proofs.Meaning.{Means-append}
-use Rattle.bench_text.proofs.digits.parts_mean_the_whole.Goals as goal
-
-pub returns : goal.returns
-returns c = Means-append

@@ -1,7 +1,0 @@
-use Rattle.std.proofs.Common.{ap, ◌∙◌}
-use Rattle.std.proofs.lemmas.Result.{IfOk-weaker}
-use Rattle.clap.specs.Words.{app_of, with_rule}
-use Rattle.bench_words.proofs.commands.with_option.Goals as goal
-
-pub returns-clause-app : goal.returns-clause-app
-returns-clause-app c = IfOk-weaker c.with.result _ _ (λ r is. is ∙ ap (with_rule (app_of c.args.command)) c.option.ensures.rule) c.with.ensures.app

@@ -1,0 +1,100 @@
+//! A world: all of a bench in one value.
+ghost use Rattle.std.specs.Prelude.{◌≡◌, [], None, IfOk, IfErr, IsFalse, IsTrue, OnOk, OnErr, false, map, nat_lt, replicate, slice_set, true};
+ghost use Rattle.bench_open.specs.Given.{config_of};
+ghost use Rattle.bench_open.specs.Faults.{IsOpeningError};
+ghost use Rattle.bench_spec.specs.Opening.{opening_refusal, settings_of};
+ghost use Rattle.bench_spec.specs.Taken.{GoesBackTo, Takes, fault_of, opened, with_paused};
+
+use bench_core::Core;
+use bench_item::{Step, StepFault};
+use bench_open::Config;
+use bench_spec::OpeningError;
+use std::alloc::Global;
+use tab_call::Registry;
+use tab_step::Stepped;
+
+/// A bench: peers, sessions, connections, account book, timers and log in one value. A contract sees `core`: what it was opened with, its
+/// log, and which shards are paused; all else is what the log says (`docs/WHOLE.md`).
+///
+/// In: `step`, `back`, `pause`, `resume`. Looks: those of `core`.
+pub struct World {
+    pub core: Core,
+    registries: Vec<Registry>,
+    // Where a move is decided.
+    room: Box<Stepped>,
+    ghost laws: { map (λ r. r.book) registries.items ≡ replicate core.settings.node.shards core.settings.node.laws },
+}
+
+// A derived `drop` is proved anew in each crate that holds a world; this one is a call.
+impl Drop for World {
+    fn drop(self) {
+        let World {
+            core,
+            registries,
+            room,
+        } = self;
+    }
+}
+
+impl World {
+    /// A bench that is opened with this, and with a registry for each shard, all of the same laws. Why it isn't: the first that holds of
+    /// too many or too few parts, a name that is none or twice, laws that differ or lack a kind, a name in a table that the laws lack, an
+    /// account that can't be opened; and memory.
+    pub fn new(
+        alloc: Global,
+        config: Config,
+        registries: Vec<Registry>,
+    ) -> Result<World, OpeningError>
+        ensures ok { IfOk result (λ w. (opening_refusal (config_of config (map (λ r. r.book) registries.items)) ≡ None)
+            × (w.core ≡ opened (settings_of (config_of config (map (λ r. r.book) registries.items))))) }
+        ensures fault { IfErr result (IsOpeningError (config_of config (map (λ r. r.book) registries.items))) }
+    {
+        let core = match Core::new(alloc, config, &registries) {
+            Ok(core) => core,
+            Err(error) => return Err(error),
+        };
+        match Box::new(alloc, Stepped::new()) {
+            Ok(room) => Ok(World {
+                core,
+                registries,
+                room,
+            }),
+            Err(_) => Err(OpeningError::NoMemory),
+        }
+    }
+
+    /// Takes a step, or refuses it: for the first of its reasons, and for memory only where there is none. A refused step changes nothing.
+    pub fn step(&mut self, step: Step) -> Result<(), StepFault>
+        ensures ok { OnOk result (Takes self.old.core self.new.core step) }
+        ensures fault { IfErr result (λ f. f ≡ fault_of self.old.core step) }
+        ensures err { OnErr result (self.new.core ≡ self.old.core) }
+    {
+        self.core.step(&self.registries, step, &mut self.room)
+    }
+
+    /// Takes the last step back, where one was taken; says whether. Which shards are paused stays. Asks no callback and takes no memory.
+    pub fn back(&mut self) -> bool
+        ensures ok { IsTrue result → GoesBackTo self.old.core self.new.core }
+        ensures none { IsFalse result → (self.old.core.log ≡ []) × (self.new.core ≡ self.old.core) }
+    {
+        self.core.back()
+    }
+
+    /// A shard stops: it handles nothing until it goes on. Says whether there is one of that number. Takes no memory.
+    pub fn pause(&mut self, shard: u32) -> bool
+        ensures there { result ≡ nat_lt shard self.old.core.settings.node.shards }
+        ensures paused { IsTrue result → self.new.core ≡ with_paused self.old.core (slice_set self.old.core.paused shard true) }
+        ensures none { IsFalse result → self.new.core ≡ self.old.core }
+    {
+        self.core.pause(shard)
+    }
+
+    /// A shard goes on. Says whether there is one of that number. Takes no memory.
+    pub fn resume(&mut self, shard: u32) -> bool
+        ensures there { result ≡ nat_lt shard self.old.core.settings.node.shards }
+        ensures resumed { IsTrue result → self.new.core ≡ with_paused self.old.core (slice_set self.old.core.paused shard false) }
+        ensures none { IsFalse result → self.new.core ≡ self.old.core }
+    {
+        self.core.resume(shard)
+    }
+}

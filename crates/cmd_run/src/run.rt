@@ -1,0 +1,106 @@
+//! One run of the program: from words, an input and an output to a status.
+ghost use Rattle.std.specs.Prelude.{◌≡◌, ◌≢◌, ◌⊎◌, ◌<◌, ◌≤◌, ◌+◌, ◌*◌, ◌-◌, ◌^◌, [], None, map, max, option_map};
+ghost use Rattle.base_device.specs.Devices.{IsRun, Tells};
+ghost use Rattle.cmd_words.specs.Asked.{meaning};
+ghost use Rattle.cmd_read.specs.Reads.{TellsNoMemory};
+ghost use Rattle.cmd_run.specs.Runs.{IsMet};
+ghost use Rattle.cmd_words.specs.Words.{AreRefused, AskForText, wanted, word_faults};
+ghost use Rattle.cmd_run.specs.Ends.{AsksInVain, no_words_status, no_words_text};
+
+use crate::asm::assemble;
+use crate::draw::draw;
+use crate::list::list;
+use crate::walk::{tell_names, tell_table, walk};
+use base_device::{ByteSink, FileSource, MAX_IDLE_WRITES, MAX_READS, Status, tell};
+use cmd_read::read;
+use cmd_words::{Asked, NoWords, Task, WordsError, parse_words};
+use std::alloc::Global;
+use std::convert::AsStr;
+
+/// Tells why there are no words: memory ran out, or they aren't understood since one of them isn't UTF-8.
+pub fn tell_no_words<O: ByteSink>(why: NoWords, sink: &mut O) -> Status
+    requires idle { O.idle sink.old ≡ 0 }
+    requires failures { O.failures sink.old < 2 ^ 64 - 1 }
+    ensures told { Tells O.contents O.failures O.idle sink.old sink.new (no_words_text why) (no_words_status why) result }
+    ensures row { O.most_idle sink.new ≤ max (O.most_idle sink.old) MAX_IDLE_WRITES }
+{
+    match why {
+        NoWords::NoMemory => tell(sink, b"no memory\n", Status::NoMemory),
+        NoWords::NotText => tell(sink, b"a word isn't UTF-8\n", Status::Usage),
+    }
+}
+
+/// Does what a command asks for.
+fn run<I: FileSource, O: ByteSink>(
+    alloc: Global,
+    task: Task<'_>,
+    source: &mut I,
+    sink: &mut O,
+) -> Status
+    requires reads { I.reads source.old + 2 * MAX_READS < 2 ^ 64 }
+    requires read_failures { I.failures source.old < 2 ^ 64 - 1 }
+    requires idle { O.idle sink.old ≡ 0 }
+    requires write_failures { O.failures sink.old < 2 ^ 64 - 1 }
+    ensures reads { I.reads source.new ≤ I.reads source.old + 2 * MAX_READS }
+    ensures row { O.most_idle sink.new ≤ max (O.most_idle sink.old) MAX_IDLE_WRITES }
+    ensures run { IsRun I.reads I.failures O.failures O.idle source.old source.new sink.old sink.new result }
+    ensures met { result ≢ Status.Fault
+        → IsMet I.remaining I.reads I.failures O.contents O.failures O.idle (meaning task.entry) source.old source.new sink.old sink.new result }
+    ensures usage { result ≡ Status.Usage → AsksInVain (meaning task.entry) × (source.new ≡ source.old) }
+{
+    match task {
+        Task::Read(style, by_line, dictionary, file) => {
+            read(alloc, style, by_line, dictionary, file, source, sink)
+        }
+        Task::Walk(table, events) => walk(alloc, table, events, source, sink),
+        Task::Names => tell_names(alloc, sink),
+        Task::Table(name) => tell_table(name, sink),
+        Task::Draw(table) => draw(alloc, table, source, sink),
+        Task::Assemble(table) => assemble(alloc, table, source, sink),
+        Task::ListImage(image) => list(alloc, image, source, sink),
+        Task::Nothing(usage) => tell(sink, usage.as_bytes(), Status::Usage),
+    }
+}
+
+/// Runs the program: `words` are the command line's, the program's name first; `source` is standard input, and opens
+/// files; every text goes to `sink`.
+pub fn main_on<S: AsStr, I: FileSource, O: ByteSink>(
+    alloc: Global,
+    words: &[S],
+    source: &mut I,
+    sink: &mut O,
+) -> Status
+    requires reads { I.reads source.old + 2 * MAX_READS < 2 ^ 64 }
+    requires read_failures { I.failures source.old < 2 ^ 64 - 1 }
+    requires idle { O.idle sink.old ≡ 0 }
+    requires write_failures { O.failures sink.old < 2 ^ 64 - 1 }
+
+    // The bounds on reads, of which a walk has those of two inputs, and on writes in a row that take nothing.
+    ensures reads { I.reads source.new ≤ I.reads source.old + 2 * MAX_READS }
+    ensures row { O.most_idle sink.new ≤ max (O.most_idle sink.old) MAX_IDLE_WRITES }
+
+    // A fault comes only where a device failed or a bound was met, and a device's failure is told.
+    ensures run { IsRun I.reads I.failures O.failures O.idle source.old source.new sink.old sink.new result }
+
+    // Words are refused only where something is wrong with them, or they ask for nothing that is there, and then nothing
+    // is read.
+    ensures usage { result ≡ Status.Usage
+        → (AreRefused (map S.text words.now) ⊎ ((word_faults (map S.text words.now) ≡ []) × AsksInVain (wanted (map S.text words.now))))
+        × (source.new ≡ source.old) }
+
+    // Where the words are a command, what it asks for is done, or there is no memory to understand them.
+    ensures met { result ≢ Status.Fault → word_faults (map S.text words.now) ≡ []
+        → IsMet I.remaining I.reads I.failures O.contents O.failures O.idle (wanted (map S.text words.now)) source.old source.new sink.old sink.new result
+        ⊎ ((source.new ≡ source.old) × TellsNoMemory O.contents O.failures O.idle sink.old sink.new result) }
+
+    // It is done only where they ask for a text or are a command; input is refused only where they are a command.
+    ensures done { result ≡ Status.Done → AskForText (map S.text words.now) ⊎ (word_faults (map S.text words.now) ≡ []) }
+    ensures refused { result ≡ Status.Refused → word_faults (map S.text words.now) ≡ [] }
+{
+    match parse_words(alloc, words) {
+        Ok(Asked::Task(task)) => run(alloc, task, source, sink),
+        Ok(Asked::Text(text)) => tell(sink, text.as_bytes(), Status::Done),
+        Err(WordsError::Refused(text)) => tell(sink, text.as_bytes(), Status::Usage),
+        Err(WordsError::NoMemory) => tell(sink, b"no memory\n", Status::NoMemory),
+    }
+}

@@ -1,0 +1,11 @@
+use Rattle.std.proofs.Common.{ap, ◌∙◌}
+use Rattle.clap.specs.Words.{rule_of}
+use Rattle.clap.specs.declared.builder.arg.Arg.{Arg}
+use Rattle.cmd_words.proofs.commands.value.Goals as goal
+
+-- no rule speaks of the help
+pub returns-clause-rule : goal.returns-clause-rule
+returns-clause-rule c = ap (λ (a : Arg). rule_of a) c.help.ensures ∙ c.new.ensures.rule
+
+pub returns-clause-local : goal.returns-clause-local
+returns-clause-local c = ap (λ (a : Arg). a.global) c.help.ensures ∙ c.new.ensures.optional.1

@@ -1,0 +1,109 @@
+-- Which words on the command line are understood, in the words of `clap`, and what they ask for.
+use Rattle.std.specs.Prelude.{◌≢◌, ◌⊎◌, Bool, true, false, List, Option, Some, None, codes, if◌then◌else◌}
+use Rattle.std.specs.Option.{option_map_or}
+use Rattle.std.specs.Str.{bytes_eq}
+use Rattle.clap.specs.Words.{App, IsAmong, Kinds, Row, Rule, Text, fault_of, first_of, new_app, new_rule, subcommand_of, with_rule, with_subcommand}
+use Rattle.clap.specs.Simple.{on_top}
+use Rattle.clap.specs.declared.builder.action.ArgAction.TheVariants.{SetTrue}
+use Rattle.clap.specs.declared.error.kind.ErrorKind.{ErrorKind}
+use Rattle.clap.specs.declared.error.kind.ErrorKind.TheVariants.{DisplayHelp, DisplayVersion}
+use Rattle.msg_input.specs.declared.style.Style.{Style}
+use Rattle.msg_input.specs.declared.style.Style.TheVariants.{Plain, Explained, Json}
+
+-- a flag, whose name is also its identifier
+abbrev pub flag_rule : Text → Rule
+flag_rule name = record (new_rule name) { long = Some name; action = Some SetTrue }
+
+-- an option with a value
+abbrev pub option_rule : (id name : Text) → Rule
+option_rule id name = record (new_rule id) { long = Some name }
+
+-- `read`, with one FILE at most, with each of these flags or without, and with the file of a dictionary or without
+abbrev pub read_app : App
+read_app = with_rule (with_rule (with_rule (with_rule (with_rule (new_app (codes "read")) (new_rule (codes "FILE"))) (flag_rule (codes "explain"))) (flag_rule (codes "json"))) (flag_rule (codes "lines"))) (option_rule (codes "DICT") (codes "dict"))
+
+-- `walk`, with TABLE and EVENTS, or `--names`, or `--table NAME`
+abbrev pub walk_app : App
+walk_app = with_rule (with_rule (with_rule (with_rule (new_app (codes "walk")) (new_rule (codes "TABLE"))) (new_rule (codes "EVENTS"))) (flag_rule (codes "names"))) (option_rule (codes "NAME") (codes "table"))
+
+-- `draw`, with one TABLE at most
+abbrev pub draw_app : App
+draw_app = with_rule (new_app (codes "draw")) (new_rule (codes "TABLE"))
+
+-- `asm`, with one TABLE at most
+abbrev pub asm_app : App
+asm_app = with_rule (new_app (codes "asm")) (new_rule (codes "TABLE"))
+
+-- `list`, with one FILE at most
+abbrev pub list_app : App
+list_app = with_rule (new_app (codes "list")) (new_rule (codes "FILE"))
+
+-- `dbench`, with a version, of which a command is required: `read` and `walk`
+abbrev pub walking_app : App
+walking_app =
+    with_subcommand (with_subcommand (on_top (λ s. record s { has_version = true; subcommand_required = true }) (new_app (codes "dbench"))) read_app.top) walk_app.top
+
+-- the same, and what else is done with a table and with its image: `draw`, `asm` and `list`
+abbrev pub dbench_app : App
+dbench_app = with_subcommand (with_subcommand (with_subcommand walking_app draw_app.top) asm_app.top) list_app.top
+
+-- what is wrong with the words, or which text they ask for; nothing where they are a command
+unfoldable pub word_faults : List Text → Kinds
+word_faults words = fault_of dbench_app words
+
+-- what a command asks for: messages in a style, each line by itself or not, by the dictionary of a file or without one, of this file or of standard input; a walk of a table
+-- over events of a file or of standard input; the names that tables may use; the table of a role; the graph or the image of a table
+-- of a file or of standard input; what such an image holds, in words; or not one thing
+pub data Wanted : Type 0 where
+  Read : Style → Bool → (dictionary file : Option Text) → Wanted
+  Walk : Text → Option Text → Wanted
+  Names : Wanted
+  Table : Text → Wanted
+  Draw : Option Text → Wanted
+  Assemble : Option Text → Wanted
+  ListImage : Option Text → Wanted
+  Nothing : Wanted
+
+-- what `walk` asks for: by its flag, NAME, TABLE and EVENTS
+abbrev pub walk_wanted : Bool → (role table events : Option Text) → Wanted
+walk_wanted true None None None = Names
+walk_wanted false (Some role) None None = Table role
+walk_wanted false None (Some table) events = Walk table events
+walk_wanted flag role table events = Nothing
+
+-- a flag that was given has this value
+abbrev pub is_given : Option Text → Bool
+is_given value = option_map_or (λ text. bytes_eq text (codes "true")) value false
+
+-- what `read` asks for: by its flags `explain` and `json`, of which one at most makes sense, `lines`, the file of a dictionary, and FILE
+abbrev pub read_wanted : (explain json by_line : Bool) → (dictionary file : Option Text) → Wanted
+read_wanted false false by_line dictionary file = Read Plain by_line dictionary file
+read_wanted true false by_line dictionary file = Read Explained by_line dictionary file
+read_wanted false true by_line dictionary file = Read Json by_line dictionary file
+read_wanted true true by_line dictionary file = Nothing
+
+-- what a command asks for, by its name and what stands behind it
+abbrev pub wanted_of : Option (Text × List Row) → Wanted
+wanted_of None = Read Plain false None None
+wanted_of (Some used) =
+    if bytes_eq used.0 (codes "draw") then Draw (first_of (codes "TABLE") used.1)
+    else if bytes_eq used.0 (codes "asm") then Assemble (first_of (codes "TABLE") used.1)
+    else if bytes_eq used.0 (codes "list") then ListImage (first_of (codes "FILE") used.1)
+    else if bytes_eq used.0 (codes "walk")
+    then walk_wanted (is_given (first_of (codes "names") used.1)) (first_of (codes "NAME") used.1) (first_of (codes "TABLE") used.1) (first_of (codes "EVENTS") used.1)
+    else read_wanted (is_given (first_of (codes "explain") used.1)) (is_given (first_of (codes "json") used.1)) (is_given (first_of (codes "lines") used.1)) (first_of (codes "DICT") used.1) (first_of (codes "FILE") used.1)
+
+-- what the words ask for, where they are a command
+unfoldable pub wanted : List Text → Wanted
+wanted words = wanted_of (subcommand_of dbench_app words)
+
+-- the words ask for help or for the version
+abbrev pub AskForText : List Text → Type 0
+AskForText words = IsAmong DisplayHelp (word_faults words) ⊎ IsAmong DisplayVersion (word_faults words)
+
+-- something is wrong with the words
+pub record AreRefused (words : List Text) : Type 0 where
+  pub kind : ErrorKind
+  pub among : IsAmong kind (word_faults words)
+  pub no_help : kind ≢ DisplayHelp
+  pub no_version : kind ≢ DisplayVersion

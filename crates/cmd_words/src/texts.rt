@@ -1,0 +1,134 @@
+//! What is told of the words: help and usage.
+
+pub(crate) const ABOUT: &str = "A test bench for Diameter (RFC 6733) online charging (RFC 8506)";
+
+pub(crate) const READ_ABOUT: &str = "Read Diameter messages in hexadecimal and print them";
+
+pub(crate) const READ_LONG_ABOUT: &str = "\
+Read Diameter messages in hexadecimal and print them.
+
+Takes digits of either case, two for each octet; blanks and newlines between them don't count. Of each
+message it prints the header, the AVPs (code, /vendor, flags, length, data) and the octets of its encoding;
+of a faulty one `fault` with the Result-Code and the failed AVP. It stops at a `frame fault` (1: the version
+isn't 1, 2: the length is below 20, no multiple of 4 or over 4096) and at `bad hex`.
+
+With --explain it says in names what each message holds: the octet of the input at which it begins, its header and
+session, and each AVP in the order of the octets, those of a group indented below it: the octet of the message at which
+it begins, code, name, flags, length and value. A fault is told with its name, what is wrong in words, and which AVP at
+which octet; `bad hex` and `frame fault` with the character or octet of the input. All count from 0.
+
+With --json it says the same as objects of JSON, one in a line; docs/JSON.md lists the keys.
+
+With --lines each line is read by itself, as an input of its own, so that a bad one doesn't end the rest; its first
+message has the number of the line. `line 3: bad hex` tells the line, counted from 1.
+
+With --dict the AVPs of a dictionary are read and named too. It is a text, a line an AVP: CODE[/VENDOR] NAME KIND
+[VALUE=NAME ..], where KIND is Unsigned32, Unsigned64, Enumerated, UTF8String, DiameterIdentity, Address, Grouped, Time or
+OctetString, and a word that begins with # begins a comment. At most 200 AVPs are added. `dictionary line 3` tells the first
+line that is wrong; the line below says what was wanted, and nothing is read.
+
+  echo 0100001480000118000000000000000100000001 | dbench read
+  dbench read --explain examples/dwr.hex
+  dbench read --json examples/dwr.hex | jq .session
+  dbench read --explain --dict dictionaries/3gpp_gy.dict examples/gy/ccr_initial.hex";
+
+pub(crate) const WALK_ABOUT: &str =
+    "Step a state table or its image over events and print each step";
+
+pub(crate) const WALK_LONG_ABOUT: &str = "\
+Step a state table or its image over events and print each step.
+
+Reads TABLE, whose columns are State, Event, Action and Next, or an image of one as `asm` prints it, and then the events to
+their end. The machine starts in the first state of the table with all registers 0. Each event prints a line `KIND FROM TO row N` (rows count from 0;
+`row -` where no row takes the event, whose one deed is then Unlisted), and under it a line for each deed.
+
+A line of events is KIND N=V ..: a kind that `--names` lists, and then facts, number and value in decimal, each number
+(0 to 63) at most once; facts that aren't given are 0. Lines that are empty or begin with a blank are skipped, so a
+printed walk may be handed in again once ` FROM TO row N` is cut off.
+
+  dbench walk --table peer > peer.tbl
+  echo 'Start' | dbench walk peer.tbl
+  dbench walk peer.tbl election.events
+
+Nothing is stepped where something is wrong. `line N fault C` is the first fault of the table, `unbound NAME` a name
+of the table that `--names` doesn't list, `bad line N` the first line of events that is none, from 1; the line below
+says what was wanted. `bad hex` and `at N fault C` are what is wrong with an image; `list --help` says more. TABLE is an
+image where its first character that is no blank is a hexadecimal digit.";
+
+pub(crate) const DRAW_ABOUT: &str = "Draw a state table as a graph, for Graphviz";
+
+pub(crate) const DRAW_LONG_ABOUT: &str = "\
+Draw a state table as a graph, for Graphviz.
+
+Reads TABLE, whose columns are State, Event, Action and Next. Each state is a box, the first is that in which a machine
+starts. Each row that leaves its state is an arrow with the row's number (from 0), its kind of events and its guards; the
+rows that stay in a state stand in its box, and have one arrow together.
+
+  dbench draw peer.tbl | dot -Tsvg > peer.svg
+  dbench walk --table server | dbench draw | dot -Grankdir=LR -Tsvg > server.svg
+
+`line N fault C` is the first fault of the table; the line below says what was wanted.";
+
+pub(crate) const ASM_ABOUT: &str = "Assemble a state table to an image";
+
+pub(crate) const ASM_LONG_ABOUT: &str = "\
+Assemble a state table to an image, and print it in hexadecimal.
+
+Reads TABLE, whose columns are State, Event, Action and Next. The image (format 2) holds for each state and kind of events
+the code of its rows alone, so a step costs the rows of one state and kind and not those of the table.
+
+  dbench asm peer.tbl > peer.img
+  dbench walk --table client | dbench asm
+
+`line N fault C` is the first fault of the table, `unbound NAME` a name of the table that `walk --names` doesn't list; the
+line below says what was wanted.";
+
+pub(crate) const LIST_ABOUT: &str = "List the image of a state table in words";
+
+pub(crate) const LIST_LONG_ABOUT: &str = "\
+List the image of a state table in words.
+
+Reads FILE, an image in hexadecimal as `asm` prints it, of format 1 or 2: digits of either case, two for each octet; blanks
+and newlines between them don't count. First comes a line STATE KIND OFFSET for each state and kind of events that has rows,
+with the offset at which their code begins, then a line for each instruction of the code, with its own offset in front:
+
+  ROW R           begins row R (from 0)
+  GUARD NAME N    goes on at offset N where the guard says no
+  ACT NAME        runs the action
+  GOTO STATE      ends in that state
+  NONE            ends without a row
+
+  dbench asm peer.tbl | dbench list
+
+`bad hex` is a text that isn't digits, two for each octet. `at N fault C` is the first fault of the image, and N the octet at
+which the part begins that is wrong. C is 1: no image, 2: the image is cut off, and has N octets, 3: a number is out of range,
+4: a name is misspelled or stands there twice, 5: `walk --names` doesn't list the name, 6: no row begins at the offset and no
+code ends there, 7: a guard leads back, 8: no instruction, 9: the code doesn't end, 10: octets stand behind the code.";
+
+/// What is told where `read` asks for two styles.
+pub(crate) const READ_USAGE: &str = "\
+wanted at most one of: --explain, --json
+
+Usage: dbench read [--explain | --json] [--lines] [--dict DICT] [FILE]
+
+For more information, try '--help'.
+";
+
+/// What is told where `walk` asks for not one thing.
+pub(crate) const WALK_USAGE: &str = "\
+wanted one of: a TABLE, --names, --table NAME
+
+Usage: dbench walk TABLE [EVENTS]
+       dbench walk --names
+       dbench walk --table NAME
+
+For more information, try '--help'.
+";
+
+pub(crate) const STATUSES: &str = "\
+Exit status:
+  0  done
+  1  the input holds a fault, which is printed
+  2  these words aren't understood
+  3  a read or a write failed, or the input didn't end in 1048576 reads
+  4  no memory";

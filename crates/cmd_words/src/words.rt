@@ -1,0 +1,211 @@
+//! The words on the command line.
+ghost use Rattle.std.specs.Prelude.{◌≡◌, Some, map, option_map};
+ghost use Rattle.clap.specs.Words.{first_of, found_of, kind_of, rows_of};
+ghost use Rattle.cmd_words.specs.declared.words.WordsError.TheVariants.{NoMemory};
+ghost use Rattle.cmd_words.specs.Words.{is_given, read_wanted, walk_wanted, wanted_of};
+ghost use Rattle.cmd_words.specs.Asked.{IsAsked, IsRefusal, meaning};
+
+use crate::commands::command;
+use crate::texts::{READ_USAGE, WALK_USAGE};
+use clap::error::ErrorKind;
+use clap::{ArgMatches, Error};
+use msg_input::Style;
+use std::alloc::{AllocError, AllocFailed, AllocGlobal, Global};
+use std::convert::AsStr;
+use std::env::Env;
+use std::{env, io};
+
+/// Why there are no words.
+#[derive(Clone, Copy)]
+pub enum NoWords {
+    NoMemory,
+    /// One of them isn't UTF-8.
+    NotText,
+}
+
+fn no_words(error: &io::Error) -> NoWords {
+    match error.kind() {
+        io::ErrorKind::OutOfMemory => NoWords::NoMemory,
+        _ => NoWords::NotText,
+    }
+}
+
+/// The words that the system hands over, the program's name first.
+pub fn given_words<R: Env + AllocGlobal>(rt: &R) -> Result<Vec<String>, NoWords> {
+    match env::args(rt) {
+        Ok(words) => match words.collect(rt.alloc()) {
+            Ok(words) => Ok(words),
+            Err(AllocError) => Err(NoWords::NoMemory),
+        },
+        Err(error) => Err(no_words(&error)),
+    }
+}
+
+/// What a command asks for.
+#[derive(Clone, Copy)]
+pub enum Task<'a> {
+    /// `read` in a style, each line by itself or not, by the dictionary of a file or without one, of this file or of standard
+    /// input.
+    Read(Style, bool, Option<&'a str>, Option<&'a str>),
+    /// `walk`, of this table, over the events of this file or of standard input.
+    Walk(&'a str, Option<&'a str>),
+    /// The names that tables may use.
+    Names,
+    /// The table of the role of that name.
+    Table(&'a str),
+    /// `draw`, of the table of this file or of standard input.
+    Draw(Option<&'a str>),
+    /// `asm`, of the table of this file or of standard input.
+    Assemble(Option<&'a str>),
+    /// `list`, of the image of this file or of standard input.
+    ListImage(Option<&'a str>),
+    /// Not one thing: what is told then.
+    Nothing(&'static str),
+}
+
+/// What the words ask for.
+#[derive(Drop)]
+pub enum Asked<'a> {
+    Task(Task<'a>),
+    /// A text: help or the version.
+    Text(String),
+}
+
+/// Why the words ask for nothing.
+#[derive(Drop)]
+pub enum WordsError {
+    NoMemory,
+    /// They aren't understood, as this text says.
+    Refused(String),
+}
+
+impl From<AllocError> for WordsError {
+    ghost from_gives = { λ _ e. e ≡ NoMemory };
+
+    fn from(_e: AllocError) -> WordsError {
+        WordsError::NoMemory
+    }
+}
+
+impl<T: Drop> From<AllocFailed<T>> for WordsError {
+    ghost from_gives = { λ _ e. e ≡ NoMemory };
+
+    fn from(_e: AllocFailed<T>) -> WordsError {
+        WordsError::NoMemory
+    }
+}
+
+// The text of an error is asked for, or tells what is wrong with the words.
+fn refusal<'a>(alloc: Global, error: &Error) -> Result<Asked<'a>, WordsError>
+    ensures { IsRefusal (kind_of error.now) result }
+{
+    match error.kind() {
+        ErrorKind::OutOfMemory => Err(WordsError::NoMemory),
+        ErrorKind::DisplayHelp | ErrorKind::DisplayVersion => {
+            Ok(Asked::Text(format!(in alloc; "{error}")?))
+        }
+        _ => Err(WordsError::Refused(format!(in alloc; "{error}")?)),
+    }
+}
+
+/// Whether a flag has the value of one that was given.
+fn is_given(value: Option<&str>) -> bool
+    ensures { result ≡ is_given (option_map (λ text. text.now) value.entry) }
+{
+    match value {
+        Some(text) => text == "true",
+        None => false,
+    }
+}
+
+/// What `read` asks for, by its flags, the file of a dictionary and FILE.
+fn read_task<'a>(
+    explain: bool,
+    json: bool,
+    by_line: bool,
+    dictionary: Option<&'a str>,
+    file: Option<&'a str>,
+) -> Task<'a>
+    ensures { meaning result ≡ read_wanted explain json by_line (option_map (λ text. text.now) dictionary.entry) (option_map (λ text. text.now) file.entry) }
+{
+    match (explain, json) {
+        (false, false) => Task::Read(Style::Plain, by_line, dictionary, file),
+        (true, false) => Task::Read(Style::Explained, by_line, dictionary, file),
+        (false, true) => Task::Read(Style::Json, by_line, dictionary, file),
+        (true, true) => Task::Nothing(READ_USAGE),
+    }
+}
+
+/// What `walk` asks for, by its flag, NAME, TABLE and EVENTS.
+fn walk_task<'a>(
+    names: bool,
+    role: Option<&'a str>,
+    table: Option<&'a str>,
+    events: Option<&'a str>,
+) -> Task<'a>
+    ensures { meaning result ≡ walk_wanted names (option_map (λ text. text.now) role.entry) (option_map (λ text. text.now) table.entry) (option_map (λ text. text.now) events.entry) }
+{
+    match (names, role, table, events) {
+        (true, None, None, None) => Task::Names,
+        (false, Some(role), None, None) => Task::Table(role),
+        (false, None, Some(table), _) => Task::Walk(table, events),
+        _ => Task::Nothing(WALK_USAGE),
+    }
+}
+
+/// The value of an argument, if it has one.
+fn value_of<'a>(found: &ArgMatches<'a>, id: &str) -> Option<&'a str>
+    ensures { option_map (λ text. text.now) result ≡ first_of id.now (rows_of (found_of found.now)) }
+{
+    found.get_str(id)
+}
+
+/// What a command asks for, by its name and what stands behind it.
+fn task_of<'a>(name: &str, found: &ArgMatches<'a>) -> Task<'a>
+    ensures { meaning result ≡ wanted_of (Some (name.now, rows_of (found_of found.now))) }
+{
+    if name == "draw" {
+        return Task::Draw(value_of(found, "TABLE"));
+    }
+    if name == "asm" {
+        return Task::Assemble(value_of(found, "TABLE"));
+    }
+    if name == "list" {
+        return Task::ListImage(value_of(found, "FILE"));
+    }
+    if name == "walk" {
+        let names = is_given(value_of(found, "names"));
+        let role = value_of(found, "NAME");
+        walk_task(
+            names,
+            role,
+            value_of(found, "TABLE"),
+            value_of(found, "EVENTS"),
+        )
+    } else {
+        let explain = is_given(value_of(found, "explain"));
+        let json = is_given(value_of(found, "json"));
+        let by_line = is_given(value_of(found, "lines"));
+        read_task(
+            explain,
+            json,
+            by_line,
+            value_of(found, "DICT"),
+            value_of(found, "FILE"),
+        )
+    }
+}
+
+/// What the words ask for; the first of them is the program's name.
+pub fn parse_words<'a, S: AsStr>(alloc: Global, words: &'a [S]) -> Result<Asked<'a>, WordsError>
+    ensures { IsAsked (map S.text words.entry.now) result }
+{
+    let matches = match command(alloc)?.try_get_matches_from(words) {
+        Ok(matches) => matches,
+        Err(error) => return refusal(alloc, &error),
+    };
+    match matches.subcommand() {
+        Some((name, found)) => Ok(Asked::Task(task_of(name, found))),
+        None => Ok(Asked::Task(Task::Read(Style::Plain, false, None, None))),
+    }
+}
