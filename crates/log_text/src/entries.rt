@@ -7,8 +7,8 @@ ghost use Rattle.log_text.specs.EntryLines.{below, entry_lines, handled_lines, i
 
 use crate::book::NameBook;
 use crate::deeds::put_deed_lines;
-use bench_item::{Entry, Handled, Item, Key, MachineItem, Moved, Role, Step};
 use base_text::put_number;
+use bench_item::{Entry, Handled, Item, Key, MachineItem, Moved, Role, Step};
 use event_text::put_name;
 use std::alloc::AllocError;
 use step_text::{put_key, put_kind, write_step};

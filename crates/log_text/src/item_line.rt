@@ -11,8 +11,8 @@ ghost use Rattle.log_text.specs.ItemLines.{AreWords, IsItemLine, below, ending_o
 use crate::book::NameBook;
 use crate::entries::{put_moved, put_stale};
 use base_list::Octets;
-use bench_item::{Key, Role};
 use base_text::number_of;
+use bench_item::{Key, Role};
 use std::alloc::{AllocError, Global};
 use step_text::{StepTextError, next_key, next_kind};
 use text_parts::Pieces;

@@ -161,7 +161,11 @@ fn put_front(
         }
         Err(code) => {
             let avp = cut_avp(octets);
-            put_title(out, glossary.definitions().find(avp.code, avp.vendor), octets)?;
+            put_title(
+                out,
+                glossary.definitions().find(avp.code, avp.vendor),
+                octets,
+            )?;
             put_broken(out, code, octets)
         }
     }

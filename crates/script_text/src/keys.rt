@@ -5,8 +5,8 @@ ghost use Rattle.script_text.specs.Keys.{before, key_of, name_of, octet_of, role
 ghost use Rattle.std.specs.Prelude.{Some};
 
 use base_list::Octets;
-use bench_item::{Key, Role};
 use base_text::digit_value;
+use bench_item::{Key, Role};
 use std::alloc::{AllocError, Global};
 use step_text::is_plain;
 

@@ -5,8 +5,8 @@ ghost use Rattle.text_parts.specs.Pieces.{words_left};
 
 use crate::keys::octet_of;
 use base_list::Octets;
-use bench_item::Source;
 use base_text::number_of;
+use bench_item::Source;
 use hex::FromHexError;
 use std::alloc::{AllocError, Global};
 use text_parts::Words;

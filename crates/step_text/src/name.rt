@@ -4,8 +4,8 @@ ghost use Rattle.std.specs.Prelude.{◌≡◌, ◌++◌, IfOk, OnOk, codes};
 ghost use Rattle.std.specs.Str.{bytes_eq};
 ghost use Rattle.step_text.specs.Names.{is_plain, key_name, prefix_of, shown, shown_octet};
 
-use bench_item::{Key, Role};
 use base_text::put_hex;
+use bench_item::{Key, Role};
 use std::alloc::{AllocError, Global};
 
 /// Whether an octet stands for itself.

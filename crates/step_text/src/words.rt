@@ -7,8 +7,8 @@ ghost use Rattle.text_parts.specs.Pieces.{pieces_left};
 ghost use Rattle.step_text.specs.Guess.{facts_in, first_name, key_of, large, nibble, rest_of, role_of, small, source_of, unshown};
 
 use base_list::Octets;
-use bench_item::{Key, Role, Source};
 use base_text::number_of;
+use bench_item::{Key, Role, Source};
 use event_text::fact_of;
 use std::alloc::{AllocError, Global};
 use tab_law::PLACES;

@@ -8,8 +8,8 @@ ghost use Rattle.step_text.specs.Names.{key_name, kind_word, machine_word, names
 use crate::command::which;
 use crate::machines::Machines;
 use crate::name::{prefix_of, put_shown};
-use bench_item::{Key, Source, Step};
 use base_text::{put_content, put_number};
+use bench_item::{Key, Source, Step};
 use std::alloc::AllocError;
 use tab_law::{LawBook, PLACES};
 use tab_step::Event;

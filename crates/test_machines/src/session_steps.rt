@@ -4,8 +4,8 @@
 ghost use Rattle.tab_law.specs.Acts.{Permits};
 
 use crate::peer_steps::wins_the_election;
-use base_list::AddError;
 use base_device::{Counting, Status};
+use base_list::AddError;
 use client_rules::{client_laws, register_client};
 use peer_rules::{peer_laws, register_peer};
 use role_tables::{CLIENT_TABLE, SERVER_TABLE};
