@@ -1,5 +1,5 @@
 -- Steps one after the other; and a step, or an entry that is replayed, taken back.
-use Rattle.std.proofs.Common.{◌≡◌, List, [], ◌∷◌, ◌++◌, Bool, true, false, refl, sym, ◌∙◌, ap, subst}
+use Rattle.std.proofs.Common.{◌≡◌, List, [], ◌∷◌, ◌++◌, Bool, true, false, length, refl, sym, ◌∙◌, ap, subst}
 use Rattle.std.specs.Prelude.{IsFalse, IsTrue}
 use Rattle.bench_item.specs.declared.entry.Entry.{Entry}
 use Rattle.bench_item.specs.declared.step.Step.{Step}
@@ -28,3 +28,8 @@ pub replay-back : (old mid new : Run) (e : Entry) (b : Bool) → Replays old mid
 replay-back old mid new e true replayed back none = back_from_replay old mid new e replayed (back refl)
 replay-back old mid new e false replayed back none =
     absurd (never-empty old.log e (sym (ap (λ (r : Run). r.log) replayed.grown) ∙ (none refl).0))
+
+-- a list without items
+pub none-left : {X : Type 0} (xs : List X) → length xs ≡ 0 → xs ≡ []
+none-left [] none = refl
+none-left (x ∷ xs) none = absurd cc

@@ -77,12 +77,13 @@ impl World {
     pub fn run(&mut self, steps: Vec<Step>) -> Result<(), (usize, StepFault)>
         ensures { Runs self.old.core self.new.core steps.items result }
     {
-        let mut place = 0;
+        let count = steps.len();
+        let mut left = count;
         for step in steps {
             if let Err(fault) = self.step(step) {
-                return Err((place, fault));
+                return Err((count - left, fault));
             }
-            place += 1;
+            left -= 1;
         }
         Ok(())
     }
