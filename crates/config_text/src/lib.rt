@@ -28,6 +28,7 @@ mod part;
 mod peer;
 mod place;
 mod read;
+mod sample;
 mod told;
 
 pub use config::{RoleTables, config_of};
@@ -38,4 +39,5 @@ pub use node::{DeskConfig, Files, NodeConfig, PeerConfig, Tables};
 pub use nodes::nodes_of;
 pub use place::Place;
 pub use read::read_config;
+pub use sample::SAMPLE;
 pub use told::put_fault;
