@@ -15,3 +15,4 @@ pub mod Nodes
 pub mod Texts
 pub mod Told
 pub mod Configs
+pub mod Twice

@@ -3,7 +3,7 @@ use Rattle.std.specs.Prelude.{ℕ, ◌||◌, List, [], ◌∷◌, ◌++◌, Opti
 use Rattle.config_text.specs.declared.fault.ConfigError.{ConfigError}
 use Rattle.config_text.specs.declared.fault.ConfigError.TheVariants as errors
 use Rattle.config_text.specs.declared.fault.Wanted.{Wanted}
-use Rattle.config_text.specs.declared.fault.Wanted.TheVariants.{Text, Whole, Address, List as ListWanted, Object, Desk, Known}
+use Rattle.config_text.specs.declared.fault.Wanted.TheVariants.{Text, Whole, Address, List as ListWanted, Object, Desk, Known, Once}
 use Rattle.config_text.specs.declared.field.Field.{Field}
 use Rattle.config_text.specs.declared.field.Shape.{Shape}
 use Rattle.config_text.specs.declared.place.Place.{Place}
@@ -60,6 +60,10 @@ one_of_text shape = codes ", one of " ++ fields_text shape ++ codes " is wanted"
 unfoldable pub unknown_text : Shape → List ℕ → List ℕ
 unknown_text shape name = codes "unknown field " ++ written name ++ one_of_text shape
 
+-- a name that stands twice in one object
+unfoldable pub twice_text : List ℕ → List ℕ
+twice_text name = codes "field " ++ written name ++ codes " stands twice in one object"
+
 -- what is wanted
 unfoldable pub wanted_text : Wanted → List ℕ
 wanted_text Text = codes "a text is wanted"
@@ -69,6 +73,7 @@ wanted_text ListWanted = codes "a list is wanted"
 wanted_text Object = codes "an object is wanted"
 wanted_text Desk = codes "a list of lines is wanted, or an object with lines"
 wanted_text (Known shape name) = unknown_text shape name
+wanted_text (Once name) = twice_text name
 
 unfoldable pub not_json_text : ℕ → ℕ → List ℕ
 not_json_text line column = codes "line " ++ decimal line ++ codes " column " ++ decimal column ++ codes ": not JSON\n"

@@ -68,7 +68,12 @@ fn desk_at(alloc: Global, place: Place, value: &Value) -> Result<DeskConfig, Con
 impl Part for DeskConfig {
     ghost part_of = { desk_of };
 
-    fn read(alloc: Global, list: Place, index: u64, value: &Value) -> Result<DeskConfig, ConfigError> {
+    fn read(
+        alloc: Global,
+        list: Place,
+        index: u64,
+        value: &Value,
+    ) -> Result<DeskConfig, ConfigError> {
         desk_at(alloc, list.item(index), value)
     }
 }

@@ -25,6 +25,8 @@ pub enum Wanted {
     Desk,
     /// One of the fields of such an object; this is another's name, of which at most 32 octets are kept.
     Known { shape: Shape, name: Octets },
+    /// That a name stands once in its object; this one stands twice, and at most 32 octets of it are kept.
+    Once { name: Octets },
 }
 
 /// What is wrong in a CONFIG, and where.

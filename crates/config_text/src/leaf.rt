@@ -113,11 +113,7 @@ pub(crate) fn whole_or(
 
 /// An IPv4 address in a field.
 #[tactic(auto, unfolding(crate::specs::Leaves::address_in))]
-pub(crate) fn address_in(
-    place: Place,
-    field: Field,
-    object: &Value,
-) -> Result<[u8; 4], ConfigError>
+pub(crate) fn address_in(place: Place, field: Field, object: &Value) -> Result<[u8; 4], ConfigError>
     ensures { Answers result (address_in place field (view object.now)) }
 {
     if let Some(text) = field_of(object, field).and_then(Value::as_str) {
@@ -125,8 +121,5 @@ pub(crate) fn address_in(
             return Ok(address);
         }
     }
-    Err(ConfigError::Fault(Fault::new(
-        place.within(field),
-        Wanted::Address,
-    )))
+    Err(ConfigError::Fault(Fault::new(place.within(field), Wanted::Address)))
 }

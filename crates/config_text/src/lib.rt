@@ -17,8 +17,8 @@ mod desk;
 mod fault;
 mod field;
 mod files;
-mod joined;
 mod identity;
+mod joined;
 mod leaf;
 mod listed;
 mod node;
@@ -30,6 +30,7 @@ mod place;
 mod read;
 mod sample;
 mod told;
+mod twice;
 
 pub use config::{RoleTables, config_of};
 pub use fault::{ConfigError, Fault, Wanted};

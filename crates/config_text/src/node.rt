@@ -1,15 +1,19 @@
 //! What a node is opened with.
 
 use crate::listed::Listed;
+use base_list::Octets;
 use bench_open::Account;
 use dia_write::Identity;
-use base_list::Octets;
 
 /// What counts where a field is absent or null.
 pub const DEFAULT_SHARDS: u64 = 1;
+
 pub const DEFAULT_PAGES: u64 = 1;
+
 pub const DEFAULT_UNITS: u64 = 0;
+
 pub const DEFAULT_TURNS: u64 = 1_000_000;
+
 pub const DEFAULT_REPEAT: u64 = 1;
 
 /// A peer of a node.

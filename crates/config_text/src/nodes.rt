@@ -18,9 +18,9 @@ use crate::node::{
 use crate::object::object_of;
 use crate::part::{Part, list_in, list_or_none};
 use crate::place::Place;
+use base_list::Octets;
 use bench_open::Account;
 use dia_write::Identity;
-use base_list::Octets;
 use serde_json::Value;
 use std::alloc::Global;
 
@@ -162,7 +162,12 @@ fn node_at(alloc: Global, place: Place, node: &Value) -> Result<NodeConfig, Conf
 impl Part for NodeConfig {
     ghost part_of = { node_of };
 
-    fn read(alloc: Global, _list: Place, index: u64, value: &Value) -> Result<NodeConfig, ConfigError> {
+    fn read(
+        alloc: Global,
+        _list: Place,
+        index: u64,
+        value: &Value,
+    ) -> Result<NodeConfig, ConfigError> {
         node_at(alloc, Place::node(index), value)
     }
 }

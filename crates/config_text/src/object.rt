@@ -35,7 +35,7 @@ fn front_of(name: &[u8]) -> &[u8]
 }
 
 /// A copy of the front of a name. Takes no memory.
-fn kept_name(alloc: Global, name: &[u8]) -> Octets
+pub(crate) fn kept_name(alloc: Global, name: &[u8]) -> Octets
     ensures { result ≡ take MAX_NAME name.now }
 {
     match Octets::from_slice(alloc, front_of(name)) {

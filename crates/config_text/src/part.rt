@@ -27,11 +27,7 @@ pub(crate) trait Part: Drop {
 }
 
 /// All parts of items, or the first fault of one.
-fn parts_of<T: Part>(
-    alloc: Global,
-    list: Place,
-    items: &[Value],
-) -> Result<Listed<T>, ConfigError>
+fn parts_of<T: Part>(alloc: Global, list: Place, items: &[Value]) -> Result<Listed<T>, ConfigError>
     ensures { Answers result (parts_from (T.part_of list) 0 (items_view items.now)) }
 {
     let mut parts = Vec::new(alloc);

@@ -33,7 +33,12 @@ fn peer_at(alloc: Global, place: Place, value: &Value) -> Result<PeerConfig, Con
 impl Part for PeerConfig {
     ghost part_of = { peer_of };
 
-    fn read(alloc: Global, list: Place, index: u64, value: &Value) -> Result<PeerConfig, ConfigError> {
+    fn read(
+        alloc: Global,
+        list: Place,
+        index: u64,
+        value: &Value,
+    ) -> Result<PeerConfig, ConfigError> {
         peer_at(alloc, list.item(index), value)
     }
 }

@@ -1,6 +1,6 @@
 //! What is told of a text that gives no nodes.
 ghost use Rattle.std.specs.Prelude.{◌≡◌, ◌++◌, OnOk, codes};
-ghost use Rattle.config_text.specs.Told.{error_text, field_text, fields_text, index_text, inside_text, not_json_text, one_of_text, others_text, place_text, shown, unknown_text, wanted_text, written};
+ghost use Rattle.config_text.specs.Told.{error_text, field_text, fields_text, index_text, inside_text, not_json_text, one_of_text, others_text, place_text, shown, twice_text, unknown_text, wanted_text, written};
 
 use crate::fault::{ConfigError, Wanted};
 use crate::field::{Field, Shape};
@@ -128,6 +128,16 @@ fn put_unknown(out: &mut Vec<u8>, shape: Shape, name: &[u8]) -> Result<(), Alloc
     put_one_of(out, shape)
 }
 
+/// `field host stands twice in one object`.
+#[tactic(auto, unfolding(crate::specs::Told::twice_text))]
+fn put_twice(out: &mut Vec<u8>, name: &[u8]) -> Result<(), AllocError>
+    ensures { OnOk result (out.new.items ≡ out.old.items ++ twice_text name.now) }
+{
+    out.extend_from_slice(b"field ")?;
+    put_written(out, name)?;
+    out.extend_from_slice(b" stands twice in one object")
+}
+
 /// What is wanted.
 #[tactic(auto, unfolding(crate::specs::Told::wanted_text))]
 fn put_wanted(out: &mut Vec<u8>, wanted: &Wanted) -> Result<(), AllocError>
@@ -135,14 +145,17 @@ fn put_wanted(out: &mut Vec<u8>, wanted: &Wanted) -> Result<(), AllocError>
 {
     match wanted {
         Wanted::Text => out.extend_from_slice(b"a text is wanted"),
-        Wanted::Whole => out.extend_from_slice(b"a whole number of at most 18446744073709551615 is wanted"),
+        Wanted::Whole => out.extend_from_slice(
+            b"a whole number of at most 18446744073709551615 is wanted",
+        ),
         Wanted::Address => out.extend_from_slice(b"an IPv4 address is wanted, as 192.0.2.1"),
         Wanted::List => out.extend_from_slice(b"a list is wanted"),
         Wanted::Object => out.extend_from_slice(b"an object is wanted"),
-        Wanted::Desk => out.extend_from_slice(b"a list of lines is wanted, or an object with lines"),
-        Wanted::Known { shape, name } => {
-            put_unknown(out, *shape, name.as_slice())
-        }
+        Wanted::Desk => out.extend_from_slice(
+            b"a list of lines is wanted, or an object with lines",
+        ),
+        Wanted::Known { shape, name } => { put_unknown(out, *shape, name.as_slice()) }
+        Wanted::Once { name } => put_twice(out, name.as_slice()),
     }
 }
 
@@ -163,9 +176,7 @@ pub fn put_fault(out: &mut Vec<u8>, error: &ConfigError) -> Result<(), AllocErro
 {
     match error {
         ConfigError::NoMemory => out.extend_from_slice(b"out of memory\n"),
-        ConfigError::NotJson { line, column } => {
-            put_not_json(out, *line, *column)
-        }
+        ConfigError::NotJson { line, column } => { put_not_json(out, *line, *column) }
         ConfigError::Fault(fault) => {
             put_place(out, fault.place)?;
             out.extend_from_slice(b": ")?;

@@ -6,11 +6,13 @@ use std::test::Fail;
 
 /// A node of which only the wanted fields are there, and what it is read as.
 const LEAST: &str = "{\"nodes\": [{\"host\": \"a\", \"realm\": \"r\", \"address\": \"0.0.0.0\"}]}";
+
 const LEAST_READ: &str =
     "  a r 0.0.0.0 listens nowhere\n    1 shards, 1 pages, 0 units, 1000000 turns\n";
 
 /// The same, with null in each other field.
-const NULLS: &str = "{\"nodes\": [{\"host\": \"a\", \"realm\": \"r\", \"address\": \"0.0.0.0\", \"listen\": null, \"peers\": null, \"shards\": null, \"pages\": null, \"accounts\": null, \"default_units\": null, \"desks\": null, \"turns\": null, \"tables\": null, \"dictionary\": null}]}";
+const NULLS: &str =
+    "{\"nodes\": [{\"host\": \"a\", \"realm\": \"r\", \"address\": \"0.0.0.0\", \"listen\": null, \"peers\": null, \"shards\": null, \"pages\": null, \"accounts\": null, \"default_units\": null, \"desks\": null, \"turns\": null, \"tables\": null, \"dictionary\": null}]}";
 
 #[test]
 fn absent_fields_and_nulls_are_defaults(rt: HostRuntime) -> Result<(), Fail> {

@@ -5,7 +5,9 @@ use std::test::Fail;
 
 /// A node with these fields behind the wanted ones.
 fn node_with(alloc: std::alloc::Global, fields: &str) -> Result<String, Fail> {
-    Ok(format!(in alloc; "{{\"nodes\": [{{\"host\": \"a\", \"realm\": \"r\", \"address\": \"192.0.2.1\"{fields}}}]}}")?)
+    Ok(format!(in alloc;
+        "{{\"nodes\": [{{\"host\": \"a\", \"realm\": \"r\", \"address\": \"192.0.2.1\"{fields}}}]}}"
+    )?)
 }
 
 /// Whole texts, and the lines that tell of them.
@@ -17,11 +19,20 @@ const WHOLE: &[(&str, &str)] = &[
     ("{}", "nodes: a list is wanted\n"),
     ("{\"nodes\": null}", "nodes: a list is wanted\n"),
     ("{\"nodes\": {}}", "nodes: a list is wanted\n"),
-    ("{\"node\": []}", "CONFIG: unknown field node, one of nodes is wanted\n"),
-    ("{\"nodes\": 1, \"a\": 2}", "CONFIG: unknown field a, one of nodes is wanted\n"),
+    (
+        "{\"node\": []}",
+        "CONFIG: unknown field node, one of nodes is wanted\n",
+    ),
+    (
+        "{\"nodes\": 1, \"a\": 2}",
+        "CONFIG: unknown field a, one of nodes is wanted\n",
+    ),
     ("{\"nodes\": [1]}", "nodes[0]: an object is wanted\n"),
     ("{\"nodes\": [{}]}", "nodes[0].host: a text is wanted\n"),
-    ("{\"nodes\": [{\"host\": \"a\"}]}", "nodes[0].realm: a text is wanted\n"),
+    (
+        "{\"nodes\": [{\"host\": \"a\"}]}",
+        "nodes[0].realm: a text is wanted\n",
+    ),
     (
         "{\"nodes\": [{\"host\": \"a\", \"realm\": \"r\"}]}",
         "nodes[0].address: an IPv4 address is wanted, as 192.0.2.1\n",
@@ -46,7 +57,10 @@ fn whole_texts_are_told_of(rt: HostRuntime) -> Result<(), Fail> {
 const FIELDS: &[(&str, &str)] = &[
     (", \"listen\": 1", "nodes[0].listen: a text is wanted\n"),
     (", \"peers\": {}", "nodes[0].peers: a list is wanted\n"),
-    (", \"peers\": [\"b\"]", "nodes[0].peers[0]: an object is wanted\n"),
+    (
+        ", \"peers\": [\"b\"]",
+        "nodes[0].peers[0]: an object is wanted\n",
+    ),
     (
         ", \"peers\": [{\"host\": \"b\", \"address\": \"x\"}, {\"address\": \"x\"}]",
         "nodes[0].peers[1].host: a text is wanted\n",
@@ -59,15 +73,30 @@ const FIELDS: &[(&str, &str)] = &[
         ", \"peers\": [{\"hots\": \"b\"}]",
         "nodes[0].peers[0]: unknown field hots, one of host, address is wanted\n",
     ),
-    (", \"shards\": \"1\"", "nodes[0].shards: a whole number of at most 18446744073709551615 is wanted\n"),
-    (", \"shards\": 1.5", "nodes[0].shards: a whole number of at most 18446744073709551615 is wanted\n"),
-    (", \"shards\": -1", "nodes[0].shards: a whole number of at most 18446744073709551615 is wanted\n"),
+    (
+        ", \"shards\": \"1\"",
+        "nodes[0].shards: a whole number of at most 18446744073709551615 is wanted\n",
+    ),
+    (
+        ", \"shards\": 1.5",
+        "nodes[0].shards: a whole number of at most 18446744073709551615 is wanted\n",
+    ),
+    (
+        ", \"shards\": -1",
+        "nodes[0].shards: a whole number of at most 18446744073709551615 is wanted\n",
+    ),
     (
         ", \"pages\": 18446744073709551616",
         "nodes[0].pages: a whole number of at most 18446744073709551615 is wanted\n",
     ),
-    (", \"accounts\": 100", "nodes[0].accounts: a list is wanted\n"),
-    (", \"accounts\": [[100, 5]]", "nodes[0].accounts[0]: an object is wanted\n"),
+    (
+        ", \"accounts\": 100",
+        "nodes[0].accounts: a list is wanted\n",
+    ),
+    (
+        ", \"accounts\": [[100, 5]]",
+        "nodes[0].accounts[0]: an object is wanted\n",
+    ),
     (
         ", \"accounts\": [{\"given\": 5}]",
         "nodes[0].accounts[0].id: a whole number of at most 18446744073709551615 is wanted\n",
@@ -84,14 +113,26 @@ const FIELDS: &[(&str, &str)] = &[
         ", \"default_units\": true",
         "nodes[0].default_units: a whole number of at most 18446744073709551615 is wanted\n",
     ),
-    (", \"desks\": \"c:s;1 Begin\"", "nodes[0].desks: a list is wanted\n"),
+    (
+        ", \"desks\": \"c:s;1 Begin\"",
+        "nodes[0].desks: a list is wanted\n",
+    ),
     (
         ", \"desks\": [[], 5]",
         "nodes[0].desks[1]: a list of lines is wanted, or an object with lines\n",
     ),
-    (", \"desks\": [[\"a\", \"b\", 5]]", "nodes[0].desks[0][2]: a text is wanted\n"),
-    (", \"desks\": [{\"repeat\": 2}]", "nodes[0].desks[0].lines: a list is wanted\n"),
-    (", \"desks\": [{\"lines\": [5]}]", "nodes[0].desks[0].lines[0]: a text is wanted\n"),
+    (
+        ", \"desks\": [[\"a\", \"b\", 5]]",
+        "nodes[0].desks[0][2]: a text is wanted\n",
+    ),
+    (
+        ", \"desks\": [{\"repeat\": 2}]",
+        "nodes[0].desks[0].lines: a list is wanted\n",
+    ),
+    (
+        ", \"desks\": [{\"lines\": [5]}]",
+        "nodes[0].desks[0].lines[0]: a text is wanted\n",
+    ),
     (
         ", \"desks\": [{\"lines\": [], \"repeat\": \"2\"}]",
         "nodes[0].desks[0].repeat: a whole number of at most 18446744073709551615 is wanted\n",
@@ -100,16 +141,34 @@ const FIELDS: &[(&str, &str)] = &[
         ", \"desks\": [{\"lines\": [], \"times\": 2}]",
         "nodes[0].desks[0]: unknown field times, one of lines, repeat is wanted\n",
     ),
-    (", \"turns\": []", "nodes[0].turns: a whole number of at most 18446744073709551615 is wanted\n"),
-    (", \"tables\": \"x.tbl\"", "nodes[0].tables: an object is wanted\n"),
-    (", \"tables\": {\"peer\": 1}", "nodes[0].tables.peer: a text is wanted\n"),
-    (", \"tables\": {\"client\": 1}", "nodes[0].tables.client: a text is wanted\n"),
-    (", \"tables\": {\"server\": 1}", "nodes[0].tables.server: a text is wanted\n"),
+    (
+        ", \"turns\": []",
+        "nodes[0].turns: a whole number of at most 18446744073709551615 is wanted\n",
+    ),
+    (
+        ", \"tables\": \"x.tbl\"",
+        "nodes[0].tables: an object is wanted\n",
+    ),
+    (
+        ", \"tables\": {\"peer\": 1}",
+        "nodes[0].tables.peer: a text is wanted\n",
+    ),
+    (
+        ", \"tables\": {\"client\": 1}",
+        "nodes[0].tables.client: a text is wanted\n",
+    ),
+    (
+        ", \"tables\": {\"server\": 1}",
+        "nodes[0].tables.server: a text is wanted\n",
+    ),
     (
         ", \"tables\": {\"servers\": \"x\"}",
         "nodes[0].tables: unknown field servers, one of peer, client, server is wanted\n",
     ),
-    (", \"dictionary\": []", "nodes[0].dictionary: a text is wanted\n"),
+    (
+        ", \"dictionary\": []",
+        "nodes[0].dictionary: a text is wanted\n",
+    ),
     (
         ", \"hots\": \"b\"",
         "nodes[0]: unknown field hots, one of host, realm, address, listen, peers, shards, pages, accounts, default_units, desks, turns, tables, dictionary is wanted\n",
@@ -138,11 +197,26 @@ const FIRST: &[(&str, &str)] = &[
         ", \"tables\": {\"b\": 1, \"a\": 1}",
         "nodes[0].tables: unknown field a, one of peer, client, server is wanted\n",
     ),
-    (", \"desks\": 1, \"peers\": 1", "nodes[0].peers: a list is wanted\n"),
-    (", \"desks\": 1, \"accounts\": 1", "nodes[0].accounts: a list is wanted\n"),
-    (", \"tables\": 1, \"turns\": null, \"desks\": 1", "nodes[0].desks: a list is wanted\n"),
-    (", \"dictionary\": 1, \"listen\": 1", "nodes[0].listen: a text is wanted\n"),
-    (", \"desks\": [[5], 5]", "nodes[0].desks[0][0]: a text is wanted\n"),
+    (
+        ", \"desks\": 1, \"peers\": 1",
+        "nodes[0].peers: a list is wanted\n",
+    ),
+    (
+        ", \"desks\": 1, \"accounts\": 1",
+        "nodes[0].accounts: a list is wanted\n",
+    ),
+    (
+        ", \"tables\": 1, \"turns\": null, \"desks\": 1",
+        "nodes[0].desks: a list is wanted\n",
+    ),
+    (
+        ", \"dictionary\": 1, \"listen\": 1",
+        "nodes[0].listen: a text is wanted\n",
+    ),
+    (
+        ", \"desks\": [[5], 5]",
+        "nodes[0].desks[0][0]: a text is wanted\n",
+    ),
 ];
 
 #[test]
@@ -152,6 +226,39 @@ fn the_first_fault_is_told(rt: HostRuntime) -> Result<(), Fail> {
         let mut out = Vec::new(rt.alloc());
         put_text(&mut out, text.as_str().as_bytes())?;
         assert!(rt; out.as_slice() == line.as_bytes(), "{fields}");
+    }
+    Ok(())
+}
+
+/// Texts in which a name stands twice in one object, and the name: it is told before all else, and escapes don't count.
+const TWICE: &[(&str, &str)] = &[
+    ("{\"nodes\": [], \"nodes\": []}", "nodes"),
+    ("{\"b\": 1, \"a\": 1, \"a\": 1, \"b\": 1}", "b"),
+    (
+        "{\"nodes\": [{\"host\": \"a\", \"hos\\u0074\": \"a\"}]}",
+        "host",
+    ),
+    (
+        "{\"nodes\": [{\"peers\": [{}, {\"host\": 1, \"address\": 2, \"host\": 3}]}]}",
+        "host",
+    ),
+    (
+        "{\"nodes\": [{\"desks\": [{\"lines\": [], \"lines\": []}], \"x\": 1}]}",
+        "lines",
+    ),
+    (
+        "[[[[[[[[[{\"a\": 0, \"b\": [{\"\": 1, \"\": 2}], \"c\": {\"d\": 1, \"d\": 2}}]]]]]]]]]",
+        "",
+    ),
+];
+
+#[test]
+fn a_name_that_stands_twice_is_told(rt: HostRuntime) -> Result<(), Fail> {
+    for (text, name) in TWICE {
+        let line = format!(in rt.alloc(); "CONFIG: field {name} stands twice in one object\n")?;
+        let mut out = Vec::new(rt.alloc());
+        put_text(&mut out, text.as_bytes())?;
+        assert!(rt; out.as_slice() == line.as_str().as_bytes(), "{text}");
     }
     Ok(())
 }
@@ -173,7 +280,9 @@ const ADDRESSES: &[&str] = &[
 #[test]
 fn what_is_no_address_is_told_of(rt: HostRuntime) -> Result<(), Fail> {
     for address in ADDRESSES {
-        let text = format!(in rt.alloc(); "{{\"nodes\": [{{\"host\": \"a\", \"realm\": \"r\", \"address\": \"{address}\"}}]}}")?;
+        let text = format!(in rt.alloc();
+            "{{\"nodes\": [{{\"host\": \"a\", \"realm\": \"r\", \"address\": \"{address}\"}}]}}"
+        )?;
         let mut out = Vec::new(rt.alloc());
         put_text(&mut out, text.as_str().as_bytes())?;
         let line = "nodes[0].address: an IPv4 address is wanted, as 192.0.2.1\n";
@@ -191,6 +300,8 @@ fn of_a_long_name_the_front_is_told(rt: HostRuntime) -> Result<(), Fail> {
     assert!(rt; out.as_slice() == line.as_bytes());
     let mut out = Vec::new(rt.alloc());
     put_text(&mut out, b"{\"a\\nb~\": 1}")?;
-    assert!(rt; out.as_slice() == b"CONFIG: unknown field a?b~, one of nodes is wanted\n".as_slice());
+    assert!(rt;
+        out.as_slice() == b"CONFIG: unknown field a?b~, one of nodes is wanted\n".as_slice()
+    );
     Ok(())
 }

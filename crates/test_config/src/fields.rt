@@ -20,7 +20,8 @@ const FULL: &str = r#"{"nodes": [{
     "host": "a host whose name is longer than thirty-two octets"
 }]}"#;
 
-const FULL_READ: &str = "  a host whose name is longer than thirty-two octets  255.0.10.199 listens 0.0.0.0:0
+const FULL_READ: &str =
+    "  a host whose name is longer than thirty-two octets  255.0.10.199 listens 0.0.0.0:0
     99 shards, 0 pages, 7 units, 18446744073709551615 turns
     peer B.example [2001:db8::1]:3868
     peer  

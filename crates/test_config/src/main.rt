@@ -2,7 +2,6 @@
 //! defaults and their faults.
 #![tactic(auto)]
 
-mod print;
 #[cfg(test)]
 mod defaults;
 #[cfg(test)]
@@ -11,6 +10,7 @@ mod faults;
 mod fields;
 #[cfg(test)]
 mod opened;
+mod print;
 
 use print::put_text;
 use std::{env, fs, io};

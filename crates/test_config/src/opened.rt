@@ -8,7 +8,9 @@ use tab_text::{Table, parse};
 
 /// A table of one row, by the name of its state.
 fn table_of(alloc: Global, state: &str) -> Result<Table, Fail> {
-    let text = format!(in alloc; "  State  Event  Action  Next\n  {state}      Go     -       {state}\n")?;
+    let text = format!(in alloc;
+        "  State  Event  Action  Next\n  {state}      Go     -       {state}\n"
+    )?;
     Ok(parse(alloc, text.as_str().as_bytes()).map_err(|_| "no table")?)
 }
 

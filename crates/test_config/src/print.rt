@@ -63,7 +63,9 @@ fn put_front(out: &mut Vec<u8>, alloc: Global, node: &NodeConfig) -> Result<(), 
     put_line(out, line.as_str())?;
     let (shards, pages) = (node.shards, node.pages);
     let (units, turns) = (node.default_units, node.turns);
-    let line = format!(in alloc; "    {shards} shards, {pages} pages, {units} units, {turns} turns")?;
+    let line = format!(in alloc;
+        "    {shards} shards, {pages} pages, {units} units, {turns} turns"
+    )?;
     put_line(out, line.as_str())
 }
 
