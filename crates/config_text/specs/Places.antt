@@ -1,5 +1,5 @@
 -- Where a value stands: the whole, and from a place to one inside it.
-use Rattle.std.specs.Prelude.{ℕ, Option, Some, None, is_some, if◌then◌else◌}
+use Rattle.std.specs.Prelude.{ℕ, Some, None, is_some, if◌then◌else◌}
 use Rattle.config_text.specs.declared.field.Field.{Field}
 use Rattle.config_text.specs.declared.place.Place.{Place}
 

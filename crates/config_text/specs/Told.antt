@@ -80,6 +80,6 @@ not_json_text line column = codes "line " ++ decimal line ++ codes " column " ++
 
 -- the line that tells of an error
 unfoldable pub error_text : ConfigError → List ℕ
-error_text errors.NoMemory = codes "out of memory\n"
+error_text errors.NoMemory = codes "no memory\n"
 error_text (errors.NotJson line column) = not_json_text line column
 error_text (errors.Fault fault) = place_text fault.place ++ codes ": " ++ wanted_text fault.wanted ++ codes "\n"

@@ -175,7 +175,7 @@ pub fn put_fault(out: &mut Vec<u8>, error: &ConfigError) -> Result<(), AllocErro
     ensures { OnOk result (out.new.items ≡ out.old.items ++ error_text error.now) }
 {
     match error {
-        ConfigError::NoMemory => out.extend_from_slice(b"out of memory\n"),
+        ConfigError::NoMemory => out.extend_from_slice(b"no memory\n"),
         ConfigError::NotJson { line, column } => { put_not_json(out, *line, *column) }
         ConfigError::Fault(fault) => {
             put_place(out, fault.place)?;

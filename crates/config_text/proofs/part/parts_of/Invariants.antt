@@ -1,4 +1,4 @@
-use Rattle.std.proofs.Common.{◌≡◌, ◌≤◌, ◌+◌, false, length}
+use Rattle.std.proofs.Common.{◌≡◌, ◌+◌, false, length}
 use Rattle.serde_json.specs.View.{items_view}
 use Rattle.config_text.specs.Parts.{behind, fault_in, parts_from}
 use Rattle.config_text.proofs.part.parts_of.Given as goal
