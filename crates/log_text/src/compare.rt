@@ -1,4 +1,6 @@
 //! A line that is compared with that of an item or a deed, in place of printing that: it takes no memory.
+#![tactic(auto, using(step_text::proofs::MatchingLemmas::comparing))]
+
 ghost use Rattle.std.specs.Prelude.{◌≡◌, ◌++◌, codes, decimal};
 ghost use Rattle.std.specs.List.{flat_map};
 ghost use Rattle.std.specs.Option.{option_map};

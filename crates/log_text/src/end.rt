@@ -15,6 +15,7 @@ use bench_item::MAX_ENTRIES;
 use step_text::{ShownStep, find_step};
 
 /// What one line tells.
+#[derive(Drop)]
 pub(crate) enum Told<'a> {
     Step(ShownStep<'a>),
     Item(ShownItem<'a>),

@@ -1,5 +1,5 @@
 //! The entries of a text's lines, one line after another.
-ghost use Rattle.std.specs.Prelude.{◌≡◌, [], false, None, IfOk, OnOk, map, replicate};
+ghost use Rattle.std.specs.Prelude.{◌≡◌, ◌∷◌, ◌++◌, [], false, None, IfOk, OnOk, map, replicate};
 ghost use Rattle.step_text.specs.Shown.{step_shown};
 ghost use Rattle.log_text.specs.Following.{begun_of, entries_of, entry_of, item_of, move_of, nobody, outcomes_of, so_far, told_to, with_deed, with_item, with_step};
 ghost use Rattle.log_text.specs.Shown.{item_shown};
@@ -126,6 +126,16 @@ impl Pending {
         }
     }
 
+    /// With the line of one more deed.
+    fn put_deed(&mut self, deed: &DeedLine) -> Result<(), AllocError>
+        ensures { OnOk result (begun_of self.new ≡ record { step = self.old.step; item = self.old.item; deeds = self.old.deeds.items ++ deed.now ∷ [] }) }
+    {
+        match self.deeds.push(*deed) {
+            Ok(()) => Ok(()),
+            Err(_) => Err(AllocError),
+        }
+    }
+
     /// The entry of all its lines.
     fn close(self, alloc: Global) -> Result<Entry, AllocError>
         ensures { IfOk result (λ entry. entry ≡ entry_of (begun_of self)) }
@@ -218,12 +228,9 @@ impl Reader {
     fn put_deed(&mut self, deed: &DeedLine) -> Result<(), AllocError>
         ensures { OnOk result (so_far self.new ≡ with_deed (so_far self.old) deed.now) }
     {
-        let Some(pending) = &mut self.pending else {
-            return Ok(());
-        };
-        match pending.deeds.push(*deed) {
-            Ok(()) => Ok(()),
-            Err(_) => Err(AllocError),
+        match &mut self.pending {
+            Some(pending) => pending.put_deed(deed),
+            None => Ok(()),
         }
     }
 

@@ -79,7 +79,7 @@ IsBytes-cons c word fits bytes (suc i) = bytes i
 IsBytes-tail : (c : ℕ) (word : List ℕ) → IsBytes (c ∷ word) → IsBytes word
 IsBytes-tail c word bytes i = bytes (suc i)
 
-pieces-bytes : (text : List ℕ) → IsBytes text → AreBytes (slice_split (λ b. b == 32) text)
+pub pieces-bytes : (text : List ℕ) → IsBytes text → AreBytes (slice_split (λ b. b == 32) text)
 pieces-bytes [] bytes = (IsBytes-nil, tt)
 pieces-bytes (c ∷ text) bytes =
     let rest = pieces-bytes text (IsBytes-tail c text bytes) in
@@ -118,7 +118,7 @@ octets-bytes (high ∷ low ∷ others) = IsBytes-cons (nibble high * 16 + nibble
 
 -- the parts of a step
 
-rest-bytes : (words : List (List ℕ)) → AreBytes words → AreBytes (rest_of words)
+pub rest-bytes : (words : List (List ℕ)) → AreBytes words → AreBytes (rest_of words)
 rest-bytes [] bytes = bytes
 rest-bytes (word ∷ words) bytes = bytes.1
 
