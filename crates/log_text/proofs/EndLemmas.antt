@@ -1,5 +1,5 @@
 -- Which lines may not stand behind a log that ends so.
-use Rattle.std.proofs.Common.{◌≡◌, ◌≤◌, ◌∙◌, inl, inr, List, ℕ, true, false, ap, sym, arith}
+use Rattle.std.proofs.Common.{◌≡◌, ◌≤◌, inl, inr, List, ℕ, true, false, ap, arith}
 use Rattle.bench_item.specs.declared.limit.TheConstants.{MAX_ENTRIES}
 use Rattle.step_text.specs.Faults.{IsBadLine}
 use Rattle.log_text.specs.Books.{Named}

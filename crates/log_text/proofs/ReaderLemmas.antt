@@ -1,5 +1,5 @@
 -- The entries that lines tell: their lines, and which line may stand behind them.
-use Rattle.std.proofs.Common.{◌≡◌, ◌++◌, ◌∷◌, ◌∙◌, ◌&&◌, inl, inr, length, length-append, Bool, List, [], ℕ, true, false, cond, refl, ap, sym, append_assoc, map, filter, subst}
+use Rattle.std.proofs.Common.{◌≡◌, ◌++◌, ◌∷◌, ◌∙◌, ◌&&◌, inl, inr, length-append, Bool, List, [], ℕ, true, false, cond, refl, ap, sym, append_assoc, map, filter, subst}
 use Rattle.std.specs.Prelude.{codes}
 use Rattle.std.specs.List.{flat_map}
 use Rattle.bench_item.specs.declared.entry.Entry.{Entry}
@@ -161,12 +161,13 @@ waiting-with step (Some TooBusy) deeds = elim (is_work step) as (λ b. (b && fal
 waiting-with step (Some (Stale who state)) deeds = elim (is_work step) as (λ b. (b && false) ≡ false) [ true ↦ refl | false ↦ refl ]
 waiting-with step (Some (Moved who before after row)) deeds = elim (is_work step) as (λ b. (b && false) ≡ false) [ true ↦ refl | false ↦ refl ]
 
-moved-with : (step : Step) (item : Option ItemLine) (deeds : List DeedLine) → is_move (entry_with step item deeds) ≡ moves (last_with step item)
+moved-with : (step : Step) (item : Option ItemLine) (deeds : List DeedLine) → ((one : ItemLine) → item ≡ Some one → is_work step ≡ true)
+    → is_move (entry_with step item deeds) ≡ moves (last_with step item)
 unfolding moves
-moved-with step None deeds = elim (is_work step) as (λ b. false ≡ moves (cond b last.Waiting last.Other)) [ true ↦ refl | false ↦ refl ]
-moved-with step (Some TooBusy) deeds = refl
-moved-with step (Some (Stale who state)) deeds = refl
-moved-with step (Some (Moved who before after row)) deeds = refl
+moved-with step None deeds works = elim (is_work step) as (λ b. (b && false) ≡ moves (cond b last.Waiting last.Other)) [ true ↦ refl | false ↦ refl ]
+moved-with step (Some TooBusy) deeds works = elim (is_work step) as (λ b. (b && false) ≡ false) [ true ↦ refl | false ↦ refl ]
+moved-with step (Some (Stale who state)) deeds works = elim (is_work step) as (λ b. (b && false) ≡ false) [ true ↦ refl | false ↦ refl ]
+moved-with step (Some (Moved who before after row)) deeds works = rw (works (Moved who before after row) refl) refl
 
 -- where nothing is begun the log is empty
 ends-none : (test : Entry → Bool) (log : List Entry) → log ≡ [] → ends test (log ++ []) ≡ false
@@ -186,7 +187,7 @@ ends-moved far sound = by far.begun refl
   where
     by : (begun : Option Begun) → far.begun ≡ begun → ends is_move (far.log ++ last_of begun) ≡ moves (last_in begun)
     by None is = ends-none is_move far.log (sound.reading is)
-    by (Some begun) is = ends-last is_move far.log (entry_of begun) ∙ moved-with begun.step begun.item begun.deeds
+    by (Some begun) is = ends-last is_move far.log (entry_of begun) ∙ moved-with begun.step begun.item begun.deeds (sound.begun begun is).works
 
 waits-is : (end : Last) → waits end ≡ true → end ≡ last.Waiting
 unfolding waits

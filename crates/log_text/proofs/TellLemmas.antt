@@ -1,5 +1,5 @@
 -- What a line can tell is an item, or a deed, as there may be one.
-use Rattle.std.proofs.Common.{◌≡◌, ◌<◌, ℕ, ◌+◌, ◌^◌, ◌==◌, Bool, true, false, cond, List, [], ◌∷◌, length, lit<, refl, ap, ◌∙◌, sym, subst, Option, Some, None, arith, replicate}
+use Rattle.std.proofs.Common.{◌≡◌, ◌<◌, ℕ, ◌+◌, ◌^◌, true, false, cond, List, [], ◌∷◌, length, lit<, refl, ◌∙◌, subst, Option, Some, None, replicate}
 use Rattle.std.specs.Prelude.{All, codes, nat_lt, option_map, slice_set}
 use Rattle.std.specs.List.{position}
 use Rattle.std.specs.Str.{bytes_eq}
@@ -20,8 +20,8 @@ use Rattle.bench_item.specs.declared.key.Role.{Role}
 use Rattle.step_text.specs.Guess.{first_key, kind_of, large, rest_of}
 use Rattle.step_text.proofs.StepLemmas.{AreBytes, first_key-bytes, kind_of-known, large-fits, number_of-fits, pieces-bytes, rest-bytes}
 use Rattle.log_text.specs.Books.{Named}
-use Rattle.log_text.specs.DeedLines.{IsDone, IsOutcome, args_of, behind_four, behind_stop, code_of, code_with, deed_in, deed_with, done_with, guess_deed, named_code, outcome_behind, outcome_of, put_args, put_with, stop_of}
-use Rattle.log_text.specs.ItemLines.{IsItem, IsRow, IsWho, behind_two, below, between, ending_of, guess_item, items_in, place_or, row_of, state_called, state_of, told_of, who_of, who_with}
+use Rattle.log_text.specs.DeedLines.{IsDone, IsOutcome, args_of, behind_four, behind_stop, code_of, code_with, deed_in, deed_with, done_with, guess_deed, named_code, outcome_of, put_args, put_with, stop_of}
+use Rattle.log_text.specs.ItemLines.{IsItem, IsRow, IsWho, behind_two, below, between, ending_of, guess_item, items_in, place_or, row_of, state_of, told_of, who_of, who_with}
 use Rattle.log_text.specs.declared.deed_line.DeedLine.{DeedLine}
 use Rattle.log_text.specs.declared.item.Who.{Who}
 use Rattle.log_text.specs.declared.item.ItemLine.{ItemLine}

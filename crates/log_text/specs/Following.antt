@@ -131,13 +131,13 @@ stands item told = false
 abbrev pub is_waiting : Entry → Bool
 is_waiting entry = is_work entry.step && not (stands entry.item entry.handled)
 
--- a move
+-- a move below a `work`
+abbrev pub moved_below : Option Item → Option Handled → Bool
+moved_below (Some (ToMachine item)) (Some (handled.Move move)) = true
+moved_below item told = false
+
 abbrev pub is_move : Entry → Bool
-is_move entry = by entry.handled
-  where
-    by : Option Handled → Bool
-    by (Some (handled.Move move)) = true
-    by handled = false
+is_move entry = is_work entry.step && moved_below entry.item entry.handled
 
 -- the line of a step
 pub record IsStepLine (names : Named) (line : List ℕ) : Type 0 where

@@ -1,21 +1,20 @@
 -- What a line can be is a step as there may be one.
 use Rattle.std.proofs.Common.{◌≡◌, ◌<◌, ℕ, ◌+◌, ◌*◌, ◌^◌, ◌==◌, ◌&&◌, lit<, Fits, w8, eq-eqb, Bool, true, false, cond, List, [], ◌∷◌, length, get_or, refl, ap, ◌∙◌, sym, subst, Option, Some, None, zero, suc, arith, replicate}
-use Rattle.std.specs.Prelude.{All, IsSomeAnd, codes, find, nat_le, nat_lt, option_and_then, option_map, slice_get, slice_set, unwrap_or}
+use Rattle.std.specs.Prelude.{All, IsSomeAnd, codes, find, nat_lt, option_and_then, option_map, slice_get}
 use Rattle.std.specs.List.{list_all, onto_first, slice_split}
 use Rattle.std.specs.Str.{bytes_eq}
-use Rattle.std.proofs.lemmas.Bool.{eqb-true, ltb-true}
+use Rattle.std.proofs.lemmas.Bool.{ltb-true}
 use Rattle.std.proofs.lemmas.Bool.Decides.{nat_tests}
 use Rattle.std.proofs.lemmas.Option.{slice_get-get_or}
 use Rattle.std.proofs.lemmas.List.Elements.{All-head, All-replicate, All-set, All-tail}
 use Rattle.std.proofs.lemmas.List.Quantifiers.{position-Some}
 use Rattle.std.proofs.lemmas.Slice.Eq.{bytes_eq-Decides}
 use Rattle.std.proofs.Math.ListN.{length-set}
-use Rattle.base_list.proofs.NamedLemmas.{entry_of-place}
 use Rattle.base_list.specs.Named.{entry_of, place_of}
 use Rattle.base_list.specs.declared.named.Named.{Named}
 use Rattle.base_text.specs.Numbers.{decimal_value, is_digit, is_word, number_of}
 use Rattle.event_text.specs.Events.{fact_between, fact_of, fact_with}
-use Rattle.hex.specs.Hex.{IsBytes, hex_digit_value}
+use Rattle.hex.specs.Hex.{IsBytes}
 use Rattle.tab_law.specs.declared.limits.TheConstants.{PLACES}
 use Rattle.text_parts.specs.Pieces.{pieces_in}
 use Rattle.bench_item.specs.declared.key.Key.{Key}
@@ -30,7 +29,7 @@ use Rattle.step_text.specs.Commands.{command_of}
 use Rattle.step_text.specs.Guess.{came_of, came_with, facts_in, fired_of, fired_with, first_key, guess_of, key_of, kind_of, large, machine_of, narrow, nibble, piece_of, put_all, put_fact, rest_of, role_of, small, source_of, told_of, told_with, unshown}
 use Rattle.step_text.specs.Names.{Names}
 use Rattle.step_text.specs.Shown.{are_pairs, octets_in}
-use Rattle.step_text.specs.Steps.{IsFired, IsSource, IsStep, IsTold, guess_line, guess_words}
+use Rattle.step_text.specs.Steps.{IsSource, IsStep, guess_line, guess_words}
 use Rattle.step_text.proofs.PairLemmas.{pairs_are}
 
 some_is : {X : Type 0} (a b : X) → Some a ≡ Some b → a ≡ b

@@ -48,11 +48,7 @@ fn guess_line<'a>(laws: &LawBook, machines: &Machines, line: &'a [u8]) -> Option
 }
 
 /// The step that has a line. Takes no memory; `copy` makes the step itself.
-pub fn find_step<'a>(
-    laws: &LawBook,
-    machines: &Machines,
-    line: &'a [u8],
-) -> Option<ShownStep<'a>>
+pub fn find_step<'a>(laws: &LawBook, machines: &Machines, line: &'a [u8]) -> Option<ShownStep<'a>>
     ensures step { IfSome result (λ step. IsStepOf (names_of laws.now machines.now) line.now (step_shown step)) }
     ensures none { IfNone result (IsBadLine (names_of laws.now machines.now) line.now) }
 {

@@ -1,4 +1,4 @@
-use Rattle.std.proofs.Common.{◌∙◌, ap, arith}
+use Rattle.std.proofs.Common.{arith}
 use Rattle.step_text.specs.Matching.{left_of}
 use Rattle.step_text.proofs.MatchingLemmas.{pairs-compared, pairs-done}
 use Rattle.step_text.proofs.compare.compare_octets.Goals as goal
