@@ -27,9 +27,9 @@ use Rattle.step_text.proofs.SolidLemmas.{are_solid, is_solid, shown-solid, split
 use Rattle.log_text.specs.Books.{Named}
 use Rattle.log_text.specs.EntryLines.{row_text}
 use Rattle.log_text.specs.ItemLines.{AreWords, IsItem, IsItemLine, IsRow, behind_two, below, guess_item, item_line, items_in, row_of, state_called}
-use Rattle.log_text.specs.declared.item_line.Who.{Who}
-use Rattle.log_text.specs.declared.item_line.ItemLine.{ItemLine}
-use Rattle.log_text.specs.declared.item_line.ItemLine.TheVariants.{TooBusy, Stale, Moved}
+use Rattle.log_text.specs.declared.item.Who.{Who}
+use Rattle.log_text.specs.declared.item.ItemLine.{ItemLine}
+use Rattle.log_text.specs.declared.item.ItemLine.TheVariants.{TooBusy, Stale, Moved}
 
 -- the word of a state
 abbrev state_word : Named → Role → ℕ → List ℕ

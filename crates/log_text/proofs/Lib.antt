@@ -1,4 +1,7 @@
-pub mod ReaderLemmas
-pub mod ReadLemmas
 pub mod ItemLemmas
 pub mod DeedLemmas
+pub mod CompareLemmas
+pub mod TellLemmas
+pub mod ReaderLemmas
+pub mod EndLemmas
+pub mod ReadLemmas

@@ -1,49 +1,86 @@
 -- Line after line of a text.
-use Rattle.std.proofs.Common.{arith, ◌≢◌, ◌==◌, ◌≡◌, ◌++◌, ◌∷◌, ◌∙◌, ◌+◌, List, [], ℕ, length, refl, ap, sym, append_assoc, length-append}
-use Rattle.std.specs.Prelude.{codes}
+use Rattle.std.proofs.Common.{arith, ◌≢◌, ◌==◌, ◌≡◌, ◌<◌, ◌≤◌, ◌++◌, ◌∷◌, ◌∙◌, ◌+◌, Bool, true, false, None, List, [], ℕ, length, take, get_or, refl, ap, sym, subst, append_assoc, length-append}
+use Rattle.std.specs.Prelude.{codes, nat_lt}
+use Rattle.std.proofs.Math.ListN.{get_or-append}
+use Rattle.std.proofs.Math.Seq.{get_or-append_seam, take-append_seam}
+use Rattle.std.proofs.lemmas.Bool.{ltb-true}
+use Rattle.std.proofs.lemmas.Bool.Decides.{nat_tests}
 use Rattle.std.specs.List.{count_by, flat_map, join_with_byte}
-use Rattle.std.proofs.lemmas.List.{append-nil}
+use Rattle.std.proofs.lemmas.List.{append-nil, take-append-le}
 use Rattle.std.proofs.lemmas.Grind.{flat_map-append}
 use Rattle.std.proofs.lemmas.List.Splits.{join_with_byte-slice_split, length-slice_split}
 use Rattle.text_parts.specs.Pieces.{pieces_in}
 use Rattle.log_text.specs.ItemLines.{AreWords}
 use Rattle.log_text.specs.Books.{Named}
 use Rattle.log_text.specs.EntryLines.{log_lines}
-use Rattle.log_text.specs.Following.{MayFollow, ended, entries_of}
-use Rattle.log_text.specs.Reading.{IsFirstBad, front_of, lines_in, whole}
+use Rattle.log_text.specs.Following.{IsTold, MayStandAt, SoFar, end_after, end_of, ended, entries_of, so_far, told_to}
+use Rattle.log_text.specs.Reading.{AreGood, Follows, IsFirstBad, front_of, lines_in, whole}
+use Rattle.log_text.specs.declared.end.End.{End}
+use Rattle.log_text.specs.declared.end.Last.TheVariants.{Other}
+use Rattle.log_text.specs.declared.end.Told.{Told}
 use Rattle.log_text.specs.declared.pending.Reader.{Reader}
+use Rattle.log_text.proofs.ReaderLemmas.{IsSound, stands-at, told_ends, told_follows, told_lines, told_sound}
 
--- so many lines are read, and the entries have these
-pub record Read (names : Named) (reader : Reader) (text : List ℕ) (left : List (List ℕ)) (place : ℕ) : Type 0 where
+-- each line may follow, and so may one more
+good-more : (names : Named) (lines : List (List ℕ)) (line : List ℕ) → AreGood names lines → Follows names lines line → AreGood names (lines ++ line ∷ [])
+good-more names lines line good one place within =
+    elim (nat_lt place (length lines)) as (λ b. nat_lt place (length lines) ≡ b → Follows names (take place (lines ++ line ∷ [])) (get_or (lines ++ line ∷ []) place [])) [
+      | true ↦ λ e.
+          let less : place < length lines = ltb-true place (length lines) e in
+          let most : place ≤ length lines = omega arith in
+          rw (take-append-le place lines (line ∷ []) most, get_or-append lines (line ∷ []) [] place less) (good place less)
+      | false ↦ λ e.
+          let count = length-append lines (line ∷ []) in
+          let last : place ≡ length lines = grind (arith, nat_tests) in
+          rw (last, take-append_seam lines (line ∷ []), get_or-append_seam lines line [] []) one
+    ] refl
+
+-- so many lines are read, and tell this; where memory did not run out the reader has it
+pub record Read (names : Named) (reader : Reader) (end : End) (short : Bool) (text : List ℕ) (left : List (List ℕ)) (place : ℕ) : Type 0 where
   pub before : List (List ℕ)
   pub cut : lines_in text ≡ before ++ left
   pub counted : place ≡ length before
-  pub told : log_lines names (entries_of reader) ≡ flat_map ended before
+  pub far : SoFar
+  pub sound : IsSound far
+  pub told : log_lines names (entries_of far) ≡ flat_map ended before
+  pub ends : end ≡ end_of far
+  pub good : AreGood names before
+  pub has : short ≡ false → so_far reader ≡ far
 
 -- a line is read
-pub one_line : (names : Named) (reader next : Reader) (text : List ℕ) (line : List ℕ) (old left : List (List ℕ)) (place : ℕ)
-    → Read names reader text old place → old ≡ line ∷ left → log_lines names (entries_of next) ≡ log_lines names (entries_of reader) ++ ended line
-    → Read names next text left (place + 1)
-one_line names reader next text line old left place so_far one more = record {
-  before = so_far.before ++ line ∷ [];
-  cut = so_far.cut ∙ ap (λ ls. so_far.before ++ ls) one ∙ sym (append_assoc so_far.before (line ∷ []) left);
-  counted = ap (λ n. n + 1) so_far.counted ∙ sym (length-append so_far.before (line ∷ []));
-  told = more ∙ ap (λ t. t ++ ended line) so_far.told ∙ ap (λ t. flat_map ended so_far.before ++ t) (sym (append-nil (ended line))) ∙ sym (flat_map-append ended so_far.before (line ∷ []));
-}
+pub one_line : (names : Named) (reader next : Reader) (end after : End) (short more : Bool) (told : Told) (text : List ℕ) (line : List ℕ) (old left : List (List ℕ)) (place : ℕ)
+    → Read names reader end short text old place → old ≡ line ∷ left → IsTold names end line told → after ≡ end_after end told → (more ≡ false → short ≡ false)
+    → (more ≡ false → so_far next ≡ told_to (so_far reader) told)
+    → Read names next after more text left (place + 1)
+one_line names reader next end after short more told text line old left place read one tells ends before taken =
+    let is : IsTold names (end_of read.far) line told = subst (λ (end : End). IsTold names end line told) read.ends tells in
+    record {
+      before = read.before ++ line ∷ [];
+      cut = read.cut ∙ ap (λ ls. read.before ++ ls) one ∙ sym (append_assoc read.before (line ∷ []) left);
+      counted = ap (λ n. n + 1) read.counted ∙ sym (length-append read.before (line ∷ []));
+      far = told_to read.far told;
+      sound = told_sound names read.far line told read.sound is;
+      told = told_lines names read.far line told read.sound is ∙ ap (λ t. t ++ ended line) read.told ∙ ap (λ t. flat_map ended read.before ++ t) (sym (append-nil (ended line)))
+          ∙ sym (flat_map-append ended read.before (line ∷ []));
+      ends = ends ∙ ap (λ (end : End). end_after end told) read.ends ∙ sym (told_ends names read.far line told is);
+      good = good-more names read.before line read.good (record { log = entries_of read.far; front = read.told; may = told_follows names read.far line told read.sound is });
+      has = λ long. taken long ∙ ap (λ (far : SoFar). told_to far told) (read.has (before long));
+    }
 
 -- a line that may not follow is the first bad one
-pub first_bad : (names : Named) (reader : Reader) (text : List ℕ) (line : List ℕ) (old left : List (List ℕ)) (place : ℕ)
-    → Read names reader text old place → old ≡ line ∷ left → (AreWords names → MayFollow names (entries_of reader) line → ⊥)
+pub first_bad : (names : Named) (reader : Reader) (end : End) (short : Bool) (text : List ℕ) (line : List ℕ) (old left : List (List ℕ)) (place : ℕ)
+    → Read names reader end short text old place → old ≡ line ∷ left → (AreWords names → MayStandAt names end line → ⊥)
     → IsFirstBad names text (place + 1)
-first_bad names reader text line old left place so_far one bad = record {
-  before = so_far.before;
+first_bad names reader end short text line old left place read one bad = record {
+  before = read.before;
   line = line;
   behind = left;
-  cut = so_far.cut ∙ ap (λ ls. so_far.before ++ ls) one;
-  counted = ap (λ n. n + 1) so_far.counted;
-  log = entries_of reader;
-  front = so_far.told;
-  bad = bad;
+  cut = read.cut ∙ ap (λ ls. read.before ++ ls) one;
+  counted = ap (λ n. n + 1) read.counted;
+  good = read.good;
+  log = entries_of read.far;
+  front = read.told;
+  bad = λ words may. bad words (subst (λ (end : End). MayStandAt names end line) (sym read.ends) (stands-at names read.far line read.sound may));
 }
 
 -- lines, each with its newline
@@ -69,17 +106,33 @@ all_lines [] = refl
 all_lines (c ∷ cs) = cut-again (front_of (c ∷ cs))
 
 -- where no line is left, the whole text is told
-pub all_read : (names : Named) (reader : Reader) (text : List ℕ) (left : List (List ℕ)) (place : ℕ)
-    → Read names reader text left place → left ≡ [] → log_lines names (entries_of reader) ≡ whole text
-all_read names reader text left place so_far none =
-    so_far.told ∙ ap (flat_map ended) (sym (append-nil so_far.before) ∙ ap (λ ls. so_far.before ++ ls) (sym none) ∙ sym so_far.cut) ∙ all_lines text
+pub all_read : (names : Named) (reader : Reader) (end : End) (text : List ℕ) (left : List (List ℕ)) (place : ℕ)
+    → Read names reader end false text left place → left ≡ [] → log_lines names (entries_of (so_far reader)) ≡ whole text
+all_read names reader end text left place read none =
+    ap (λ (far : SoFar). log_lines names (entries_of far)) (read.has refl) ∙ read.told
+    ∙ ap (flat_map ended) (sym (append-nil read.before) ∙ ap (λ ls. read.before ++ ls) (sym none) ∙ sym read.cut) ∙ all_lines text
+
+-- and each line of it may follow
+pub all_good : (names : Named) (reader : Reader) (end : End) (short : Bool) (text : List ℕ) (left : List (List ℕ)) (place : ℕ)
+    → Read names reader end short text left place → left ≡ [] → AreGood names (lines_in text)
+all_good names reader end short text left place read none =
+    subst (AreGood names) (sym (append-nil read.before) ∙ ap (λ ls. read.before ++ ls) (sym none) ∙ sym read.cut) read.good
+
+no_lines : (names : Named) → AreGood names []
+no_lines names place within = absurd (omega (arith, within))
 
 -- before any line
-pub none_read : (names : Named) (reader : Reader) (c : ℕ) (text : List ℕ) (left : List (List ℕ)) → entries_of reader ≡ [] → left ≡ pieces_in 10 (front_of (c ∷ text))
-    → Read names reader (c ∷ text) left 0
-none_read names reader c text left empty all = record {
+pub none_read : (names : Named) (reader : Reader) (end : End) (text : List ℕ) (left : List (List ℕ)) → (length text == 0) ≡ false → so_far reader ≡ record { log = []; begun = None }
+    → end ≡ record { entries = 0; last = Other } → left ≡ pieces_in 10 (front_of text) → Read names reader end false text left 0
+none_read names reader end [] left some empty start all = absurd (cc)
+none_read names reader end (c ∷ text) left some empty start all = record {
   before = [];
   cut = sym all;
   counted = refl;
-  told = ap (log_lines names) empty;
+  far = record { log = []; begun = None };
+  sound = record { reading = λ none. refl; begun = λ begun is. absurd (cc) };
+  told = refl;
+  ends = start;
+  good = no_lines names;
+  has = λ long. empty;
 }

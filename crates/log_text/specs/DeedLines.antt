@@ -29,6 +29,11 @@ pub record IsDone (line : DeedLine) : Type 0 where
   pub values : All (λ value. value < 2 ^ 64) line.deed.a
   pub outcome : IsOutcome line.outcome
 
+-- a deed as there may be one, and this line tells it
+pub record IsDeedOf (line : List ℕ) (deed : DeedLine) : Type 0 where
+  pub is : IsDone deed
+  pub has : deed_line deed ≡ line
+
 -- a line that tells a deed
 pub record IsDeedLine (line : List ℕ) : Type 0 where
   pub deed : DeedLine

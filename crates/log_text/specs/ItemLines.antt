@@ -10,9 +10,9 @@ use Rattle.bench_item.specs.declared.key.Role.{Role}
 use Rattle.step_text.specs.Guess.{first_key, kind_of, rest_of}
 use Rattle.log_text.specs.Books.{Named}
 use Rattle.log_text.specs.EntryLines.{moved_line, stale_line}
-use Rattle.log_text.specs.declared.item_line.Who.{Who}
-use Rattle.log_text.specs.declared.item_line.ItemLine.{ItemLine}
-use Rattle.log_text.specs.declared.item_line.ItemLine.TheVariants.{TooBusy, Stale, Moved}
+use Rattle.log_text.specs.declared.item.Who.{Who}
+use Rattle.log_text.specs.declared.item.ItemLine.{ItemLine}
+use Rattle.log_text.specs.declared.item.ItemLine.TheVariants.{TooBusy, Stale, Moved}
 
 -- the line of an item, without its newline
 abbrev pub item_line : Named → ItemLine → List ℕ
@@ -34,6 +34,11 @@ abbrev pub IsItem : Named → ItemLine → Type 0
 IsItem names TooBusy = Unit {0}
 IsItem names (Stale who state) = IsWho names who × (state < 256)
 IsItem names (Moved who before after row) = IsWho names who × (before < 256) × (after < 256) × IsRow row
+
+-- what may become of an item, and this line tells it
+pub record IsItemOf (names : Named) (line : List ℕ) (item : ItemLine) : Type 0 where
+  pub is : IsItem names item
+  pub has : item_line names item ≡ line
 
 -- a line that tells what may become of an item
 pub record IsItemLine (names : Named) (line : List ℕ) : Type 0 where

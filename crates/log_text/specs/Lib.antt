@@ -2,5 +2,6 @@ pub mod Books
 pub mod EntryLines
 pub mod ItemLines
 pub mod DeedLines
+pub mod Shown
 pub mod Following
 pub mod Reading

@@ -1,19 +1,16 @@
 //! The line of a deed, read.
-ghost use Rattle.std.specs.Prelude.{◌≡◌, ◌++◌, IfOk, IfErr, OnOk, OnSome, option_map};
+ghost use Rattle.std.specs.Prelude.{◌≡◌, IfNone, IfSome, OnSome, option_map};
 ghost use Rattle.std.specs.List.{find};
 ghost use Rattle.std.specs.Str.{bytes_eq};
 ghost use Rattle.base_codes.specs.DeedCodes.{name_of};
 ghost use Rattle.text_parts.specs.Pieces.{pieces_in, pieces_left};
-ghost use Rattle.step_text.specs.declared.read.StepTextError.TheVariants.{BadLine};
-ghost use Rattle.log_text.specs.DeedLines.{IsDeedLine, args_of, behind_stop, code_of, deed_in, deed_line, guess_deed, named_code, outcome_behind, outcome_of, stop_of};
+ghost use Rattle.log_text.specs.DeedLines.{IsDeedLine, IsDeedOf, args_of, behind_stop, code_of, deed_in, guess_deed, named_code, outcome_behind, outcome_of, stop_of};
 
-use crate::deeds::{is_booking, put_outcome};
+use crate::compare::has_deed_line;
 use acct_totals::Outcome;
 use base_codes::DeedCode;
 use base_text::number_of;
-use event_text::put_deed_words;
-use std::alloc::{AllocError, Global};
-use step_text::{StepTextError, next_number};
+use step_text::next_number;
 use tab_law::{Deed, PLACES};
 use text_parts::Pieces;
 
@@ -143,37 +140,15 @@ fn guess_deed(line: &[u8]) -> Option<DeedLine>
     deed_in(&mut words)
 }
 
-/// Puts the line of a deed, without its newline.
-fn put_deed_line(out: &mut Vec<u8>, line: &DeedLine) -> Result<(), AllocError>
-    ensures { OnOk result (out.new.items ≡ out.old.items ++ deed_line line.now) }
+/// The deed of a line without its newline, as it is printed. Takes no memory.
+pub(crate) fn find_deed(line: &[u8]) -> Option<DeedLine>
+    ensures deed { IfSome result (λ deed. IsDeedOf line.now deed) }
+    ensures none { IfNone result (IsDeedLine line.now → ⊥) }
 {
-    put_deed_words(out, b"    ", &line.deed)?;
-    if is_booking(line.deed.code) {
-        put_outcome(out, line.outcome)?;
-    }
-    Ok(())
-}
-
-/// Whether a deed has that line.
-fn has_line(alloc: Global, deed: &DeedLine, line: &[u8]) -> Result<bool, AllocError>
-    ensures { IfOk result (λ has. has ≡ bytes_eq (deed_line deed.now) line.now) }
-{
-    let mut text = Vec::new(alloc);
-    put_deed_line(&mut text, deed)?;
-    Ok(text.as_slice() == line)
-}
-
-/// The deed of a line without its newline, as it is printed.
-pub(crate) fn read_deed(alloc: Global, line: &[u8]) -> Result<DeedLine, StepTextError>
-    ensures ok { IfOk result (λ deed. deed_line deed ≡ line.now) }
-    ensures fault { IfErr result (λ fault. fault ≡ BadLine → IsDeedLine line.now → ⊥) }
-{
-    let Some(deed) = guess_deed(line) else {
-        return Err(StepTextError::BadLine);
-    };
-    if has_line(alloc, &deed, line)? {
-        Ok(deed)
+    let deed = guess_deed(line)?;
+    if has_deed_line(&deed, line) {
+        Some(deed)
     } else {
-        Err(StepTextError::BadLine)
+        None
     }
 }

@@ -14,7 +14,7 @@ use std::alloc::AllocError;
 use step_text::{put_key, put_kind, write_step};
 
 /// The name of a state.
-fn state_name<'a>(names: &NameBook<'a>, role: Role, state: u8) -> Option<&'a [u8]>
+pub(crate) fn state_name<'a>(names: &NameBook<'a>, role: Role, state: u8) -> Option<&'a [u8]>
     ensures { option_map (λ name. name.now) result ≡ slice_get ((named names.now).states role) state }
 {
     match names.states(role).get(usize::from(state)) {

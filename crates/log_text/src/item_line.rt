@@ -1,46 +1,21 @@
 //! The line of an item, read.
-ghost use Rattle.std.specs.Prelude.{◌≡◌, ◌++◌, Some, IfOk, IfErr, OnOk, OnSome};
+ghost use Rattle.std.specs.Prelude.{◌≡◌, Some, IfNone, IfOk, IfSome, OnSome, option_map};
 ghost use Rattle.std.specs.List.{position};
 ghost use Rattle.std.specs.Str.{bytes_eq};
 ghost use Rattle.text_parts.specs.Pieces.{pieces_in, pieces_left};
 ghost use Rattle.step_text.specs.Guess.{rest_of};
-ghost use Rattle.step_text.specs.declared.read.StepTextError.TheVariants.{BadLine};
 ghost use Rattle.log_text.specs.Books.{named, states_in};
-ghost use Rattle.log_text.specs.ItemLines.{AreWords, IsItemLine, below, ending_of, guess_item, item_line, items_in, row_of, state_called, state_of, who_of};
+ghost use Rattle.log_text.specs.ItemLines.{AreWords, IsItemLine, IsItemOf, below, ending_of, guess_item, item_line, items_in, row_of, state_called, state_of, who_of};
+ghost use Rattle.log_text.specs.Shown.{item_shown, who_shown};
 
 use crate::book::NameBook;
-use crate::entries::{put_moved, put_stale};
+use crate::compare::has_item_line;
+use crate::item::{ShownItem, ShownWho};
 use base_list::Octets;
 use base_text::number_of;
-use bench_item::{Key, Role};
-use std::alloc::{AllocError, Global};
-use step_text::{StepTextError, next_key, next_kind};
+use bench_item::Role;
+use step_text::{next_key, next_kind};
 use text_parts::Pieces;
-
-/// Which machine an item was for, and the kind of its event.
-#[derive(Drop)]
-pub(crate) struct Who {
-    pub(crate) key: Key,
-    pub(crate) kind: u8,
-}
-
-/// What became of an item, as its line tells it.
-#[derive(Drop)]
-pub(crate) enum ItemLine {
-    TooBusy,
-    /// In a machine that stands in this state.
-    Stale {
-        who: Who,
-        state: u8,
-    },
-    /// The states before and after, and the row.
-    Moved {
-        who: Who,
-        before: u8,
-        after: u8,
-        row: Option<u16>,
-    },
-}
 
 /// The place of a name.
 fn place_of(names: &[Octets], word: &[u8]) -> Option<usize>
@@ -95,14 +70,19 @@ fn row_of(words: &mut Pieces<'_>) -> Option<Option<u16>>
 }
 
 /// What the words behind two states tell.
-fn ending_of(who: Who, before: u8, after: u8, words: &mut Pieces<'_>) -> Option<ItemLine>
-    ensures { result ≡ ending_of who before after (pieces_left words.old) }
+fn ending_of<'a>(
+    who: ShownWho<'a>,
+    before: u8,
+    after: u8,
+    words: &mut Pieces<'a>,
+) -> Option<ShownItem<'a>>
+    ensures { option_map item_shown result ≡ ending_of (who_shown who.entry) before after (pieces_left words.old) }
 {
     if words.next()? == b"stale".as_slice() {
-        return Some(ItemLine::Stale { who, state: before });
+        return Some(ShownItem::Stale { who, state: before });
     }
     let row = row_of(words)?;
-    Some(ItemLine::Moved {
+    Some(ShownItem::Moved {
         who,
         before,
         after,
@@ -111,108 +91,49 @@ fn ending_of(who: Who, before: u8, after: u8, words: &mut Pieces<'_>) -> Option<
 }
 
 /// The machine and the kind that the next two words name.
-fn who_of(
-    alloc: Global,
-    names: &NameBook<'_>,
-    words: &mut Pieces<'_>,
-) -> Result<Option<Who>, AllocError>
-    ensures value { IfOk result (λ who. who ≡ who_of (named names.now) (pieces_left words.old)) }
-    ensures rest { IfOk result (λ who. OnSome who (pieces_left words.new ≡ rest_of (rest_of (pieces_left words.old)))) }
+fn who_of<'a>(names: &NameBook<'_>, words: &mut Pieces<'a>) -> Option<ShownWho<'a>>
+    ensures value { option_map who_shown result ≡ who_of (named names.now) (pieces_left words.old) }
+    ensures rest { OnSome result (pieces_left words.new ≡ rest_of (rest_of (pieces_left words.old))) }
 {
-    let Some(key) = next_key(alloc, words)? else {
-        return Ok(None);
-    };
-    match next_kind(alloc, names.laws, words)? {
-        Some(kind) => Ok(Some(Who { key, kind })),
-        None => Ok(None),
-    }
+    let key = next_key(words)?;
+    let kind = next_kind(names.laws, words)?;
+    Some(ShownWho { key, kind })
 }
 
 /// What the words behind two blanks tell.
-fn items_in(
-    alloc: Global,
-    names: &NameBook<'_>,
-    words: &mut Pieces<'_>,
-) -> Result<Option<ItemLine>, AllocError>
-    ensures { IfOk result (λ guess. guess ≡ items_in (named names.now) (pieces_left words.old)) }
+fn items_in<'a>(names: &NameBook<'_>, words: &mut Pieces<'a>) -> Option<ShownItem<'a>>
+    ensures { option_map item_shown result ≡ items_in (named names.now) (pieces_left words.old) }
 {
-    let Some(who) = who_of(alloc, names, words)? else {
-        return Ok(None);
-    };
+    let who = who_of(names, words)?;
     let role = who.key.role;
-    let Some(before) = state_of(names, role, words) else {
-        return Ok(None);
-    };
-    let Some(after) = state_of(names, role, words) else {
-        return Ok(None);
-    };
-    Ok(ending_of(who, before, after, words))
+    let before = state_of(names, role, words)?;
+    let after = state_of(names, role, words)?;
+    ending_of(who, before, after, words)
 }
 
 /// What a line of an item can tell.
-fn guess_item(
-    alloc: Global,
-    names: &NameBook<'_>,
-    line: &[u8],
-) -> Result<Option<ItemLine>, AllocError>
-    ensures { IfOk result (λ guess. guess ≡ guess_item (named names.now) line.now) }
+fn guess_item<'a>(names: &NameBook<'_>, line: &'a [u8]) -> Option<ShownItem<'a>>
+    ensures { option_map item_shown result ≡ guess_item (named names.now) line.now }
 {
     if line == b"  busy".as_slice() {
-        return Ok(Some(ItemLine::TooBusy));
+        return Some(ShownItem::TooBusy);
     }
     let mut words = Pieces::new(line, b' ');
     // Before each of the two blanks stands nothing.
-    if words.next().is_none() || words.next().is_none() {
-        return Ok(None);
-    }
-    items_in(alloc, names, &mut words)
+    let _first = words.next()?;
+    let _second = words.next()?;
+    items_in(names, &mut words)
 }
 
-/// Puts the line of an item, without its newline.
-fn put_item_line(out: &mut Vec<u8>, names: &NameBook<'_>, item: &ItemLine) -> Result<(), AllocError>
-    ensures { OnOk result (out.new.items ≡ out.old.items ++ item_line (named names.now) item.now) }
+/// The item that a line without its newline tells, as it is printed. Takes no memory.
+pub(crate) fn find_item<'a>(names: &NameBook<'_>, line: &'a [u8]) -> Option<ShownItem<'a>>
+    ensures item { IfSome result (λ item. IsItemOf (named names.now) line.now (item_shown item)) }
+    ensures none { IfNone result (AreWords (named names.now) → IsItemLine (named names.now) line.now → ⊥) }
 {
-    match item {
-        ItemLine::TooBusy => out.extend_from_slice(b"  busy"),
-        ItemLine::Stale { who, state } => put_stale(out, names, &who.key, who.kind, *state),
-        ItemLine::Moved {
-            who,
-            before,
-            after,
-            row,
-        } => put_moved(out, names, &who.key, who.kind, *before, *after, *row),
-    }
-}
-
-/// Whether an item has that line.
-fn has_line(
-    alloc: Global,
-    names: &NameBook<'_>,
-    item: &ItemLine,
-    line: &[u8],
-) -> Result<bool, AllocError>
-    ensures { IfOk result (λ has. has ≡ bytes_eq (item_line (named names.now) item.now) line.now) }
-{
-    let mut text = Vec::new(alloc);
-    put_item_line(&mut text, names, item)?;
-    Ok(text.as_slice() == line)
-}
-
-/// The item of a line without its newline, as it is printed.
-pub(crate) fn read_item(
-    alloc: Global,
-    names: &NameBook<'_>,
-    line: &[u8],
-) -> Result<ItemLine, StepTextError>
-    ensures ok { IfOk result (λ item. item_line (named names.now) item ≡ line.now) }
-    ensures fault { IfErr result (λ fault. fault ≡ BadLine → AreWords (named names.now) → IsItemLine (named names.now) line.now → ⊥) }
-{
-    let Some(item) = guess_item(alloc, names, line)? else {
-        return Err(StepTextError::BadLine);
-    };
-    if has_line(alloc, names, &item, line)? {
-        Ok(item)
+    let item = guess_item(names, line)?;
+    if has_item_line(names, &item, line) {
+        Some(item)
     } else {
-        Err(StepTextError::BadLine)
+        None
     }
 }

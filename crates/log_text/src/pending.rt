@@ -1,9 +1,8 @@
 //! What is read so far of a log's text.
-ghost use Rattle.std.specs.Prelude.{◌≡◌, ◌≢◌, ◌<◌, [], None, true};
-ghost use Rattle.log_text.specs.EntryLines.{is_work};
+ghost use Rattle.std.specs.Prelude.{◌≡◌};
 
 use crate::deed_line::DeedLine;
-use crate::item_line::ItemLine;
+use crate::item::ItemLine;
 use bench_item::Step;
 use bench_log::Log;
 
@@ -14,8 +13,6 @@ pub(crate) struct Pending {
     pub(crate) item: Option<ItemLine>,
     /// What the lines below that tell.
     pub(crate) deeds: Vec<DeedLine>,
-    ghost waits: { item ≡ None → deeds.items ≡ [] },
-    ghost works: { item ≢ None → is_work step ≡ true },
 }
 
 impl Pending {
@@ -40,7 +37,6 @@ impl Drop for Pending {
 pub(crate) struct Reader {
     pub(crate) log: Log,
     pub(crate) pending: Option<Pending>,
-    ghost room: { pending ≢ None → 0 < log.room },
 }
 
 impl Reader {

@@ -5,11 +5,11 @@ ghost use Rattle.log_text.specs.EntryLines.{log_lines};
 ghost use Rattle.log_text.specs.Reading.{IsFaultOf, front_of, whole};
 
 use crate::book::NameBook;
+use crate::end::End;
 use crate::pending::Reader;
 use bench_log::Log;
 use event_text::LinesError;
 use std::alloc::Global;
-use step_text::StepTextError;
 use text_parts::Pieces;
 
 /// A text without the newline at its end.
@@ -29,19 +29,24 @@ pub fn read_log(alloc: Global, names: &NameBook<'_>, text: &[u8]) -> Result<Log,
     ensures ok { IfOk result (λ log. log_lines (named names.now) log.entries ≡ whole text.now) }
     ensures fault { IfErr result (λ fault. IsFaultOf (named names.now) text.now fault) }
 {
-    let mut reader = Reader::new(alloc);
     if text.is_empty() {
-        return Ok(reader.finish(alloc)?);
+        return Ok(Log::new(alloc));
     }
+    let mut reader = Reader::new(alloc);
+    let mut end = End::new();
     let mut lines = Pieces::new(front_of(text), b'\n');
     let mut place = 0;
+    // Where memory ran out the other lines are only looked at.
+    let mut short = false;
     while let Some(line) = lines.next() {
         place += 1;
-        match reader.take(alloc, names, line) {
-            Ok(()) => {}
-            Err(StepTextError::BadLine) => return Err(LinesError::BadLine(place)),
-            Err(StepTextError::NoMemory) => return Err(LinesError::NoMemory),
-        }
+        let Some(told) = end.next(names, line) else {
+            return Err(LinesError::BadLine(place));
+        };
+        short = reader.take(alloc, &told, short);
+    }
+    if short {
+        return Err(LinesError::NoMemory);
     }
     Ok(reader.finish(alloc)?)
 }

@@ -1,44 +1,23 @@
 //! The entries of a text's lines, one line after another.
-ghost use Rattle.std.specs.Prelude.{◌≡◌, ◌≢◌, ◌<◌, ◌++◌, [], None, IfOk, IfErr, OnOk, map, replicate};
-ghost use Rattle.bench_item.specs.declared.step.Step.{Step};
-ghost use Rattle.step_text.specs.declared.read.StepTextError.TheVariants.{BadLine};
-ghost use Rattle.log_text.specs.Books.{named};
-ghost use Rattle.log_text.specs.EntryLines.{entry_lines, log_lines};
-ghost use Rattle.log_text.specs.ItemLines.{AreWords};
-ghost use Rattle.log_text.specs.Following.{IsReading, MayStandBelow, MayFollow, begins_blank, ended, MayBegin, entries_of, entry_of, is_moved, item_of, move_of, nobody, outcomes_of};
+ghost use Rattle.std.specs.Prelude.{◌≡◌, ◌∷◌, ◌++◌, [], false, None, IfOk, OnOk, map, replicate};
+ghost use Rattle.step_text.specs.Shown.{step_shown};
+ghost use Rattle.log_text.specs.Following.{begun_of, entries_of, entry_of, item_of, move_of, nobody, outcomes_of, so_far, told_to, with_deed, with_item, with_step};
+ghost use Rattle.log_text.specs.Shown.{item_shown};
 ghost use Rattle.tab_law.specs.declared.limits.TheConstants.{PLACES};
 
-use crate::book::NameBook;
-use crate::deed_line::{DeedLine, read_deed};
+use crate::deed_line::DeedLine;
 use crate::deeds::is_booking;
-use crate::entries::is_work;
-use crate::item_line::{ItemLine, Who, read_item};
+use crate::end::Told;
+use crate::item::{ItemLine, ShownItem, Who};
 use crate::pending::{Pending, Reader};
 use acct_totals::Outcome;
 use base_list::Octets;
 use bench_item::{Entry, Handled, Item, Key, MachineItem, Moved, Role, Series, Step};
-use bench_log::{KeptEntry, Log, LogError};
+use bench_log::{KeptEntry, Log};
 use std::alloc::{AllocError, Global};
-use step_text::{StepTextError, read_step};
+use step_text::ShownStep;
 use tab_law::{Deed, PLACES};
 use tab_step::{Event, MachineState};
-
-/// Whether a line tells a move.
-fn is_moved(item: &ItemLine) -> bool
-    ensures { result ≡ is_moved item.now }
-{
-    matches!(item, ItemLine::Moved { .. })
-}
-
-/// Whether a line begins with a blank.
-fn begins_blank(line: &[u8]) -> bool
-    ensures { result ≡ begins_blank line.now }
-{
-    match line {
-        [] => false,
-        [first, ..] => *first == b' ',
-    }
-}
 
 /// The deeds of lines.
 fn deeds_of(alloc: Global, lines: &[DeedLine]) -> Result<Vec<Deed>, AllocError>
@@ -136,11 +115,9 @@ fn nobody(alloc: Global) -> Who
 }
 
 impl Pending {
-    ghost use Rattle.step_text.specs.declared.read.StepTextError.TheVariants.{BadLine};
-
     /// An entry with the line of its step.
     fn new(alloc: Global, step: Step) -> Pending
-        ensures { entry_of result ≡ record { step = step; item = None; handled = None } }
+        ensures { begun_of result ≡ record { step = step; item = None; deeds = [] } }
     {
         Pending {
             step,
@@ -149,50 +126,19 @@ impl Pending {
         }
     }
 
-    /// The line below that of the step.
-    fn take_item(
-        &mut self,
-        alloc: Global,
-        names: &NameBook<'_>,
-        line: &[u8],
-    ) -> Result<(), StepTextError>
-        requires { self.old.item ≡ None }
-        ensures ok { OnOk result (entry_lines (named names.now) (entry_of self.new) ≡ entry_lines (named names.now) (entry_of self.old) ++ ended line.now) }
-        ensures fault { IfErr result (λ fault. fault ≡ BadLine → AreWords (named names.now) → MayStandBelow (named names.now) (entry_of self.old) line.now → ⊥) }
+    /// With the line of one more deed.
+    fn put_deed(&mut self, deed: &DeedLine) -> Result<(), AllocError>
+        ensures { OnOk result (begun_of self.new ≡ record { step = self.old.step; item = self.old.item; deeds = self.old.deeds.items ++ deed.now ∷ [] }) }
     {
-        if !is_work(&self.step) {
-            return Err(StepTextError::BadLine);
-        }
-        self.item = Some(read_item(alloc, names, line)?);
-        Ok(())
-    }
-
-    /// One more line, which begins with a blank.
-    fn take(
-        &mut self,
-        alloc: Global,
-        names: &NameBook<'_>,
-        line: &[u8],
-    ) -> Result<(), StepTextError>
-        ensures ok { OnOk result (entry_lines (named names.now) (entry_of self.new) ≡ entry_lines (named names.now) (entry_of self.old) ++ ended line.now) }
-        ensures fault { IfErr result (λ fault. fault ≡ BadLine → AreWords (named names.now) → MayStandBelow (named names.now) (entry_of self.old) line.now → ⊥) }
-    {
-        let Some(item) = &self.item else {
-            return self.take_item(alloc, names, line);
-        };
-        if !is_moved(item) {
-            return Err(StepTextError::BadLine);
-        }
-        let deed = read_deed(alloc, line)?;
-        match self.deeds.push(deed) {
+        match self.deeds.push(*deed) {
             Ok(()) => Ok(()),
-            Err(_) => Err(StepTextError::NoMemory),
+            Err(_) => Err(AllocError),
         }
     }
 
     /// The entry of all its lines.
     fn close(self, alloc: Global) -> Result<Entry, AllocError>
-        ensures { IfOk result (λ entry. entry ≡ entry_of self) }
+        ensures { IfOk result (λ entry. entry ≡ entry_of (begun_of self)) }
     {
         let (step, item, deeds) = self.apart();
         let (who, handled) = match item {
@@ -226,7 +172,7 @@ impl Pending {
 
     /// The entry of all its lines, as a log keeps it.
     fn keep(self, alloc: Global) -> Result<KeptEntry, AllocError>
-        ensures { IfOk result (λ entry. entry ≡ entry_of self) }
+        ensures { IfOk result (λ entry. entry ≡ entry_of (begun_of self)) }
     {
         let entry = self.close(alloc)?;
         KeptEntry::keep(alloc, &entry)
@@ -234,12 +180,9 @@ impl Pending {
 }
 
 impl Reader {
-    ghost use Rattle.step_text.specs.declared.read.StepTextError.TheVariants.{BadLine, NoMemory};
-
     /// Before any line.
     pub(crate) fn new(alloc: Global) -> Reader
-        ensures empty { entries_of result ≡ [] }
-        ensures reading { IsReading result }
+        ensures { so_far result ≡ record { log = []; begun = None } }
     {
         Reader {
             log: Log::new(alloc),
@@ -249,61 +192,76 @@ impl Reader {
 
     /// Ends the last entry.
     fn close(&mut self, alloc: Global) -> Result<(), AllocError>
-        ensures entries { OnOk result (self.new.log.entries ≡ entries_of self.old) }
-        ensures none { OnOk result (self.new.pending ≡ None) }
+        ensures { OnOk result (so_far self.new ≡ record { log = entries_of (so_far self.old); begun = None }) }
     {
-        if let Some(pending) = self.pending.take() {
-            self.log.put(pending.keep(alloc)?);
+        let Some(pending) = self.pending.take() else {
+            return Ok(());
+        };
+        // The log is not full: where it would be, the line was no step's.
+        match self.log.add(pending.keep(alloc)?) {
+            Ok(()) => Ok(()),
+            Err(_) => Err(AllocError),
         }
-        Ok(())
     }
 
-    /// Ends the last entry, and begins the next with the line of its step.
-    fn begin(
-        &mut self,
-        alloc: Global,
-        names: &NameBook<'_>,
-        line: &[u8],
-    ) -> Result<(), StepTextError>
-        ensures reading { OnOk result (IsReading self.new) }
-        ensures ok { OnOk result (log_lines (named names.now) (entries_of self.new) ≡ log_lines (named names.now) (entries_of self.old) ++ ended line.now) }
-        ensures fault { IfErr result (λ fault. fault ≡ BadLine → MayBegin (named names.now) (entries_of self.old) line.now → ⊥) }
+    /// Ends the last entry, and begins the next with this step.
+    fn put_step(&mut self, alloc: Global, step: &ShownStep<'_>) -> Result<(), AllocError>
+        ensures { OnOk result (so_far self.new ≡ with_step (so_far self.old) (step_shown step.now)) }
     {
         self.close(alloc)?;
-        match self.log.reserve(1) {
-            Ok(()) => {}
-            Err(LogError::Full) => return Err(StepTextError::BadLine),
-            Err(LogError::NoMemory) => return Err(StepTextError::NoMemory),
-        }
-        let step = read_step(alloc, names.laws, names.machines, line)?;
+        let step = step.copy(alloc)?;
         self.pending = Some(Pending::new(alloc, step));
         Ok(())
     }
 
-    /// One more line, without its newline. Only before any line no entry is being read.
-    pub(crate) fn take(
-        &mut self,
-        alloc: Global,
-        names: &NameBook<'_>,
-        line: &[u8],
-    ) -> Result<(), StepTextError>
-        requires { IsReading self.old }
-        ensures reading { OnOk result (IsReading self.new) }
-        ensures ok { OnOk result (log_lines (named names.now) (entries_of self.new) ≡ log_lines (named names.now) (entries_of self.old) ++ ended line.now) }
-        ensures fault { IfErr result (λ fault. fault ≡ BadLine → AreWords (named names.now) → MayFollow (named names.now) (entries_of self.old) line.now → ⊥) }
+    /// Puts an item into the last entry.
+    fn put_item(&mut self, alloc: Global, item: &ShownItem<'_>) -> Result<(), AllocError>
+        ensures { OnOk result (so_far self.new ≡ with_item (so_far self.old) (item_shown item.now)) }
     {
-        if !begins_blank(line) {
-            return self.begin(alloc, names, line);
+        if let Some(pending) = &mut self.pending {
+            pending.item = Some(item.copy(alloc)?);
         }
+        Ok(())
+    }
+
+    /// Puts a deed into the last entry.
+    fn put_deed(&mut self, deed: &DeedLine) -> Result<(), AllocError>
+        ensures { OnOk result (so_far self.new ≡ with_deed (so_far self.old) deed.now) }
+    {
         match &mut self.pending {
-            Some(pending) => pending.take(alloc, names, line),
-            None => Err(StepTextError::BadLine),
+            Some(pending) => pending.put_deed(deed),
+            None => Ok(()),
+        }
+    }
+
+    /// Takes what one more line tells.
+    fn put(&mut self, alloc: Global, told: &Told<'_>) -> Result<(), AllocError>
+        ensures { OnOk result (so_far self.new ≡ told_to (so_far self.old) told.now) }
+    {
+        match told {
+            Told::Step(step) => self.put_step(alloc, step),
+            Told::Item(item) => self.put_item(alloc, item),
+            Told::Deed(deed) => self.put_deed(deed),
+        }
+    }
+
+    /// Takes what one more line tells, where memory did not run out. Answers whether it did by now.
+    pub(crate) fn take(&mut self, alloc: Global, told: &Told<'_>, short: bool) -> bool
+        ensures before { result ≡ false → short ≡ false }
+        ensures taken { result ≡ false → so_far self.new ≡ told_to (so_far self.old) told.now }
+    {
+        if short {
+            return true;
+        }
+        match self.put(alloc, told) {
+            Ok(()) => false,
+            Err(AllocError) => true,
         }
     }
 
     /// The log of all lines.
     pub(crate) fn finish(self, alloc: Global) -> Result<Log, AllocError>
-        ensures { IfOk result (λ log. log.entries ≡ entries_of self) }
+        ensures { IfOk result (λ log. log.entries ≡ entries_of (so_far self)) }
     {
         let mut reader = self;
         reader.close(alloc)?;

@@ -5,3 +5,6 @@ pub mod ShownLemmas
 pub mod FactLemmas
 pub mod WordsLemmas
 pub mod GuessLemmas
+pub mod MatchingLemmas
+pub mod PairLemmas
+pub mod StepLemmas

@@ -2,6 +2,8 @@ pub mod Commands
 pub mod Names
 pub mod Lines
 pub mod Guess
+pub mod Shown
+pub mod Matching
 pub mod Steps
 pub mod Faults
 pub mod LineExamples

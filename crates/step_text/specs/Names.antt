@@ -1,8 +1,8 @@
 -- Names as words.
-use Rattle.std.specs.Prelude.{ℕ, ◌≤◌, ◌==◌, ◌&&◌, not, nat_le, Bool, List, [], ◌∷◌, ◌++◌, codes, find, length, slice_get, if◌then◌else◌}
+use Rattle.std.specs.Prelude.{All, ℕ, ◌≤◌, ◌==◌, ◌&&◌, not, nat_le, Bool, List, [], ◌∷◌, ◌++◌, codes, find, length, slice_get, if◌then◌else◌}
 use Rattle.std.specs.List.{flat_map}
 use Rattle.std.specs.Option.{option_map_or}
-use Rattle.hex.specs.Hex.{encode_lower}
+use Rattle.hex.specs.Hex.{IsBytes, encode_lower}
 use Rattle.base_list.specs.Named.{HasOwnNames}
 use Rattle.base_list.specs.declared.named.Named.{Named}
 use Rattle.tab_law.specs.Books.{Laws}
@@ -48,7 +48,8 @@ kind_word names kind = option_map_or (λ entry. shown entry.name) (slice_get nam
 abbrev pub machine_word : Names → ℕ → List ℕ
 machine_word names machine = option_map_or (λ entry. shown entry.name) (find (λ entry. entry.value == machine) names.machines) (codes "-")
 
--- no two machines have one key, and there are no more than a node has
+-- no two machines have one key, there are no more than a node has, and keys are octets
 pub record AreMachines (machines : List (Named ℕ)) : Type 0 where
   pub named : HasOwnNames machines
   pub few : length machines ≤ 65536
+  pub octets : All (λ entry. IsBytes entry.name) machines

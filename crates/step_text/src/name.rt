@@ -2,6 +2,7 @@
 
 ghost use Rattle.std.specs.Prelude.{◌≡◌, ◌++◌, IfOk, OnOk, codes};
 ghost use Rattle.std.specs.Str.{bytes_eq};
+ghost use Rattle.hex.specs.Hex.{IsBytes};
 ghost use Rattle.step_text.specs.Names.{is_plain, key_name, prefix_of, shown, shown_octet};
 
 use base_text::put_hex;
@@ -58,12 +59,21 @@ pub(crate) fn is_key_name(name: &[u8], key: &Key) -> bool
     front == prefix_of(key.role) && rest == key.name.as_slice()
 }
 
+/// A name with the prefix of a role.
+fn prefixed(alloc: Global, role: Role, name: &[u8]) -> Result<Vec<u8>, AllocError>
+    ensures name { IfOk result (λ whole. whole.items ≡ prefix_of role ++ name.now) }
+    ensures octets { IfOk result (λ whole. IsBytes whole.items) }
+{
+    let mut whole = Vec::new(alloc);
+    whole.extend_from_slice(prefix_of(role))?;
+    whole.extend_from_slice(name)?;
+    Ok(whole)
+}
+
 /// The name of a key.
 pub(crate) fn key_name(alloc: Global, key: &Key) -> Result<Vec<u8>, AllocError>
-    ensures { IfOk result (λ name. name.items ≡ key_name key.now) }
+    ensures name { IfOk result (λ name. name.items ≡ key_name key.now) }
+    ensures octets { IfOk result (λ name. IsBytes name.items) }
 {
-    let mut name = Vec::new(alloc);
-    name.extend_from_slice(prefix_of(key.role))?;
-    name.extend_from_slice(key.name.as_slice())?;
-    Ok(name)
+    prefixed(alloc, key.role, key.name.as_slice())
 }

@@ -1,16 +1,17 @@
 //! A line as its step.
 
-ghost use Rattle.std.specs.Prelude.{◌≡◌, IfOk, IfErr};
-ghost use Rattle.std.specs.Str.{bytes_eq};
+ghost use Rattle.std.specs.Prelude.{◌≡◌, IfOk, IfErr, IfSome, IfNone, option_map};
 ghost use Rattle.step_text.specs.Names.{names_of};
 ghost use Rattle.step_text.specs.Lines.{line_of};
 ghost use Rattle.step_text.specs.Steps.{guess_line};
-ghost use Rattle.step_text.specs.Faults.{IsFaultOf};
+ghost use Rattle.step_text.specs.Faults.{IsBadLine, IsFaultOf, IsStepOf};
+ghost use Rattle.step_text.specs.Shown.{step_shown};
 
 use crate::command::command_of;
+use crate::compare::has_line;
 use crate::guess::guess_of;
 use crate::machines::Machines;
-use crate::write::write_step;
+use crate::shown::ShownStep;
 use bench_item::Step;
 use std::alloc::{AllocError, Global};
 use tab_law::LawBook;
@@ -38,37 +39,26 @@ impl From<AllocError> for StepTextError {
 }
 
 /// The step that a line can be.
-fn guess_line(
-    alloc: Global,
-    laws: &LawBook,
-    machines: &Machines,
-    line: &[u8],
-) -> Result<Option<Step>, AllocError>
-    ensures { IfOk result (λ guess. guess ≡ guess_line (names_of laws.now machines.now) line.now) }
+fn guess_line<'a>(laws: &LawBook, machines: &Machines, line: &'a [u8]) -> Option<ShownStep<'a>>
+    ensures { option_map step_shown result ≡ guess_line (names_of laws.now machines.now) line.now }
 {
     let mut words = Pieces::new(line, b' ');
-    let Some(word) = words.next() else {
-        return Ok(None);
-    };
-    match command_of(word) {
-        Some(command) => guess_of(alloc, laws, machines, command, &mut words),
-        None => Ok(None),
-    }
+    let command = command_of(words.next()?)?;
+    guess_of(laws, machines, command, &mut words)
 }
 
-/// Whether a step has that line.
-fn has_line(
-    alloc: Global,
-    laws: &LawBook,
-    machines: &Machines,
-    step: &Step,
-    line: &[u8],
-) -> Result<bool, AllocError>
-    ensures { IfOk result (λ has. has ≡ bytes_eq (line_of (names_of laws.now machines.now) step.now) line.now) }
+/// The step that has a line. Takes no memory; `copy` makes the step itself.
+pub fn find_step<'a>(laws: &LawBook, machines: &Machines, line: &'a [u8]) -> Option<ShownStep<'a>>
+    ensures step { IfSome result (λ step. IsStepOf (names_of laws.now machines.now) line.now (step_shown step)) }
+    ensures none { IfNone result (IsBadLine (names_of laws.now machines.now) line.now) }
 {
-    let mut text = Vec::new(alloc);
-    write_step(&mut text, laws, machines, step)?;
-    Ok(text.as_slice() == line)
+    machines.known();
+    let step = guess_line(laws, machines, line)?;
+    if has_line(laws, machines, &step, line) {
+        Some(step)
+    } else {
+        None
+    }
 }
 
 /// The step of a line without its newline, in the one spelling in which `write_step` prints it: one blank between words, facts in
@@ -83,13 +73,8 @@ pub fn read_step(
     ensures ok { IfOk result (λ step. line_of (names_of laws.now machines.now) step ≡ line.now) }
     ensures fault { IfErr result (λ fault. IsFaultOf (names_of laws.now machines.now) line.now fault) }
 {
-    machines.known();
-    let Some(step) = guess_line(alloc, laws, machines, line)? else {
-        return Err(StepTextError::BadLine);
-    };
-    if has_line(alloc, laws, machines, &step, line)? {
-        Ok(step)
-    } else {
-        Err(StepTextError::BadLine)
+    match find_step(laws, machines, line) {
+        Some(step) => Ok(step.copy(alloc)?),
+        None => Err(StepTextError::BadLine),
     }
 }

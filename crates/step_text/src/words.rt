@@ -1,14 +1,15 @@
 //! Numbers and names from words.
 
-ghost use Rattle.std.specs.Prelude.{◌≡◌, ◌<◌, None, OnSome, OnOk, IfOk, IfErr, codes, option_map, Some, if◌then◌else◌};
+ghost use Rattle.std.specs.Prelude.{◌≡◌, ◌<◌, ◌∷◌, [], None, OnSome, IfOk, IfSome, IfNone, codes, length, option_map, Some, if◌then◌else◌};
 ghost use Rattle.std.specs.Str.{bytes_eq};
 ghost use Rattle.bench_item.specs.declared.source.Source.TheVariants as source;
 ghost use Rattle.text_parts.specs.Pieces.{pieces_left};
-ghost use Rattle.step_text.specs.Guess.{facts_in, first_name, key_of, large, nibble, rest_of, role_of, small, source_of, unshown};
+ghost use Rattle.step_text.specs.Guess.{facts_in, first_key, key_of, large, nibble, rest_of, role_of, small, source_of, unshown};
+ghost use Rattle.step_text.specs.Shown.{key_shown};
 
-use base_list::Octets;
+use crate::shown::ShownKey;
 use base_text::number_of;
-use bench_item::{Key, Role, Source};
+use bench_item::{Role, Source};
 use event_text::fact_of;
 use std::alloc::{AllocError, Global};
 use tab_law::PLACES;
@@ -36,7 +37,7 @@ pub(crate) fn small(words: &mut Pieces<'_>) -> Option<u32>
 }
 
 /// The value of a hexadecimal digit, 0 for another octet.
-fn nibble(c: u8) -> u8
+pub(crate) fn nibble(c: u8) -> u8
     ensures value { result ≡ nibble c }
     ensures fits { result < 16 }
 {
@@ -48,36 +49,60 @@ fn nibble(c: u8) -> u8
     }
 }
 
+/// The first octet that a word shows, and what stands behind it.
+#[derive(Clone, Copy)]
+pub(crate) struct Taken<'a> {
+    pub(crate) octet: u8,
+    pub(crate) behind: &'a [u8],
+}
+
+/// The first octet that a word shows; none where the word is empty.
+pub(crate) fn first_octet(word: &[u8]) -> Option<Taken<'_>>
+    ensures some { IfSome result (λ taken. unshown word.now ≡ taken.octet ∷ unshown taken.behind.now) }
+    ensures less { IfSome result (λ taken. length taken.behind.now < length word.now) }
+    ensures none { IfNone result (unshown word.now ≡ []) }
+{
+    match word {
+        [b'%', high, low, behind @ ..] => {
+            let octet = nibble(*high) * 16 + nibble(*low);
+            Some(Taken { octet, behind })
+        }
+        [first, behind @ ..] => {
+            let octet = *first;
+            Some(Taken { octet, behind })
+        }
+        [] => None,
+    }
+}
+
 /// The name that a word shows.
-fn unshown(alloc: Global, word: &[u8]) -> Result<Vec<u8>, AllocError>
+pub(crate) fn unshown(alloc: Global, word: &[u8]) -> Result<Vec<u8>, AllocError>
     ensures { IfOk result (λ name. name.items ≡ unshown word.now) }
 {
     let mut name = Vec::new(alloc);
-    let mut at = 0;
-    while at < word.len() {
-        if word[at] == b'%' && word.len() - at > 2 {
-            name.push(nibble(word[at + 1]) * 16 + nibble(word[at + 2]))?;
-            at += 3;
-        } else {
-            name.push(word[at])?;
-            at += 1;
-        }
+    let mut left = word;
+    while let Some(taken) = first_octet(left) {
+        name.push(taken.octet)?;
+        left = taken.behind;
     }
     Ok(name)
 }
 
-/// The name that the next word shows.
-pub(crate) fn first_name(
-    alloc: Global,
-    words: &mut Pieces<'_>,
-) -> Result<Option<Octets>, AllocError>
-    ensures value { IfOk result (λ name. name ≡ first_name (pieces_left words.old)) }
-    ensures rest { IfOk result (λ name. OnSome name (pieces_left words.new ≡ rest_of (pieces_left words.old))) }
+/// Whether a word shows that name. Takes no memory.
+pub(crate) fn shows(word: &[u8], name: &[u8]) -> bool
+    ensures { result ≡ bytes_eq name.now (unshown word.now) }
 {
-    match words.next() {
-        Some(word) => Ok(Some(Octets::new(unshown(alloc, word)?))),
-        None => Ok(None),
+    let mut left = word;
+    for c in name {
+        let Some(taken) = first_octet(left) else {
+            return false;
+        };
+        if *c != taken.octet {
+            return false;
+        }
+        left = taken.behind;
     }
+    left.is_empty()
 }
 
 /// The role of a key's first octet.
@@ -92,18 +117,23 @@ fn role_of(c: u8) -> Option<Role>
     })
 }
 
-/// The key of a name with its prefix.
-pub(crate) fn key_of(alloc: Global, name: &[u8]) -> Result<Option<Key>, AllocError>
-    ensures { IfOk result (λ key. key ≡ key_of name.now) }
+/// The key of a name with its prefix, as a word shows it.
+fn key_of(word: &[u8]) -> Option<ShownKey<'_>>
+    ensures { option_map key_shown result ≡ key_of (unshown word.now) }
 {
-    if name.len() < 2 {
-        return Ok(None);
-    }
-    let Some(role) = role_of(name[0]) else {
-        return Ok(None);
-    };
-    let name = Octets::from_slice(alloc, &name[2..])?;
-    Ok(Some(Key { role, name }))
+    let mark = first_octet(word)?;
+    let colon = first_octet(mark.behind)?;
+    let role = role_of(mark.octet)?;
+    let name = colon.behind;
+    Some(ShownKey { role, name })
+}
+
+/// The key that the next word shows.
+pub fn next_key<'a>(words: &mut Pieces<'a>) -> Option<ShownKey<'a>>
+    ensures value { option_map key_shown result ≡ first_key (pieces_left words.old) }
+    ensures rest { OnSome result (pieces_left words.new ≡ rest_of (pieces_left words.old)) }
+{
+    key_of(words.next()?)
 }
 
 /// The facts of the words that are left.
