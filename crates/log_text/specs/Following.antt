@@ -109,13 +109,22 @@ entries_of far = far.log ++ last_of far.begun
 
 -- with the line of a step, of an item, of a deed
 abbrev pub with_step : SoFar → Step → SoFar
-with_step far step = record { log = entries_of far; begun = Some (record { step = step; item = None; deeds = [] }) }
+with_step far step = record {
+  log = entries_of far;
+  begun = Some (record { step = step; item = None; deeds = [] });
+}
 
 abbrev pub with_item : SoFar → ItemLine → SoFar
-with_item far item = record { log = far.log; begun = option_map (λ begun. record { step = begun.step; item = Some item; deeds = begun.deeds }) far.begun }
+with_item far item = record {
+  log = far.log;
+  begun = option_map (λ begun. record { step = begun.step; item = Some item; deeds = begun.deeds }) far.begun;
+}
 
 abbrev pub with_deed : SoFar → DeedLine → SoFar
-with_deed far deed = record { log = far.log; begun = option_map (λ begun. record { step = begun.step; item = begun.item; deeds = begun.deeds ++ deed ∷ [] }) far.begun }
+with_deed far deed = record {
+  log = far.log;
+  begun = option_map (λ begun. record { step = begun.step; item = begun.item; deeds = begun.deeds ++ deed ∷ [] }) far.begun;
+}
 
 abbrev pub told_to : SoFar → Told → SoFar
 told_to far (told.Step step) = with_step far (step_shown step)

@@ -1,7 +1,8 @@
 //! The entries of a text's lines, one line after another.
 ghost use Rattle.std.specs.Prelude.{◌≡◌, ◌∷◌, ◌++◌, [], false, None, IfOk, OnOk, map, replicate};
 ghost use Rattle.step_text.specs.Shown.{step_shown};
-ghost use Rattle.log_text.specs.Following.{begun_of, entries_of, entry_of, item_of, move_of, nobody, outcomes_of, so_far, told_to, with_deed, with_item, with_step};
+ghost use Rattle.log_text.specs.Following.{begun_of, entries_of, entry_of, so_far, told_to, with_deed, with_item, with_step};
+ghost use Rattle.log_text.specs.Following.{item_of, move_of, nobody, outcomes_of};
 ghost use Rattle.log_text.specs.Shown.{item_shown};
 ghost use Rattle.tab_law.specs.declared.limits.TheConstants.{PLACES};
 
@@ -128,7 +129,8 @@ impl Pending {
 
     /// With the line of one more deed.
     fn put_deed(&mut self, deed: &DeedLine) -> Result<(), AllocError>
-        ensures { OnOk result (begun_of self.new ≡ record { step = self.old.step; item = self.old.item; deeds = self.old.deeds.items ++ deed.now ∷ [] }) }
+        ensures { OnOk result (begun_of self.new
+            ≡ record { step = self.old.step; item = self.old.item; deeds = self.old.deeds.items ++ deed.now ∷ [] }) }
     {
         match self.deeds.push(*deed) {
             Ok(()) => Ok(()),

@@ -2,6 +2,7 @@
 #![tactic(auto, using(crate::proofs::MatchingLemmas::comparing))]
 
 ghost use Rattle.std.specs.Prelude.{◌≡◌, ◌∷◌, [], decimal};
+ghost use Rattle.std.specs.Str.{bytes_eq};
 ghost use Rattle.hex.specs.Hex.{encode_lower};
 ghost use Rattle.step_text.specs.Commands.{which};
 ghost use Rattle.step_text.specs.Guess.{unshown};
@@ -9,7 +10,6 @@ ghost use Rattle.step_text.specs.Lines.{behind, fact_words, line_of, others_of, 
 ghost use Rattle.step_text.specs.Matching.{left_of, without};
 ghost use Rattle.step_text.specs.Names.{key_name, kind_word, machine_word, names_of, shown, shown_octet};
 ghost use Rattle.step_text.specs.Shown.{key_shown, octets_in, step_shown};
-ghost use Rattle.std.specs.Str.{bytes_eq};
 
 use crate::command::Command;
 use crate::machines::Machines;
@@ -81,7 +81,8 @@ pub fn compare_key(matcher: &mut Matcher<'_>, key: &ShownKey<'_>)
 
 /// The name of a kind of events behind a blank, `-` where the book has none at that place.
 pub fn compare_kind(matcher: &mut Matcher<'_>, laws: &LawBook, machines: &Machines, kind: u8)
-    ensures { left_of matcher.new ≡ without (behind (kind_word (names_of laws.now machines.now) kind ∷ [])) (left_of matcher.old) }
+    ensures { let word = kind_word (names_of laws.now machines.now) kind in
+        left_of matcher.new ≡ without (behind (word ∷ [])) (left_of matcher.old) }
 {
     match laws.kinds().as_slice().get(usize::from(kind)) {
         Some(entry) => compare_word(matcher, entry.name.as_slice()),
@@ -91,7 +92,8 @@ pub fn compare_kind(matcher: &mut Matcher<'_>, laws: &LawBook, machines: &Machin
 
 /// A machine's key behind a blank, `-` where none has that number.
 fn compare_machine(matcher: &mut Matcher<'_>, laws: &LawBook, machines: &Machines, machine: u64)
-    ensures { left_of matcher.new ≡ without (behind (machine_word (names_of laws.now machines.now) machine ∷ [])) (left_of matcher.old) }
+    ensures { let word = machine_word (names_of laws.now machines.now) machine in
+        left_of matcher.new ≡ without (behind (word ∷ [])) (left_of matcher.old) }
 {
     for entry in machines.numbers.as_slice() {
         if entry.value == machine {
@@ -156,7 +158,9 @@ fn compare_told(
     key: &ShownKey<'_>,
     event: &Event,
 )
-    ensures { left_of matcher.new ≡ without (behind (decimal desk ∷ shown (key_name (key_shown key.now)) ∷ kind_word (names_of laws.now machines.now) event.now.kind ∷ fact_words 0 event.now.facts)) (left_of matcher.old) }
+    ensures { let names = names_of laws.now machines.now in
+        let words = decimal desk ∷ shown (key_name (key_shown key.now)) ∷ kind_word names event.now.kind ∷ fact_words 0 event.now.facts in
+        left_of matcher.new ≡ without (behind words) (left_of matcher.old) }
 {
     matcher.put_number(b" ", u64::from(desk));
     compare_key(matcher, key);
@@ -172,7 +176,8 @@ fn compare_fired(
     machine: u64,
     generation: u64,
 )
-    ensures { left_of matcher.new ≡ without (behind (machine_word (names_of laws.now machines.now) machine ∷ decimal generation ∷ [])) (left_of matcher.old) }
+    ensures { let words = machine_word (names_of laws.now machines.now) machine ∷ decimal generation ∷ [] in
+        left_of matcher.new ≡ without (behind words) (left_of matcher.old) }
 {
     compare_machine(matcher, laws, machines, machine);
     matcher.put_number(b" ", generation);
@@ -185,7 +190,8 @@ fn compare_others(
     machines: &Machines,
     step: &ShownStep<'_>,
 )
-    ensures { left_of matcher.new ≡ without (behind (others_of (names_of laws.now machines.now) (step_shown step.now))) (left_of matcher.old) }
+    ensures { let words = others_of (names_of laws.now machines.now) (step_shown step.now) in
+        left_of matcher.new ≡ without (behind words) (left_of matcher.old) }
 {
     match step {
         ShownStep::Joined => {}
