@@ -5,4 +5,4 @@ mod deeds;
 mod events;
 
 pub use deeds::{put_deed, put_deed_words, put_deeds, put_name};
-pub use events::{LinesError, fact_of, facts_of, is_skipped, read_events};
+pub use events::{Events, LinesError, fact_of, facts_of, first_bad, is_skipped, registers_of};

@@ -7,7 +7,7 @@ use tab_law::{
     ActLaw, Acted, Atom, Change, Field, GuardLaw, LawBook, Scene, Term, Terms, Test, high_into,
     holds,
 };
-use tab_walk::walk_on;
+use tab_walk::{Manner, walk_on};
 
 const TABLE: &str = "  State  Event                        Action         Next
   Wait   CCA-I when mine and success  Grant-Service  Done
@@ -58,6 +58,7 @@ fn walks(
         alloc,
         table.as_bytes(),
         registry,
+        PLAIN,
         events.as_bytes(),
         &mut sink,
     );
