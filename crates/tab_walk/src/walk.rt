@@ -1,5 +1,5 @@
 //! A walk: a table, or its image, stepped over a list of events, printed event by event.
-ghost use Rattle.std.specs.Prelude.{◌≡◌, ◌≢◌, ◌<◌, ◌≤◌, ◌-◌, ◌^◌, max, Some, None, codes, MatchResult};
+ghost use Rattle.std.specs.Prelude.{◌≡◌, ◌≢◌, ◌<◌, ◌≤◌, ◌-◌, ◌^◌, max, Some, None, codes, IfOk, MatchResult};
 ghost use Rattle.base_device.specs.Devices.{HasWriteCause, Tells};
 ghost use Rattle.base_text.specs.Digits.{is_blank};
 ghost use Rattle.event_text.specs.Events.{events_of};
@@ -7,7 +7,7 @@ ghost use Rattle.hex.specs.Hex.{is_hex_digit};
 ghost use Rattle.image_text.specs.Images.{refusal_text};
 ghost use Rattle.tab_walk.specs.Starts.{start_text};
 ghost use Rattle.tab_walk.specs.Walks.{IsImageWalked, IsReady, IsRefused, IsRunBy, IsRunFrom, IsToldWith, IsWalked};
-ghost use Rattle.tab_walk.specs.Walks.{IsWalkedOf, IsWalkedOn, StepBy, bind_text, is_image, parse_text, told_of};
+ghost use Rattle.tab_walk.specs.Walks.{IsWalkedOf, IsWalkedOn, StepBy, bind_text, is_image, neither, parse_text, table_text, told_of};
 
 use crate::pour::{Halt, Stepping, pour};
 use crate::start::{Manner, start_of};
@@ -19,7 +19,7 @@ use image_text::{ImageError, read_image, refusal_text};
 use std::alloc::{AllocError, Global};
 use tab_call::Registry;
 use tab_step::{MachineState, Unbound, bind};
-use tab_text::{ParseError, parse};
+use tab_text::{ParseError, TextCode, TextFault, parse};
 
 /// What is told where no machine is written as a walk is asked to begin.
 #[tactic(auto, unfolding(crate::specs::Starts::start_text))]
@@ -122,7 +122,7 @@ fn walk_by<O: ByteSink>(
         return tell(sink, start_text(), Status::Refused);
     };
     if let Some(line) = first_bad(registry.laws(), events) {
-        return tell_refusal(bad_line(alloc, line), sink);
+        return tell_refusal(bad_line(alloc, registry.laws(), &line), sink);
     }
     let why = manner.why;
     let by = Stepping {
@@ -131,6 +131,35 @@ fn walk_by<O: ByteSink>(
         why,
     };
     run(alloc, by, &start, events, sink)
+}
+
+/// What a text without a header is not.
+#[tactic(auto, unfolding(crate::specs::Walks::neither))]
+fn neither(code: TextCode) -> &'static [u8]
+    ensures { result.now ≡ neither code }
+{
+    match code {
+        TextCode::NoHeader => {
+            b"  neither a table nor an image, which begins with a hexadecimal digit\n"
+        }
+        TextCode::BadByte
+        | TextCode::EmptyCell
+        | TextCode::NoRowToContinue
+        | TextCode::BadName
+        | TextCode::TooManyRows
+        | TextCode::TooManyNames
+        | TextCode::TooManyInRow
+        | TextCode::TooLong => b"",
+    }
+}
+
+/// The first fault of a table's text, and what a text without a header is not.
+fn table_text(alloc: Global, fault: &TextFault) -> Result<Vec<u8>, AllocError>
+    ensures { IfOk result (λ text. text.items ≡ table_text fault.now) }
+{
+    let mut text = table_fault(alloc, fault)?;
+    text.extend_from_slice(neither(fault.code))?;
+    Ok(text)
 }
 
 /// Tells of a text that gives no table.
@@ -142,7 +171,7 @@ fn unparsed<O: ByteSink>(alloc: Global, error: &ParseError, sink: &mut O) -> Sta
 {
     match error {
         ParseError::NoMemory => tell_no_memory(sink),
-        ParseError::Fault(fault) => tell_refusal(table_fault(alloc, fault), sink),
+        ParseError::Fault(fault) => tell_refusal(table_text(alloc, fault), sink),
     }
 }
 
@@ -272,9 +301,4 @@ pub fn walk_on<O: ByteSink>(
         sink.new result }
     ensures words { result ≢ Status.Usage }
 
-    // A fault comes only where the sink failed, or took nothing in as many writes in a row as the bound says.
-    ensures cause { result ≡ Status.Fault → HasWriteCause O.failures O.idle sink.old sink.new }
-    ensures row { O.most_idle sink.new ≤ max (O.most_idle sink.old) MAX_IDLE_WRITES }
-{
-    walk_either(alloc, table, registry, manner, events, sink)
-}
+    // A fault comes only where the sink failed, or took nothing in a
