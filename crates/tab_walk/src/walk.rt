@@ -301,4 +301,9 @@ pub fn walk_on<O: ByteSink>(
         sink.new result }
     ensures words { result ≢ Status.Usage }
 
-    // A fault comes only where the sink failed, or took nothing in a
+    // A fault comes only where the sink failed, or took nothing in as many writes in a row as the bound says.
+    ensures cause { result ≡ Status.Fault → HasWriteCause O.failures O.idle sink.old sink.new }
+    ensures row { O.most_idle sink.new ≤ max (O.most_idle sink.old) MAX_IDLE_WRITES }
+{
+    walk_either(alloc, table, registry, manner, events, sink)
+}
