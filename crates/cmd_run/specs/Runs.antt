@@ -1,5 +1,5 @@
 -- What a run does of what the words ask for.
-use Rattle.std.specs.Prelude.{◌≡◌, ◌⊎◌, ℕ, List, Option, Some, None}
+use Rattle.std.specs.Prelude.{◌≡◌, ◌⊎◌, ℕ, Bool, List, Option, Some, None}
 use Rattle.base_device.specs.Devices.{Tells}
 use Rattle.base_device.specs.Inputs.{IsInput}
 use Rattle.base_device.specs.declared.status.Status.{Status}
@@ -11,17 +11,23 @@ use Rattle.law_text.specs.Sentences.{book_text}
 use Rattle.role_tables.specs.Roles.{all_laws, table_named}
 use Rattle.tab_draw.specs.Runs.{graph_status, graph_text}
 use Rattle.tab_text.specs.Faults.{first_fault}
+use Rattle.tab_walk.specs.Starts.{from_of}
 use Rattle.tab_walk.specs.Walks.{IsWalkedOn}
+use Rattle.tab_walk.specs.declared.start.Manner.{Manner}
 use Rattle.cmd_words.specs.Words.{Wanted, Read, Walk, Names, Table, Draw, Assemble, ListImage, Nothing}
 
--- A table, or its image, and then events were read whole, and what is told is the walk of the table over the events, over all laws.
-pub record WalksTable {I O : Type 0} (remaining : I → Option (List ℕ)) (reads failures : I → ℕ) (contents : O → Option (List ℕ)) (write_failures idle : O → ℕ) (source source' : I) (sink sink' : O) (answer : Status) : Type 0 where
+-- A table, or its image, and then events were read whole, and what is told is the walk of the table over the events, over all laws,
+-- in the manner that was asked for.
+pub record WalksTable {I O : Type 0} (remaining : I → Option (List ℕ)) (reads failures : I → ℕ) (contents : O → Option (List ℕ)) (write_failures idle : O → ℕ) (why : Bool) (from : Option (List ℕ)) (source source' : I) (sink sink' : O) (answer : Status) : Type 0 where
   pub table : List ℕ
   pub events : List ℕ
   pub between : I
   pub table_read : IsInput remaining reads failures source between table
   pub events_read : IsInput remaining reads failures between source' events
-  pub walked : IsWalkedOn contents write_failures idle all_laws table events sink sink' answer
+  pub manner : Manner
+  pub says_why : manner.why ≡ why
+  pub begins : from_of manner ≡ from
+  pub walked : IsWalkedOn contents write_failures idle all_laws manner table events sink sink' answer
 
 -- A table was read whole, and what is told is its graph, or its first fault.
 pub record DrawsTable {I O : Type 0} (remaining : I → Option (List ℕ)) (reads failures : I → ℕ) (contents : O → Option (List ℕ)) (write_failures idle : O → ℕ) (source source' : I) (sink sink' : O) (answer : Status) : Type 0 where
@@ -50,8 +56,8 @@ TellsTable contents failures idle None old new answer = (text : List ℕ) × Tel
 abbrev pub IsMet : {I O : Type 0} → (remaining : I → Option (List ℕ)) → (reads failures : I → ℕ) → (contents : O → Option (List ℕ)) → (write_failures idle : O → ℕ) → Wanted → (source source' : I) → (sink sink' : O) → Status → Type 0
 IsMet remaining reads failures contents write_failures idle (Read style by_line dictionary file) source source' sink sink' answer =
     ReadsWith remaining reads failures contents write_failures idle style by_line dictionary file source source' sink sink' answer ⊎ TellsNoMemory contents write_failures idle sink sink' answer
-IsMet remaining reads failures contents write_failures idle (Walk table events) source source' sink sink' answer =
-    WalksTable remaining reads failures contents write_failures idle source source' sink sink' answer ⊎ TellsNoMemory contents write_failures idle sink sink' answer
+IsMet remaining reads failures contents write_failures idle (Walk why from table events) source source' sink sink' answer =
+    WalksTable remaining reads failures contents write_failures idle why from source source' sink sink' answer ⊎ TellsNoMemory contents write_failures idle sink sink' answer
 IsMet remaining reads failures contents write_failures idle Names source source' sink sink' answer =
     (source' ≡ source)
     × (Tells contents write_failures idle sink sink' (book_text all_laws) statuses.Done answer ⊎ TellsNoMemory contents write_failures idle sink sink' answer)

@@ -52,7 +52,9 @@ fn run<I: FileSource, O: ByteSink>(
         Task::Read(style, by_line, dictionary, file) => {
             read(alloc, style, by_line, dictionary, file, source, sink)
         }
-        Task::Walk(table, events) => walk(alloc, table, events, source, sink),
+        Task::Walk(why, from, table, events) => {
+            walk(alloc, why, from, table, events, source, sink)
+        }
         Task::Names => tell_names(alloc, sink),
         Task::Table(name) => tell_table(name, sink),
         Task::Draw(table) => draw(alloc, table, source, sink),

@@ -1,14 +1,16 @@
 //! `walk`: a table or its image stepped over events, by callbacks that answer by the laws of all roles; the names that tables may use.
-ghost use Rattle.std.specs.Prelude.{◌≡◌, ◌≢◌, ◌⊎◌, ◌<◌, ◌≤◌, ◌+◌, ◌*◌, ◌-◌, ◌^◌, max, IfOk, OnErr};
+ghost use Rattle.std.specs.Prelude.{◌≡◌, ◌≢◌, ◌⊎◌, ◌<◌, ◌≤◌, ◌+◌, ◌*◌, ◌-◌, ◌^◌, max, option_map, IfOk, OnErr};
 ghost use Rattle.base_device.specs.Devices.{HasWriteCause, IsRun, Tells};
 ghost use Rattle.cmd_read.specs.Reads.{TellsNoMemory};
 ghost use Rattle.cmd_run.specs.Runs.{TellsTable, WalksTable};
 ghost use Rattle.law_text.specs.Sentences.{book_text};
 ghost use Rattle.role_tables.specs.Roles.{all_laws, table_named};
+ghost use Rattle.tab_walk.specs.Starts.{from_of};
 ghost use Rattle.tab_walk.specs.Walks.{IsWalkedOn};
 
+use crate::unread::tell_not_whole;
 use base_device::{
-    ByteSink, FileSource, MAX_IDLE_WRITES, MAX_READS, Status, read_input, tell, tell_unread,
+    ByteSink, FileSource, MAX_IDLE_WRITES, MAX_READS, Status, read_input, tell,
 };
 use law_text::put_book;
 use role_tables::{all_laws, table_named};
@@ -16,7 +18,7 @@ use std::alloc::{AllocError, Global};
 use tab_call::{Ask, Calls, Do, Registry, StoredAct, StoredGuard};
 use tab_law::{Acted, LawBook, Scene, high_into, holds};
 use tab_role::TakesRoles;
-use tab_walk::walk_on;
+use tab_walk::{Manner, walk_on};
 
 /// What is told where no table has the name.
 const NO_ROLE: &str = "wanted the name of a shipped table: peer, client or server\n";
@@ -25,13 +27,14 @@ const NO_ROLE: &str = "wanted the name of a shipped table: peer, client or serve
 fn walk_by<O: ByteSink>(
     alloc: Global,
     laws: &LawBook,
+    manner: Manner<'_>,
     table: &[u8],
     events: &[u8],
     sink: &mut O,
 ) -> Result<Status, AllocError>
     requires idle { O.idle sink.old ≡ 0 }
     requires failures { O.failures sink.old < 2 ^ 64 - 1 }
-    ensures walk { IfOk result (IsWalkedOn O.contents O.failures O.idle laws.now table.now events.now sink.old sink.new) }
+    ensures walk { IfOk result (IsWalkedOn O.contents O.failures O.idle laws.now manner.entry table.now events.now sink.old sink.new) }
     ensures err { OnErr result (sink.new ≡ sink.old) }
     ensures row { O.most_idle sink.new ≤ max (O.most_idle sink.old) MAX_IDLE_WRITES }
 {
@@ -54,7 +57,7 @@ fn walk_by<O: ByteSink>(
     if registry.register(laws, Calls { guards, acts }).is_err() {
         return Err(AllocError);
     }
-    Ok(walk_on(alloc, table, &registry, events, sink))
+    Ok(walk_on(alloc, table, &registry, manner, events, sink))
 }
 
 pub(crate) fn tell_no_memory<O: ByteSink>(sink: &mut O) -> Status
@@ -67,24 +70,46 @@ pub(crate) fn tell_no_memory<O: ByteSink>(sink: &mut O) -> Status
 }
 
 /// Walks a table over the callbacks of all roles.
-fn walk_all<O: ByteSink>(alloc: Global, table: &[u8], events: &[u8], sink: &mut O) -> Status
+fn walk_all<O: ByteSink>(
+    alloc: Global,
+    manner: Manner<'_>,
+    table: &[u8],
+    events: &[u8],
+    sink: &mut O,
+) -> Status
     requires idle { O.idle sink.old ≡ 0 }
     requires failures { O.failures sink.old < 2 ^ 64 - 1 }
-    ensures walk { IsWalkedOn O.contents O.failures O.idle all_laws table.now events.now sink.old sink.new result }
+    ensures walk { IsWalkedOn O.contents O.failures O.idle all_laws manner.entry table.now events.now sink.old sink.new result }
     ensures row { O.most_idle sink.new ≤ max (O.most_idle sink.old) MAX_IDLE_WRITES }
 {
     let Ok(laws) = all_laws(alloc) else {
         return tell_no_memory(sink);
     };
-    match walk_by(alloc, &laws, table, events, sink) {
+    match walk_by(alloc, &laws, manner, table, events, sink) {
         Ok(status) => status,
         Err(AllocError) => tell_no_memory(sink),
+    }
+}
+
+/// The manner of a walk, by what its words ask for.
+fn manner_of<'a>(why: bool, from: Option<&'a str>) -> Manner<'a>
+    ensures why { result.why ≡ why }
+    ensures from { from_of result ≡ option_map (λ text. text.now) from.entry }
+{
+    match from {
+        Some(text) => Manner {
+            why,
+            from: Some(text.as_bytes()),
+        },
+        None => Manner { why, from: None },
     }
 }
 
 /// Reads the table of a file, and events of another or of standard input, and walks.
 pub(crate) fn walk<I: FileSource, O: ByteSink>(
     alloc: Global,
+    why: bool,
+    from: Option<&str>,
     table: &str,
     events: Option<&str>,
     source: &mut I,
@@ -98,19 +123,19 @@ pub(crate) fn walk<I: FileSource, O: ByteSink>(
     ensures row { O.most_idle sink.new ≤ max (O.most_idle sink.old) MAX_IDLE_WRITES }
     ensures run { IsRun I.reads I.failures O.failures O.idle source.old source.new sink.old sink.new result }
     ensures met { result ≢ Status.Fault
-        → WalksTable I.remaining I.reads I.failures O.contents O.failures O.idle source.old source.new sink.old sink.new result
+        → WalksTable I.remaining I.reads I.failures O.contents O.failures O.idle why (option_map (λ text. text.now) from.entry) source.old source.new sink.old sink.new result
         ⊎ TellsNoMemory O.contents O.failures O.idle sink.old sink.new result }
     ensures words { result ≢ Status.Usage }
 {
     let table_text = match read_input(alloc, Some(table), source) {
         Ok(text) => text,
-        Err(why) => return tell_unread(alloc, Some(table), why, sink),
+        Err(why) => return tell_not_whole(alloc, Some(table), why, sink),
     };
     let event_text = match read_input(alloc, events, source) {
         Ok(text) => text,
-        Err(why) => return tell_unread(alloc, events, why, sink),
+        Err(why) => return tell_not_whole(alloc, events, why, sink),
     };
-    walk_all(alloc, &table_text, &event_text, sink)
+    walk_all(alloc, manner_of(why, from), &table_text, &event_text, sink)
 }
 
 /// The kinds, guards and actions of all roles, with their laws.

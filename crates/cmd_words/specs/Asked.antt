@@ -14,7 +14,8 @@ use Rattle.cmd_words.specs.declared.words.WordsError.TheVariants as errors
 -- what a command asks for
 abbrev pub meaning : Task → Wanted
 meaning (tasks.Read style by_line dictionary file) = Read style by_line (option_map (λ name. name.now) dictionary) (option_map (λ name. name.now) file)
-meaning (tasks.Walk table events) = Walk table.now (option_map (λ name. name.now) events)
+meaning (tasks.Walk why from table events) =
+    Walk why (option_map (λ text. text.now) from) table.now (option_map (λ name. name.now) events)
 meaning tasks.Names = Names
 meaning (tasks.Table role) = Table role.now
 meaning (tasks.Draw table) = Draw (option_map (λ name. name.now) table)

@@ -22,9 +22,9 @@ option_rule id name = record (new_rule id) { long = Some name }
 abbrev pub read_app : App
 read_app = with_rule (with_rule (with_rule (with_rule (with_rule (new_app (codes "read")) (new_rule (codes "FILE"))) (flag_rule (codes "explain"))) (flag_rule (codes "json"))) (flag_rule (codes "lines"))) (option_rule (codes "DICT") (codes "dict"))
 
--- `walk`, with TABLE and EVENTS, or `--names`, or `--table NAME`
+-- `walk`, with TABLE and EVENTS, `--why` and `--from`, or `--names`, or `--table NAME`
 abbrev pub walk_app : App
-walk_app = with_rule (with_rule (with_rule (with_rule (new_app (codes "walk")) (new_rule (codes "TABLE"))) (new_rule (codes "EVENTS"))) (flag_rule (codes "names"))) (option_rule (codes "NAME") (codes "table"))
+walk_app = with_rule (with_rule (with_rule (with_rule (with_rule (with_rule (new_app (codes "walk")) (new_rule (codes "TABLE"))) (new_rule (codes "EVENTS"))) (flag_rule (codes "why"))) (option_rule (codes "FROM") (codes "from"))) (flag_rule (codes "names"))) (option_rule (codes "NAME") (codes "table"))
 
 -- `draw`, with one TABLE at most
 abbrev pub draw_app : App
@@ -51,12 +51,12 @@ dbench_app = with_subcommand (with_subcommand (with_subcommand walking_app draw_
 unfoldable pub word_faults : List Text → Kinds
 word_faults words = fault_of dbench_app words
 
--- what a command asks for: messages in a style, each line by itself or not, by the dictionary of a file or without one, of this file or of standard input; a walk of a table
--- over events of a file or of standard input; the names that tables may use; the table of a role; the graph or the image of a table
+-- what a command asks for: messages in a style, each line by itself or not, by the dictionary of a file or without one, of this file or of standard input; a walk, which says why or doesn't,
+-- from where it is told or from the start, of a table over events of a file or of standard input; the names that tables may use; the table of a role; the graph or the image of a table
 -- of a file or of standard input; what such an image holds, in words; or not one thing
 pub data Wanted : Type 0 where
   Read : Style → Bool → (dictionary file : Option Text) → Wanted
-  Walk : Text → Option Text → Wanted
+  Walk : (why : Bool) → (from : Option Text) → (table : Text) → (events : Option Text) → Wanted
   Names : Wanted
   Table : Text → Wanted
   Draw : Option Text → Wanted
@@ -64,12 +64,12 @@ pub data Wanted : Type 0 where
   ListImage : Option Text → Wanted
   Nothing : Wanted
 
--- what `walk` asks for: by its flag, NAME, TABLE and EVENTS
-abbrev pub walk_wanted : Bool → (role table events : Option Text) → Wanted
-walk_wanted true None None None = Names
-walk_wanted false (Some role) None None = Table role
-walk_wanted false None (Some table) events = Walk table events
-walk_wanted flag role table events = Nothing
+-- what `walk` asks for: by its flags `names` and `why`, NAME, FROM, TABLE and EVENTS
+abbrev pub walk_wanted : (names why : Bool) → (role from table events : Option Text) → Wanted
+walk_wanted true false None None None None = Names
+walk_wanted false false (Some role) None None None = Table role
+walk_wanted false why None from (Some table) events = Walk why from table events
+walk_wanted names why role from table events = Nothing
 
 -- a flag that was given has this value
 abbrev pub is_given : Option Text → Bool
@@ -90,7 +90,7 @@ wanted_of (Some used) =
     else if bytes_eq used.0 (codes "asm") then Assemble (first_of (codes "TABLE") used.1)
     else if bytes_eq used.0 (codes "list") then ListImage (first_of (codes "FILE") used.1)
     else if bytes_eq used.0 (codes "walk")
-    then walk_wanted (is_given (first_of (codes "names") used.1)) (first_of (codes "NAME") used.1) (first_of (codes "TABLE") used.1) (first_of (codes "EVENTS") used.1)
+    then walk_wanted (is_given (first_of (codes "names") used.1)) (is_given (first_of (codes "why") used.1)) (first_of (codes "NAME") used.1) (first_of (codes "FROM") used.1) (first_of (codes "TABLE") used.1) (first_of (codes "EVENTS") used.1)
     else read_wanted (is_given (first_of (codes "explain") used.1)) (is_given (first_of (codes "json") used.1)) (is_given (first_of (codes "lines") used.1)) (first_of (codes "DICT") used.1) (first_of (codes "FILE") used.1)
 
 -- what the words ask for, where they are a command

@@ -159,6 +159,19 @@ fn walk_command<'a>(alloc: Global) -> Result<Command<'a>, AllocError>
     let command = with_flag(
         alloc,
         command,
+        "why",
+        "Say under each step which registers changed, and why rows before the one that took the event didn't",
+    )?;
+    let command = with_option(
+        alloc,
+        command,
+        "FROM",
+        "from",
+        "Begin elsewhere: 'STATE rN=V ..', one word for the shell",
+    )?;
+    let command = with_flag(
+        alloc,
+        command,
         "names",
         "Print the kinds, guards and actions that a table may name, with their laws",
     )?;

@@ -46,13 +46,19 @@ A line of events is KIND N=V ..: a kind that `--names` lists, and then facts, nu
 (0 to 63) at most once; facts that aren't given are 0. Lines that are empty or begin with a blank are skipped, so a
 printed walk may be handed in again once ` FROM TO row N` is cut off.
 
+With --why each step also tells the registers that changed (`r3 0 -> 60`), and of each row of that state and kind before
+the one taken its first guard that says no, with the first test of its law that isn't met: `row 2: not success: fact 12 is
+4012, wanted f12 in 2001, 2002`, and `, where r1 is 3` where it is compared with a register. An image tells no rows. With
+--from 'STATE rN=V ..' the machine begins in that state, with those registers.
+
   dbench walk --table peer > peer.tbl
   echo 'Start' | dbench walk peer.tbl
-  dbench walk peer.tbl election.events
+  dbench walk --why peer.tbl election.events
+  dbench walk --from 'Open r3=60' client.tbl events
 
 Nothing is stepped where something is wrong. `line N fault C` is the first fault of the table, `unbound NAME` a name
-of the table that `--names` doesn't list, `bad line N` the first line of events that is none, from 1; the line below
-says what was wanted. `bad hex` and `at N fault C` are what is wrong with an image; `list --help` says more. TABLE is an
+of the table that `--names` doesn't list, `bad start` a --from of another form, `bad line N` the first line of events that
+is none, from 1; the lines below say what was wanted. `bad hex` and `at N fault C` are what is wrong with an image; `list --help` says more. TABLE is an
 image where its first character that is no blank is a hexadecimal digit.";
 
 pub(crate) const DRAW_ABOUT: &str = "Draw a state table as a graph, for Graphviz";
@@ -118,7 +124,7 @@ For more information, try '--help'.
 pub(crate) const WALK_USAGE: &str = "\
 wanted one of: a TABLE, --names, --table NAME
 
-Usage: dbench walk TABLE [EVENTS]
+Usage: dbench walk [--why] [--from 'STATE rN=V ..'] TABLE [EVENTS]
        dbench walk --names
        dbench walk --table NAME
 

@@ -47,8 +47,9 @@ pub enum Task<'a> {
     /// `read` in a style, each line by itself or not, by the dictionary of a file or without one, of this file or of standard
     /// input.
     Read(Style, bool, Option<&'a str>, Option<&'a str>),
-    /// `walk`, of this table, over the events of this file or of standard input.
-    Walk(&'a str, Option<&'a str>),
+    /// `walk`, saying why or not, from where this text says or from the start, of this table, over the events of this file or
+    /// of standard input.
+    Walk(bool, Option<&'a str>, &'a str, Option<&'a str>),
     /// The names that tables may use.
     Names,
     /// The table of the role of that name.
@@ -136,19 +137,21 @@ fn read_task<'a>(
     }
 }
 
-/// What `walk` asks for, by its flag, NAME, TABLE and EVENTS.
+/// What `walk` asks for, by its flags, NAME, FROM, TABLE and EVENTS.
 fn walk_task<'a>(
     names: bool,
+    why: bool,
     role: Option<&'a str>,
+    from: Option<&'a str>,
     table: Option<&'a str>,
     events: Option<&'a str>,
 ) -> Task<'a>
-    ensures { meaning result ≡ walk_wanted names (option_map (λ text. text.now) role.entry) (option_map (λ text. text.now) table.entry) (option_map (λ text. text.now) events.entry) }
+    ensures { meaning result ≡ walk_wanted names why (option_map (λ text. text.now) role.entry) (option_map (λ text. text.now) from.entry) (option_map (λ text. text.now) table.entry) (option_map (λ text. text.now) events.entry) }
 {
-    match (names, role, table, events) {
-        (true, None, None, None) => Task::Names,
-        (false, Some(role), None, None) => Task::Table(role),
-        (false, None, Some(table), _) => Task::Walk(table, events),
+    match (names, why, role, from, table, events) {
+        (true, false, None, None, None, None) => Task::Names,
+        (false, false, Some(role), None, None, None) => Task::Table(role),
+        (false, _, None, _, Some(table), _) => Task::Walk(why, from, table, events),
         _ => Task::Nothing(WALK_USAGE),
     }
 }
@@ -175,10 +178,13 @@ fn task_of<'a>(name: &str, found: &ArgMatches<'a>) -> Task<'a>
     }
     if name == "walk" {
         let names = is_given(value_of(found, "names"));
+        let why = is_given(value_of(found, "why"));
         let role = value_of(found, "NAME");
         walk_task(
             names,
+            why,
             role,
+            value_of(found, "FROM"),
             value_of(found, "TABLE"),
             value_of(found, "EVENTS"),
         )

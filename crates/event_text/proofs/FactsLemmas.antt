@@ -5,7 +5,7 @@ use Rattle.std.proofs.lemmas.Bool.{both_ways, cond-false, eqb-false, eqb-true}
 use Rattle.std.proofs.lemmas.List.FromFn.{fill_by_all}
 use Rattle.tab_law.specs.declared.limits.TheConstants.{PLACES}
 use Rattle.text_parts.specs.Words.{Word}
-use Rattle.event_text.specs.Events.{are_different, are_facts, fact_of, facts_in, facts_of, value_of}
+use Rattle.event_text.specs.Events.{are_different, are_facts, facts_by, facts_in, labelled, value_of}
 
 -- the number of a fact wasn't given before
 abbrev is_new : List Bool → ℕ × ℕ → Bool
@@ -16,12 +16,13 @@ abbrev value_with : List ℕ → List Bool → List (ℕ × ℕ) → ℕ → ℕ
 value_with facts given written number = if get_or given number false then get_or facts number 0 else value_of written number
 
 -- these words are facts, with numbers that weren't given before
-abbrev are_more : List Bool → List Word → Bool
-are_more given left = are_facts left && list_all (is_new given) (facts_in left)
+abbrev are_more : Option ℕ → List Bool → List Word → Bool
+are_more letter given left = are_facts letter left && list_all (is_new given) (facts_in letter left)
 
 -- what the facts so far and the words that are left make
-abbrev pub goes_on : List ℕ → List Bool → List Word → Option (List ℕ)
-goes_on facts given left = if are_more given left then Some (map (value_with facts given (facts_in left)) (range_with_len 0 PLACES)) else None
+abbrev pub goes_on : Option ℕ → List ℕ → List Bool → List Word → Option (List ℕ)
+goes_on letter facts given left =
+    if are_more letter given left then Some (map (value_with facts given (facts_in letter left)) (range_with_len 0 PLACES)) else None
 
 -- what isn't given is 0
 abbrev pub AreZeroes : List ℕ → List Bool → Type 0
@@ -47,14 +48,14 @@ get_or-same (suc len) zero a = refl
 get_or-same (suc len) (suc number) a = get_or-same len number a
 
 -- before the first word nothing is given
-pub facts_of-start : (all : List Word) → facts_of all ≡ goes_on (replicate PLACES 0) (replicate PLACES false) all
-unfolding facts_of
-facts_of-start all =
+pub facts_by-start : (letter : Option ℕ) (all : List Word) → facts_by letter all ≡ goes_on letter (replicate PLACES 0) (replicate PLACES false) all
+unfolding facts_by
+facts_by-start letter all =
     let none : (number : ℕ) → get_or (replicate PLACES false) number false ≡ false = λ number. get_or-same PLACES number false in
-    goes_on-same (are_facts all) (are_more (replicate PLACES false) all) (value_of (facts_in all)) (value_with (replicate PLACES 0) (replicate PLACES false) (facts_in all))
+    goes_on-same (are_facts letter all) (are_more letter (replicate PLACES false) all) (value_of (facts_in letter all)) (value_with (replicate PLACES 0) (replicate PLACES false) (facts_in letter all))
     (range_with_len 0 PLACES)
-    (and_true (are_facts all) _ (is_new-all (replicate PLACES false) (facts_in all) none))
-    (λ number. sym (cond-false (get_or (replicate PLACES false) number false) _ (value_of (facts_in all) number) (none number)))
+    (and_true (are_facts letter all) _ (is_new-all (replicate PLACES false) (facts_in letter all) none))
+    (λ number. sym (cond-false (get_or (replicate PLACES false) number false) _ (value_of (facts_in letter all) number) (none number)))
 
 pub AreZeroes-start : AreZeroes (replicate PLACES 0) (replicate PLACES false)
 AreZeroes-start number none = get_or-same PLACES number 0
@@ -65,9 +66,9 @@ value-kept true value zeroes = refl
 value-kept false value zeroes = zeroes refl
 
 -- no word is left
-pub goes_on-end : (facts : List ℕ) (given : List Bool) (left : List Word) → left ≡ [] → length facts ≡ PLACES → AreZeroes facts given
-    → Some facts ≡ goes_on facts given left
-goes_on-end facts given left joined all zeroes =
+pub goes_on-end : (letter : Option ℕ) (facts : List ℕ) (given : List Bool) (left : List Word) → left ≡ [] → length facts ≡ PLACES → AreZeroes facts given
+    → Some facts ≡ goes_on letter facts given left
+goes_on-end letter facts given left joined all zeroes =
     let same : facts ≡ map (value_with facts given []) (range_with_len 0 PLACES) =
     fill_by_all (value_with facts given []) facts PLACES 0 all (λ number below. value-kept (get_or given number false) (get_or facts number 0) (zeroes number)) in
     rw joined (ap Some same)
@@ -115,15 +116,15 @@ value_with-set facts given others number value asked false in_facts in_given new
     rw (is, get_or-set_other given number asked true false other, get_or-set_other facts number asked value 0 other) refl
 
 -- a fact with a number that wasn't given before
-pub goes_on-more : (facts : List ℕ) (given : List Bool) (left rest : List Word) (word : Word) (number value : ℕ) → left ≡ word ∷ rest → Some (number, value) ≡ fact_of word.octets
+pub goes_on-more : (letter : Option ℕ) (facts : List ℕ) (given : List Bool) (left rest : List Word) (word : Word) (number value : ℕ) → left ≡ word ∷ rest → Some (number, value) ≡ labelled letter word.octets
     → number < length facts → number < length given → get_or given number false ≡ false
-    → goes_on facts given left ≡ goes_on (set facts number value) (set given number true) rest
-goes_on-more facts given left rest word number value joined is in_facts in_given new =
-    let tests : are_more given left ≡ are_more (set given number true) rest =
-    rw (joined, ← is, new, is_new-behind given number (facts_in rest) in_given)
-    (move_test (list_all (λ word. is_some (fact_of word.octets)) rest) _ (are_different (map (λ fact. fact.0) (facts_in rest))) _) in
-    let values : (asked : ℕ) → value_with facts given (facts_in left) asked ≡ value_with (set facts number value) (set given number true) (facts_in rest) asked =
-    λ asked. rw (joined, ← is) (value_with-set facts given (facts_in rest) number value asked (number == asked) in_facts in_given new refl) in
+    → goes_on letter facts given left ≡ goes_on letter (set facts number value) (set given number true) rest
+goes_on-more letter facts given left rest word number value joined is in_facts in_given new =
+    let tests : are_more letter given left ≡ are_more letter (set given number true) rest =
+    rw (joined, ← is, new, is_new-behind given number (facts_in letter rest) in_given)
+    (move_test (list_all (λ word. is_some (labelled letter word.octets)) rest) _ (are_different (map (λ fact. fact.0) (facts_in letter rest))) _) in
+    let values : (asked : ℕ) → value_with facts given (facts_in letter left) asked ≡ value_with (set facts number value) (set given number true) (facts_in letter rest) asked =
+    λ asked. rw (joined, ← is) (value_with-set facts given (facts_in letter rest) number value asked (number == asked) in_facts in_given new refl) in
     goes_on-same _ _ _ _ (range_with_len 0 PLACES) tests values
 
 zeroes-set : (facts : List ℕ) (given : List Bool) (number value asked : ℕ) (same : Bool) → number < length given → AreZeroes facts given → (asked == number) ≡ same

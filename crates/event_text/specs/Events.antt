@@ -28,9 +28,15 @@ fact_between (number ∷ value ∷ other ∷ others) = None
 unfoldable pub fact_of : List ℕ → Option (ℕ × ℕ)
 fact_of word = fact_between (slice_split (λ c. c == 61) word)
 
+-- the same of a word with a letter in front, where one is wanted: `rN=V`
+abbrev pub labelled : Option ℕ → List ℕ → Option (ℕ × ℕ)
+labelled None word = fact_of word
+labelled (Some letter) [] = None
+labelled (Some letter) (c ∷ word) = if c == letter then fact_of word else None
+
 -- the facts that words are
-abbrev pub facts_in : List Word → List (ℕ × ℕ)
-facts_in all = filter_map (λ word. fact_of word.octets) all
+abbrev pub facts_in : Option ℕ → List Word → List (ℕ × ℕ)
+facts_in letter all = filter_map (λ word. labelled letter word.octets) all
 
 -- no number stands twice
 abbrev pub are_different : List ℕ → Bool
@@ -38,16 +44,26 @@ are_different [] = true
 are_different (number ∷ others) = not (list_any (λ other. other == number) others) && are_different others
 
 -- each word is a fact, and no two have one number
-abbrev pub are_facts : List Word → Bool
-are_facts all = list_all (λ word. is_some (fact_of word.octets)) all && are_different (map (λ fact. fact.0) (facts_in all))
+abbrev pub are_facts : Option ℕ → List Word → Bool
+are_facts letter all =
+    list_all (λ word. is_some (labelled letter word.octets)) all && are_different (map (λ fact. fact.0) (facts_in letter all))
 
 -- the value that is written for a number, or 0
 abbrev pub value_of : List (ℕ × ℕ) → ℕ → ℕ
 value_of facts number = unwrap_or (option_map (λ fact. fact.1) (find (λ fact. fact.0 == number) facts)) 0
 
 -- the values of the numbers below PLACES, where the words are facts
+unfoldable pub facts_by : Option ℕ → List Word → Option (List ℕ)
+facts_by letter all =
+    if are_facts letter all then Some (map (value_of (facts_in letter all)) (range_with_len 0 PLACES)) else None
+
+-- of words `N=V`
 unfoldable pub facts_of : List Word → Option (List ℕ)
-facts_of all = if are_facts all then Some (map (value_of (facts_in all)) (range_with_len 0 PLACES)) else None
+facts_of all = facts_by None all
+
+-- of words `rN=V`: registers
+unfoldable pub registers_of : List Word → Option (List ℕ)
+registers_of all = facts_by (Some 114) all
 
 -- an event of that kind, if these are facts
 abbrev pub event_with : Option ℕ → Option (List ℕ) → Option Event
@@ -77,17 +93,17 @@ event_lines all = filter (λ line. not (is_skipped line.octets)) all
 abbrev pub events_in : Laws → List Line → List Event
 events_in laws all = filter_map (λ line. event_of laws line.octets) (event_lines all)
 
--- the number of the first line that is no event
-abbrev pub bad_in : Laws → List Line → Option ℕ
-bad_in laws all = option_map (λ line. line.number) (find (λ line. is_none (event_of laws line.octets)) (event_lines all))
+-- the first of lines that is no event
+abbrev pub bad_line_in : Laws → List Line → Option Line
+bad_line_in laws all = find (λ line. is_none (event_of laws line.octets)) (event_lines all)
 
 -- the events of a text
 abbrev pub events_of : Laws → List ℕ → List Event
 events_of laws text = events_in laws (lines text)
 
 -- the first line of a text that is no event
-abbrev pub first_bad : Laws → List ℕ → Option ℕ
-first_bad laws text = bad_in laws (lines text)
+abbrev pub bad_line : Laws → List ℕ → Option Line
+bad_line laws text = bad_line_in laws (lines text)
 
 -- the refusal names the first such line, or memory was refused
 abbrev pub IsBadText : Option ℕ → LinesError → Type 0

@@ -1,14 +1,16 @@
 //! Events as text: a line each, `KIND N=V ..`, a kind by its name and then facts by number.
-ghost use Rattle.std.specs.Prelude.{◌≡◌, ◌==◌, ◌<◌, ◌∷◌, [], None, IfOk, IfErr, IfNone, IfSome, IsErrOf, OnOk};
+ghost use Rattle.std.specs.Prelude.{◌≡◌, ◌==◌, ◌<◌, ◌∷◌, [], None, IfNone, IfSome, MatchOption};
 ghost use Rattle.std.specs.List.{slice_split};
-ghost use Rattle.event_text.specs.Events.{IsBadText, event_of, events_of, fact_between, fact_of, facts_of, first_bad, is_skipped};
+ghost use Rattle.std.specs.Option.{option_map};
+ghost use Rattle.event_text.specs.Events.{bad_line, event_of, events_of, fact_between, fact_of, facts_by, facts_of, is_skipped, labelled, registers_of};
+ghost use Rattle.text_parts.specs.Left.{line_of};
 ghost use Rattle.text_parts.specs.Pieces.{words_left};
 
 use base_text::number_of;
-use std::alloc::{AllocError, AllocFailed, Global};
+use std::alloc::{AllocError, AllocFailed};
 use tab_law::{LawBook, PLACES};
 use tab_step::Event;
-use text_parts::{Pieces, Words};
+use text_parts::{Lines, Pieces, TextLine, Words};
 
 /// Why the lines of a text are not what they are read for.
 #[derive(Clone, Copy, PartialEq, Eq)]
@@ -68,14 +70,28 @@ pub fn fact_of(word: &[u8]) -> Option<(usize, u64)>
     }
 }
 
-/// The facts of words; what isn't written is 0.
-pub fn facts_of(words: &mut Words<'_>) -> Option<[u64; PLACES]>
-    ensures { result ≡ facts_of (words_left words.old) }
+/// The number and the value of a word `N=V` with a letter in front, where one is wanted.
+fn labelled(letter: Option<u8>, word: &[u8]) -> Option<(usize, u64)>
+    ensures fact { result ≡ labelled letter word.now }
+    ensures place { IfSome result (λ fact. fact.0 < PLACES) }
+{
+    let Some(letter) = letter else {
+        return fact_of(word);
+    };
+    match word {
+        [first, rest @ ..] if *first == letter => fact_of(rest),
+        _ => None,
+    }
+}
+
+/// The facts of words, each with that letter in front where one is wanted; what isn't written is 0.
+fn facts_by(letter: Option<u8>, words: &mut Words<'_>) -> Option<[u64; PLACES]>
+    ensures { result ≡ facts_by letter (words_left words.old) }
 {
     let mut facts = [0; PLACES];
     let mut given = [false; PLACES];
     while let Some(word) = words.next() {
-        let (number, value) = fact_of(word.octets)?;
+        let (number, value) = labelled(letter, word.octets)?;
         if given[number] {
             return None;
         }
@@ -83,6 +99,22 @@ pub fn facts_of(words: &mut Words<'_>) -> Option<[u64; PLACES]>
         given[number] = true;
     }
     Some(facts)
+}
+
+/// The facts of words `N=V`; what isn't written is 0.
+#[tactic(auto, unfolding(crate::specs::Events::facts_of))]
+pub fn facts_of(words: &mut Words<'_>) -> Option<[u64; PLACES]>
+    ensures { result ≡ facts_of (words_left words.old) }
+{
+    facts_by(None, words)
+}
+
+/// The registers of words `rN=V`; what isn't written is 0.
+#[tactic(auto, unfolding(crate::specs::Events::registers_of))]
+pub fn registers_of(words: &mut Words<'_>) -> Option<[u64; PLACES]>
+    ensures { result ≡ registers_of (words_left words.old) }
+{
+    facts_by(Some(b'r'), words)
 }
 
 /// The event of a line.
@@ -111,33 +143,54 @@ pub fn is_skipped(line: &[u8]) -> bool
     }
 }
 
-/// The events of a text. Empty lines, and lines that begin with a blank, are skipped. A line is bad whose kind isn't in the book, or
-/// one of whose facts has a number that is too large or stands twice.
-pub fn read_events(alloc: Global, book: &LawBook, text: &[u8]) -> Result<Vec<Event>, LinesError>
-    ensures events { IfOk result (λ events. events.items ≡ events_of book.now text.now) }
-    ensures sound { OnOk result (first_bad book.now text.now ≡ None) }
-    ensures bad { IfErr result (IsBadText (first_bad book.now text.now)) }
-
-    // A bad line is told whatever the memory.
-    ensures memory { IsErrOf result LinesError.NoMemory → first_bad book.now text.now ≡ None }
+/// The first line of a text that is no event, if there is one. Empty lines, and lines that begin with a blank, are
+/// skipped. A line is no event whose kind isn't in the book, or one of whose facts has a number that is too large or stands
+/// twice.
+pub fn first_bad<'a>(book: &LawBook, text: &'a [u8]) -> Option<TextLine<'a>>
+    ensures { option_map line_of result ≡ bad_line book.now text.now }
 {
-    let mut events = Vec::new(alloc);
-    let mut lines = Pieces::new(text, b'\n');
-    let mut place = 0;
-    // Where memory ran out the other lines are only looked at.
-    let mut short = false;
+    let mut lines = Lines::new(text);
     while let Some(line) = lines.next() {
-        place += 1;
-        if is_skipped(line) {
-            continue;
-        }
-        match event_of(book, line) {
-            Some(event) => short |= events.push(event).is_err(),
-            None => return Err(LinesError::BadLine(place)),
+        if !is_skipped(line.octets) && event_of(book, line.octets).is_none() {
+            return Some(line);
         }
     }
-    if short {
-        return Err(LinesError::NoMemory);
+    None
+}
+
+/// Takes off the events of a text, one after another, without memory. Lines that are no event are passed over:
+/// [`first_bad`] tells whether there is one.
+#[derive(Drop)]
+pub struct Events<'a> {
+    lines: Lines<'a>,
+}
+
+impl<'a> Events<'a> {
+    ghost use Rattle.event_text.specs.Left.{events_left};
+    ghost use Rattle.tab_law.specs.Books.{Laws};
+
+    /// All events of a text.
+    pub fn new(text: &'a [u8]) -> Events<'a>
+        ensures { (laws : Laws) → events_left laws result ≡ events_of laws text.now }
+    {
+        Events {
+            lines: Lines::new(text),
+        }
     }
-    Ok(events)
+
+    /// The next event, by the kinds of a book.
+    pub fn next(&mut self, book: &LawBook) -> Option<Event>
+        ensures { MatchOption result (events_left book.now self.old ≡ [])
+            (λ event. events_left book.now self.old ≡ event ∷ events_left book.now self.new) }
+    {
+        while let Some(line) = self.lines.next() {
+            if is_skipped(line.octets) {
+                continue;
+            }
+            if let Some(event) = event_of(book, line.octets) {
+                return Some(event);
+            }
+        }
+        None
+    }
 }

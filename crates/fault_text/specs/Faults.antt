@@ -1,5 +1,9 @@
 -- What is told of a table, or of lines of events, that is refused.
-use Rattle.std.specs.Prelude.{ℕ, List, ◌++◌, codes, decimal}
+use Rattle.std.specs.Prelude.{ℕ, Bool, List, [], ◌++◌, Option, Some, None, codes, decimal, take, if◌then◌else◌}
+use Rattle.tab_law.specs.Books.{Laws}
+use Rattle.text_parts.specs.Lines.{Line, is_plain}
+use Rattle.event_text.specs.Wrong.{wrong_of}
+use Rattle.fault_text.specs.Nearest.{nearest_line}
 use Rattle.tab_text.specs.Codes.{number_of}
 use Rattle.tab_text.specs.declared.fault.TextCode.{TextCode}
 use Rattle.tab_text.specs.declared.fault.TextCode.TheVariants.{NoHeader, BadByte, EmptyCell, NoRowToContinue, BadName, TooManyRows, TooManyNames, TooManyInRow, TooLong}
@@ -35,6 +39,21 @@ unbound_text name =
 unfoldable pub event_form : List ℕ
 event_form = codes "KIND N=V ..: a kind that is registered, then facts, each once, N at most 63 and V below 2^64"
 
--- `bad line 2`: the first line that is no event
-abbrev pub bad_text : ℕ → List ℕ
-bad_text line = codes "bad line " ++ decimal line ++ codes "\n" ++ wanted_line event_form
+-- a word as it is shown: its first 80 octets, where all are printable
+abbrev pub shown : List ℕ → List ℕ
+shown word = if is_plain word then take 80 word else codes "a word that isn't printable ASCII"
+
+-- the kind that is near a word, where one is
+abbrev pub near_kind : Laws → (Bool × List ℕ) → List ℕ
+near_kind laws wrong = if wrong.0 then nearest_line wrong.1 laws.kinds else []
+
+-- which word of a line is wrong, and the kind that is near it
+abbrev pub wrong_text : Laws → Option (Bool × List ℕ) → List ℕ
+wrong_text laws None = codes "  wrong: a fact stands twice\n"
+wrong_text laws (Some wrong) = codes "  wrong: " ++ shown wrong.1 ++ codes "\n" ++ near_kind laws wrong
+
+-- `bad line 2`: the first line that is no event, with the word of it that is wrong
+abbrev pub bad_text : Laws → Line → List ℕ
+bad_text laws line =
+    codes "bad line " ++ decimal line.number ++ codes "\n" ++ wanted_line event_form
+    ++ wrong_text laws (wrong_of laws line.octets)

@@ -1,2 +1,3 @@
 pub mod Atoms
 pub mod Sentences
+pub mod Unmet

@@ -5,6 +5,8 @@
 
 mod book;
 mod sentence;
+mod unmet;
 mod words;
 
 pub use book::put_book;
+pub use unmet::{first_unmet, put_unmet};

@@ -1,1 +1,3 @@
 pub mod WalkLemmas
+pub mod PourLemmas
+pub mod WhyLemmas

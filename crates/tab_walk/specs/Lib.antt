@@ -1,1 +1,5 @@
+pub mod Starts
+pub mod Whys
+pub mod Places
 pub mod Walks
+pub mod Pours

@@ -1,36 +1,41 @@
 -- What a walk prints: a table, or its image, stepped over a list of events.
-use Rattle.std.specs.Prelude.{◌≡◌, ◌⊎◌, ℕ, Bool, true, false, List, [], ◌∷◌, ◌++◌, replicate}
+use Rattle.std.specs.Prelude.{◌≡◌, ◌⊎◌, ℕ, Bool, true, false, List, [], ◌∷◌, ◌++◌, is_none}
 use Rattle.std.specs.Prelude.{Option, Some, None, codes, decimal, option_map, if◌then◌else◌}
 use Rattle.std.specs.List.{flat_map, slice_get}
 use Rattle.std.specs.Option.{option_map_or, option_or}
 use Rattle.tab_law.specs.Books.{Laws, NamedPermits}
-use Rattle.tab_law.specs.declared.limits.TheConstants.{PLACES}
 use Rattle.tab_text.specs.Contents.{Contents}
 use Rattle.tab_text.specs.Faults.{first_fault}
 use Rattle.tab_text.specs.Rows.{table_of}
 use Rattle.tab_text.specs.declared.fault.ParseError.{ParseError}
 use Rattle.tab_text.specs.declared.fault.ParseError.TheVariants as parsing
+use Rattle.tab_text.specs.declared.fault.TextCode.{TextCode}
+use Rattle.tab_text.specs.declared.fault.TextCode.TheVariants.{NoHeader, BadByte, EmptyCell, NoRowToContinue, BadName, TooManyRows, TooManyNames, TooManyInRow, TooLong}
+use Rattle.tab_text.specs.declared.fault.TextFault.{TextFault}
+use Rattle.tab_step.specs.Bind.{IsBoundTo, missing}
 use Rattle.tab_step.specs.declared.binding.Unbound.{Unbound}
 use Rattle.tab_step.specs.declared.binding.Unbound.TheVariants as binding
-use Rattle.tab_step.specs.Bind.{IsBoundTo, missing}
 use Rattle.tab_step.specs.Moves.{IsStep}
 use Rattle.tab_step.specs.declared.machine.Event.{Event}
 use Rattle.tab_step.specs.declared.machine.MachineState.{MachineState}
 use Rattle.tab_step.specs.declared.machine.Stepped.{Stepped}
 use Rattle.tab_load.specs.Loading.{IsLoaded, Loaded}
-use Rattle.tab_image.specs.RunBy.{IsRunBy}
+use Rattle.tab_image.specs.RunBy.{IsRunBy as IsRunByImage}
 use Rattle.image_text.specs.Images.{IsImageOf, IsNoImage, refusal_text}
 use Rattle.image_text.specs.declared.reading.ImageError.{ImageError}
 use Rattle.hex.specs.Hex.{is_hex_digit}
 use Rattle.base_text.specs.Digits.{is_blank}
-use Rattle.tab_walk.specs.declared.steps.Rules.{Rules}
-use Rattle.tab_walk.specs.declared.steps.Rules.TheVariants as rules
-use Rattle.base_device.specs.Devices.{Tells}
-use Rattle.fault_text.specs.Faults.{bad_text, table_fault, unbound_text}
-use Rattle.event_text.specs.Deeds.{deed_line, name_or}
-use Rattle.event_text.specs.Events.{events_of, first_bad}
+use Rattle.base_device.specs.Devices.{HasWriteCause, TakesWhole}
 use Rattle.base_device.specs.declared.status.Status.{Status}
 use Rattle.base_device.specs.declared.status.Status.TheVariants as statuses
+use Rattle.fault_text.specs.Faults.{bad_text, table_fault, unbound_text}
+use Rattle.event_text.specs.Deeds.{deed_line, name_or}
+use Rattle.event_text.specs.Events.{bad_line, events_of}
+use Rattle.tab_walk.specs.Starts.{from_of, start_of, start_text}
+use Rattle.tab_walk.specs.Whys.{changes_text, rows_why}
+use Rattle.tab_walk.specs.declared.start.Manner.{Manner}
+use Rattle.tab_walk.specs.declared.steps.Rules.{Rules}
+use Rattle.tab_walk.specs.declared.steps.Rules.TheVariants as rules
 
 -- the name of a state behind a blank, or its number where there is none
 abbrev pub state_text : (names : List (List ℕ)) → ℕ → List ℕ
@@ -52,16 +57,28 @@ step_text names laws before event step =
     ++ codes "\n"
     ++ flat_map deed_line step.deeds
 
--- the texts of steps, each from the state that the one before left
-abbrev pub steps_text : (names : List (List ℕ)) → Laws → ℕ → List Event → List Stepped → List ℕ
-steps_text names laws before (event ∷ events) (step ∷ steps) =
-    step_text names laws before event step ++ steps_text names laws step.after.state events steps
-steps_text names laws before [] steps = []
-steps_text names laws before (event ∷ events) [] = []
+-- what is printed of a step
+abbrev pub Printing : Type 0
+Printing = MachineState → Event → Stepped → List ℕ
 
--- a machine in state 0, its registers 0
-abbrev pub at_start : MachineState
-at_start = record { state = 0; regs = replicate PLACES 0 }
+-- the step's text, and where it is asked why, the registers that changed and why rows didn't take the event
+abbrev pub told_text : (why : Bool) → (names : List (List ℕ)) → (rows : Printing) → Laws → Printing
+told_text false names rows laws s e step = step_text names laws s.state e step
+told_text true names rows laws s e step =
+    step_text names laws s.state e step ++ changes_text s.regs step.after.regs ++ rows s e step
+
+-- why the rows of a table before the one that took the event didn't take it; an image tells no rows
+abbrev pub table_rows : Contents → Laws → Printing
+table_rows table laws s e step = rows_why table laws s e step.row
+
+abbrev pub image_rows : Printing
+image_rows s e step = []
+
+-- the texts of steps, each from where the one before left the machine
+abbrev pub steps_text : Printing → MachineState → List Event → List Stepped → List ℕ
+steps_text told s (event ∷ events) (step ∷ steps) = told s event step ++ steps_text told step.after events steps
+steps_text told s [] steps = []
+steps_text told s (event ∷ events) [] = []
 
 -- one step for each event, each from where the one before left the machine
 abbrev pub AreSteps :
@@ -72,13 +89,24 @@ AreSteps Step s (event ∷ events) (step ∷ steps) = Step s event step × AreSt
 AreSteps Step s [] (step ∷ steps) = ⊥
 AreSteps Step s (event ∷ events) [] = ⊥
 
--- The text of a machine's run on events, by what is a step of it; the names are those of its states.
+-- The text of a machine's run on events from a start, by what is a step of it and what is printed of one.
 pub record RunText
-    (Step : MachineState → Event → Stepped → Type 0) (names : List (List ℕ)) (laws : Laws) (events : List Event)
+    (Step : MachineState → Event → Stepped → Type 0) (told : Printing) (start : MachineState) (events : List Event)
     (text : List ℕ) : Type 0 where
   pub steps : List Stepped
-  pub run : AreSteps Step at_start events steps
-  pub printed : text ≡ steps_text names laws 0 events steps
+  pub run : AreSteps Step start events steps
+  pub printed : text ≡ steps_text told start events steps
+
+-- Memory ran out: the text of a run on the events in front, and then that is told.
+pub record HaltText
+    (Step : MachineState → Event → Stepped → Type 0) (told : Printing) (start : MachineState) (events : List Event)
+    (text : List ℕ) : Type 0 where
+  pub front : List Event
+  pub back : List Event
+  pub shown : List ℕ
+  pub split : events ≡ front ++ back
+  pub run : RunText Step told start front shown
+  pub joined : text ≡ shown ++ codes "no memory\n"
 
 -- a step by the rows of a table, one that the laws permit
 abbrev pub StepByRows : Contents → Laws → (MachineState → Event → Stepped → Type 0)
@@ -86,31 +114,84 @@ StepByRows table laws = IsStep (NamedPermits laws) table laws
 
 -- a step by a loaded image, likewise
 abbrev pub StepByImage : Loaded → Laws → (MachineState → Event → Stepped → Type 0)
-StepByImage program laws = IsRunBy (NamedPermits laws) program laws
+StepByImage program laws = IsRunByImage (NamedPermits laws) program laws
 
--- what is refused first: the table's text, a name that the book lacks, a line that is no event
-unfoldable pub refusal_of : Laws → (table events : List ℕ) → Option (List ℕ)
-refusal_of laws table events =
-    option_or (option_map table_fault (first_fault table))
-    (option_or (option_map unbound_text (slice_get (missing laws (table_of table)) 0))
-    (option_map bad_text (first_bad laws events)))
+-- what is refused of a machine whose states have these names: where it is asked to begin, a line that is no event
+abbrev pub run_refusal : (names : List (List ℕ)) → Laws → Manner → (events : List ℕ) → Option (List ℕ)
+run_refusal names laws manner events =
+    option_or (if is_none (start_of names (from_of manner)) then Some start_text else None)
+    (option_map (bad_text laws) (bad_line laws events))
 
--- what is printed of a table's text, and whether it is a refusal
-abbrev pub IsWalked : Laws → (table events text : List ℕ) → Bool → Type 0
-IsWalked laws table events text true = refusal_of laws table events ≡ Some text
-IsWalked laws table events text false =
-    (refusal_of laws table events ≡ None)
-    × RunText (StepByRows (table_of table) laws) (table_of table).states laws (events_of laws events) text
+-- what is printed of a run, with which status: its text, whole or up to where memory ran out
+abbrev pub IsRunFrom : (Step : MachineState → Event → Stepped → Type 0) → Printing → MachineState → List Event
+    → (text : List ℕ) → Status → Type 0
+IsRunFrom Step told start events text statuses.Done = RunText Step told start events text
+IsRunFrom Step told start events text statuses.NoMemory = HaltText Step told start events text
+IsRunFrom Step told start events text other = ⊥
 
--- the same of an image's text: why it gives no program, or of the program that it gives a line that is no event, or the
--- run
-abbrev pub IsImageWalked : Laws → (image events text : List ℕ) → Bool → Type 0
-IsImageWalked laws image events text true =
-    ((error : ImageError) × IsNoImage laws image error × (refusal_text error ≡ Some text))
-    ⊎ ((program : Loaded) × IsImageOf laws image program × (option_map bad_text (first_bad laws events) ≡ Some text))
-IsImageWalked laws image events text false =
-    (program : Loaded) × IsImageOf laws image program × (first_bad laws events ≡ None)
-    × RunText (StepByImage program laws) program.image.states laws (events_of laws events) text
+-- a refusal with this text, if memory wasn't what lacked
+abbrev pub IsRefused : Option (List ℕ) → (text : List ℕ) → Status → Type 0
+IsRefused wanted text status =
+    ((wanted ≡ Some text) × (status ≡ statuses.Refused)) ⊎ ((text ≡ codes "no memory\n") × (status ≡ statuses.NoMemory))
+
+-- what is printed of a machine, with which status: what is refused, or a run on the events of a text
+abbrev pub IsRunOver : (Step : MachineState → Event → Stepped → Type 0) → Printing → (names : List (List ℕ)) → Laws
+    → Manner → (events text : List ℕ) → Status → Type 0
+IsRunOver Step told names laws manner events text status =
+    IsRefused (run_refusal names laws manner events) text status
+    ⊎ ((run_refusal names laws manner events ≡ None)
+    × (start : MachineState)
+    × (start_of names (from_of manner) ≡ Some start)
+    × IsRunFrom Step told start (events_of laws events) text status)
+
+-- what a text without a header is not
+unfoldable pub neither : TextCode → List ℕ
+neither NoHeader = codes "  neither a table nor an image, which begins with a hexadecimal digit\n"
+neither BadByte = []
+neither EmptyCell = []
+neither NoRowToContinue = []
+neither BadName = []
+neither TooManyRows = []
+neither TooManyNames = []
+neither TooManyInRow = []
+neither TooLong = []
+
+-- the first fault of a table's text, and what a text without a header is not
+abbrev pub table_text : TextFault → List ℕ
+table_text fault = table_fault fault ++ neither fault.code
+
+-- what is refused of a table's text before a machine stands: a fault, a name that the book lacks
+abbrev pub table_refusal : Laws → List ℕ → Option (List ℕ)
+table_refusal laws table =
+    option_or (option_map table_text (first_fault table))
+    (option_map unbound_text (slice_get (missing laws (table_of table)) 0))
+
+-- what is printed of a table's text, with which status: that, or what is printed of its machine
+abbrev pub IsWalked : Laws → Manner → (table events text : List ℕ) → Status → Type 0
+IsWalked laws manner table events text status =
+    IsRefused (table_refusal laws table) text status
+    ⊎ ((table_refusal laws table ≡ None)
+    × IsRunOver (StepByRows (table_of table) laws)
+    (told_text manner.why (table_of table).states (table_rows (table_of table) laws) laws) (table_of table).states laws
+    manner events text status)
+
+-- the same of an image's text: why it gives no program, or what is printed of the program's machine
+abbrev pub IsImageWalked : Laws → Manner → (image events text : List ℕ) → Status → Type 0
+IsImageWalked laws manner image events text status =
+    ((error : ImageError) × IsNoImage laws image error × IsRefused (refusal_text error) text status)
+    ⊎ ((program : Loaded) × IsImageOf laws image program
+    × IsRunOver (StepByImage program laws) (told_text manner.why program.image.states image_rows laws)
+    program.image.states laws manner events text status)
+
+-- the text of a refused table, if memory wasn't what lacked
+abbrev pub parse_text : ParseError → Option (List ℕ)
+parse_text parsing.NoMemory = None
+parse_text (parsing.Fault fault) = Some (table_text fault)
+
+-- the text of a table that isn't bound, likewise
+abbrev pub bind_text : Unbound → Option (List ℕ)
+bind_text binding.NoMemory = None
+bind_text (binding.Missing name) = Some (unbound_text name)
 
 -- a text is that of an image where its first character that is no blank is a hexadecimal digit; no table's text begins
 -- so
@@ -119,23 +200,9 @@ is_image [] = false
 is_image (c ∷ text) = if is_blank c then is_image text else is_hex_digit c
 
 -- what is printed of either
-abbrev pub IsWalkedOf : (image : Bool) → Laws → (input events text : List ℕ) → Bool → Type 0
-IsWalkedOf true laws input events text refused = IsImageWalked laws input events text refused
-IsWalkedOf false laws input events text refused = IsWalked laws input events text refused
-
--- the text of a refused table, if memory wasn't what lacked
-abbrev pub parse_text : ParseError → Option (List ℕ)
-parse_text parsing.NoMemory = None
-parse_text (parsing.Fault fault) = Some (table_fault fault)
-
--- the text of a table that isn't bound, likewise
-abbrev pub bind_text : Unbound → Option (List ℕ)
-bind_text binding.NoMemory = None
-bind_text (binding.Missing name) = Some (unbound_text name)
-
--- a refusal with this text
-abbrev pub IsRefused : Option (List ℕ) → (text : List ℕ) → Bool → Type 0
-IsRefused wanted text refused = (wanted ≡ Some text) × (refused ≡ true)
+abbrev pub IsWalkedOf : (image : Bool) → Laws → Manner → (input events text : List ℕ) → Status → Type 0
+IsWalkedOf true laws manner input events text status = IsImageWalked laws manner input events text status
+IsWalkedOf false laws manner input events text status = IsWalked laws manner input events text status
 
 -- what a machine is stepped by is bound to the book, or loaded with it
 abbrev pub IsReady : Laws → Rules → Type 0
@@ -152,29 +219,37 @@ abbrev pub names_of : Rules → List (List ℕ)
 names_of (rules.Rows bound) = bound.now.table.states
 names_of (rules.Image program) = program.now.image.states
 
--- what is printed of a machine's run on the events of a text, or the first line that is no event
-abbrev pub IsRunOver : (Step : MachineState → Event → Stepped → Type 0) → (names : List (List ℕ)) → Laws
-    → (events text : List ℕ) → Bool → Type 0
-IsRunOver Step names laws events text true = option_map bad_text (first_bad laws events) ≡ Some text
-IsRunOver Step names laws events text false =
-    (first_bad laws events ≡ None) × RunText Step names laws (events_of laws events) text
+-- why its rows didn't take an event
+abbrev pub rows_of : Laws → Rules → Printing
+rows_of laws (rules.Rows bound) = table_rows bound.now.table laws
+rows_of laws (rules.Image program) = image_rows
 
--- the status of a walk
-abbrev pub walk_status : Bool → Status
-walk_status true = statuses.Refused
-walk_status false = statuses.Done
+-- what is printed of a step of it
+abbrev pub told_of : (why : Bool) → Laws → Rules → Printing
+told_of why laws rules = told_text why (names_of rules) (rows_of laws rules) laws
 
--- A walk's text was taken whole and its status is the answer, or a write fault came; or memory ran out.
-pub record WalkTold
-    {O : Type 0} (contents : O → Option (List ℕ)) (failures idle : O → ℕ) (laws : Laws) (table events : List ℕ)
+-- what is printed of it
+abbrev pub IsRunBy : Laws → Rules → Manner → (events text : List ℕ) → Status → Type 0
+IsRunBy laws rules manner events text status =
+    IsRunOver (StepBy laws rules) (told_of manner.why laws rules) (names_of rules) laws manner events text status
+
+-- A text that has this status was taken whole, and the status is the answer.
+pub record TakesText
+    {O : Type 0} (contents : O → Option (List ℕ)) (failures idle : O → ℕ) (Text : List ℕ → Status → Type 0)
     (old new : O) (answer : Status) : Type 0 where
   pub text : List ℕ
-  pub refused : Bool
-  pub walked : IsWalkedOf (is_image table) laws table events text refused
-  pub told : Tells contents failures idle old new text (walk_status refused) answer
+  pub is : Text text answer
+  pub taken : TakesWhole contents failures idle old new text
 
-abbrev pub IsWalkedOn : {O : Type 0} → (contents : O → Option (List ℕ)) → (failures idle : O → ℕ) → Laws
+-- the same, or a write fault came and is the answer
+abbrev pub IsToldWith : {O : Type 0} → (contents : O → Option (List ℕ)) → (failures idle : O → ℕ)
+    → (Text : List ℕ → Status → Type 0) → (old new : O) → Status → Type 0
+IsToldWith contents failures idle Text old new answer =
+    TakesText contents failures idle Text old new answer
+    ⊎ (HasWriteCause failures idle old new × (answer ≡ statuses.Fault))
+
+-- what is printed of a table or an image was taken whole, or a write fault came
+abbrev pub IsWalkedOn : {O : Type 0} → (contents : O → Option (List ℕ)) → (failures idle : O → ℕ) → Laws → Manner
     → (table events : List ℕ) → (old new : O) → Status → Type 0
-IsWalkedOn contents failures idle laws table events old new answer =
-    WalkTold contents failures idle laws table events old new answer
-    ⊎ Tells contents failures idle old new (codes "no memory\n") statuses.NoMemory answer
+IsWalkedOn contents failures idle laws manner table events old new answer =
+    IsToldWith contents failures idle (IsWalkedOf (is_image table) laws manner table events) old new answer

@@ -2,8 +2,9 @@
 ghost use Rattle.std.specs.Prelude.{◌≡◌, ◌++◌, OnOk};
 ghost use Rattle.std.specs.List.{slice_get};
 ghost use Rattle.std.specs.Option.{option_map};
-ghost use Rattle.tab_walk.specs.Walks.{IsReady, StepBy, kind_text, names_of, row_text, state_text, step_text};
+ghost use Rattle.tab_walk.specs.Walks.{IsReady, StepBy, kind_text, names_of, row_text, rows_of, state_text, step_text, told_of};
 
+use crate::why::{put_changes, put_rows};
 use base_list::Octets;
 use base_text::put_number;
 use event_text::{put_deeds, put_name};
@@ -90,7 +91,7 @@ fn kind_name(book: &LawBook, kind: u8) -> &[u8]
 }
 
 /// A step: the kind, the states before and after it, the row; and a line for each deed.
-pub(crate) fn put_step(
+fn put_step(
     out: &mut Vec<u8>,
     names: &[Octets],
     book: &LawBook,
@@ -106,4 +107,43 @@ pub(crate) fn put_step(
     put_row(out, step.row)?;
     out.extend_from_slice(b"\n")?;
     put_deeds(out, step.deeds.as_slice())
+}
+
+/// Why rows of a table didn't take an event; an image tells none.
+fn put_rows_of(
+    out: &mut Vec<u8>,
+    rules: Rules<'_>,
+    book: &LawBook,
+    machine: &MachineState,
+    event: &Event,
+    step: &Stepped,
+) -> Result<(), AllocError>
+    requires { IsReady book.now rules }
+    ensures { OnOk result (out.new.items ≡ out.old.items ++ rows_of book.now rules.entry machine.now event.now step.now) }
+{
+    match rules {
+        Rules::Rows(bound) => put_rows(out, bound, book, machine, event, step.row),
+        Rules::Image(_) => Ok(()),
+    }
+}
+
+/// What is printed of a step; where it is asked why, also the registers that changed, and why rows didn't take the event.
+pub(crate) fn put_told(
+    out: &mut Vec<u8>,
+    rules: Rules<'_>,
+    book: &LawBook,
+    why: bool,
+    machine: &MachineState,
+    event: &Event,
+    step: &Stepped,
+) -> Result<(), AllocError>
+    requires { IsReady book.now rules }
+    ensures { OnOk result (out.new.items ≡ out.old.items ++ told_of why book.now rules.entry machine.now event.now step.now) }
+{
+    put_step(out, names_of(rules), book, machine.state, event, step)?;
+    if !why {
+        return Ok(());
+    }
+    put_changes(out, &machine.regs, &step.after.regs)?;
+    put_rows_of(out, rules, book, machine, event, step)
 }

@@ -14,7 +14,13 @@ use std::alloc::{AllocError, Global};
 use std::test::Fail;
 use tab_call::{Ask, Calls, Do, Registry, StoredAct, StoredGuard};
 use tab_law::{ActLaw, Acted, LawBook, Scene, emitted, high_into, holds, permits};
-use tab_walk::walk_on;
+use tab_walk::{Manner, walk_on};
+
+/// A walk from the start, that doesn't say why.
+const PLAIN: Manner<'static> = Manner {
+    why: false,
+    from: None,
+};
 
 /// Writes the answer that a law permits with 1 unit granted, if it permits one, else with as many as it permits.
 fn grants_one(law: &ActLaw, scene: &Scene, room: &mut Acted)
@@ -37,6 +43,7 @@ fn walks(alloc: Global, registry: &Registry, table: &str, events: &str, printed:
         alloc,
         table.as_bytes(),
         registry,
+        PLAIN,
         events.as_bytes(),
         &mut sink,
     );
