@@ -1,0 +1,21 @@
+//! Tests of the whole bench, over public calls alone: scripts are played, and what is shown is compared.
+#![tactic(auto)]
+
+#[cfg(test)]
+mod charging;
+#[cfg(test)]
+mod looks;
+#[cfg(test)]
+mod machines;
+#[cfg(test)]
+mod node;
+#[cfg(test)]
+mod over;
+#[cfg(test)]
+mod play;
+#[cfg(test)]
+mod services;
+#[cfg(test)]
+mod sessions;
+#[cfg(test)]
+mod words;
