@@ -2,7 +2,13 @@
 #![tactic(auto)]
 
 #[cfg(test)]
+mod case;
+#[cfg(test)]
 mod charging;
+#[cfg(test)]
+mod cuts;
+#[cfg(test)]
+mod flood;
 #[cfg(test)]
 mod looks;
 #[cfg(test)]
@@ -12,10 +18,14 @@ mod node;
 #[cfg(test)]
 mod over;
 #[cfg(test)]
+mod places;
+#[cfg(test)]
 mod play;
 #[cfg(test)]
 mod services;
 #[cfg(test)]
 mod sessions;
+#[cfg(test)]
+mod tables;
 #[cfg(test)]
 mod words;

@@ -1,6 +1,6 @@
 //! Machines of peers and of clients: an election, a late timer.
 
-use crate::charging::{Case, printed, text_of};
+use crate::case::{Case, printed, text_of};
 use crate::node::Node;
 use crate::over::{Script, over};
 use role_tables::SERVER_TABLE;
@@ -155,7 +155,7 @@ told 0 c:c1;1 Begin 7=100 9=60 10=3
 settle
 show c:c1;1
 timer c:c1;1
-tail 1 010000d0c0000110000000040001000000010000 client 000001cd40000017646265 6e6368406578616d706c6500 initial 000001bb40000020000001c24000000c00000000000001bc4000000b31303000 sixty
+tail 1 010000c8c0000110000000040001000000010000 client 000001cd40000016646265 6e6368406578616d706c650000 initial 000001bb40000020000001c24000000c00000000000001bc4000000b31303000 sixty
 fired c:c1;1 2
 fired c:c1;1 1
 lift clock

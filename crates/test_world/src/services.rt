@@ -1,6 +1,6 @@
 //! Requests with several services (RFC 8506 section 5.6.2): two that share an account, and messages that are not served.
 
-use crate::charging::{Case, SERVER, printed, text_of};
+use crate::case::{Case, SERVER, printed, text_of};
 use std::test::Fail;
 
 const CASES: &[Case] = &[

@@ -1,6 +1,6 @@
 //! Places of a bench, its sessions and its accounts.
 
-use crate::charging::{Case, SERVER, printed, text_of};
+use crate::case::{Case, SERVER, printed, text_of};
 use crate::node::Node;
 use role_tables::SERVER_TABLE;
 use std::test::Fail;
@@ -50,8 +50,7 @@ const SENSELESS: Node<'static> = Node {
     pages: 1,
     desks: 1,
     knows_test: false,
-    server: "\
-  State  Event    Action                    Next
+    server: "  State  Event    Action                    Next
   Idle   Initial  Reserve, Reserve, Charge  Idle
 ",
 };
@@ -293,7 +292,7 @@ work 1
 lift shard 1
 drop shard 1
 tail 1 granted
-back 22
+back 20
 place
 ",
         wanted: " s:c1;1 Open r0=100 r1=1 r2=2001 r3=60 r4=3 r8=1 r15=1
