@@ -95,7 +95,7 @@ place
 show s:f;4094
 show s:f;4095
 work 0
-last 1
+fate
 settle
 tail 1 0100005460000110000000040000000700000007 000001074000000e663b343039350000 server 0000010c4000000c00000bbc
 show s:f;4095
@@ -127,8 +127,7 @@ impl Trial for Flood {
 const BUSY: &str = " at 57345
  s:f;4094 Open r0=100 r1=1 r2=2001 r8=1 r14=4095 r15=1
  no machine
-work 0
-  busy
+ busy
  as told
  no machine
  given 100 reserved 0 debited 0 unpaid 0

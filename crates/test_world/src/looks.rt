@@ -2,7 +2,7 @@
 
 use base_text::{number_of, put_hex, put_number};
 use bench_core::Core;
-use bench_item::{Key, LineState, Role, Source, Step};
+use bench_item::{Handled, Key, LineState, Role, Source, Step};
 use bench_log::Log;
 use bench_world::World;
 use log_text::{NameBook, put_entry, read_log};
@@ -248,6 +248,25 @@ pub fn put_last(alloc: Global, core: &Core, count: usize, out: &mut Vec<u8>) -> 
     };
     let log = core.log();
     put_entries(alloc, &names, log, log.len().saturating_sub(count), out)
+}
+
+/// Puts what became of the item that was handled last, without names.
+pub fn put_fate(alloc: Global, core: &Core, out: &mut Vec<u8>) -> Result<(), Fail> {
+    let entry = core.log().last(alloc)?;
+    let handled = match &entry {
+        Some(entry) => entry.handled.as_ref(),
+        None => None,
+    };
+    match handled {
+        Some(Handled::TooBusy) => out.extend_from_slice(b" busy\n")?,
+        Some(Handled::Stale(_)) => out.extend_from_slice(b" stale\n")?,
+        Some(Handled::Move(moved)) => {
+            put_number(out, b" moved by ", u64::from(moved.row.unwrap_or(u16::MAX)))?;
+            out.extend_from_slice(b"\n")?;
+        }
+        None => out.extend_from_slice(b" not handled\n")?,
+    }
+    Ok(())
 }
 
 /// Whether the text of the log is read as a log that prints it.

@@ -8,6 +8,7 @@
 //! | `show KEY`, `timer KEY`, `totals ACCOUNT`, `line L`, `place` | what stands there |
 //! | `sent L COUNT` | the last so many octets that were sent |
 //! | `last COUNT` | the last so many entries of the log |
+//! | `fate` | what became of the item that was handled last |
 //! | `read` | whether the text of the log is read back |
 //! | `back COUNT` | so many steps are taken back: where that led to |
 //! | `pause S`, `resume S` | a shard stops, and goes on |
@@ -20,7 +21,7 @@
 //! | `retrace` | back to that place, forward and back again: whether the same was shown at each place |
 
 use crate::looks::{
-    number_in, put_all, put_back, put_last, put_line, put_read_back, put_sent_is, put_shown, put_tail_is,
+    number_in, put_all, put_back, put_fate, put_last, put_line, put_read_back, put_sent_is, put_shown, put_tail_is,
     put_timer, put_totals, short_in,
 };
 use crate::words::joined;
@@ -364,6 +365,7 @@ impl Play {
                 put_tail_is(&world.core, short_in(line), octets.as_slice(), out)?;
             }
             "last" => put_last(alloc, &world.core, number_in(rest) as usize, out)?,
+            "fate" => put_fate(alloc, &world.core, out)?,
             "read" => put_read_back(alloc, &world.core, out)?,
             "back" => put_back(world, number_in(rest), out)?,
             "pause" => {
