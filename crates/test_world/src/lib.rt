@@ -14,6 +14,8 @@ mod looks;
 #[cfg(test)]
 mod machines;
 #[cfg(test)]
+mod memory;
+#[cfg(test)]
 mod node;
 #[cfg(test)]
 mod over;

@@ -67,14 +67,14 @@ impl Drop for Play {
 }
 
 /// All that a bench shows.
-fn all_of(alloc: Global, core: &Core) -> Result<Vec<u8>, Fail> {
+pub fn all_of(alloc: Global, core: &Core) -> Result<Vec<u8>, Fail> {
     let mut out = Vec::new(alloc);
     put_all(alloc, core, &mut out)?;
     Ok(out)
 }
 
 /// What a line asks for, as a step. None where it has another form, or its machine is not there.
-fn step_of(alloc: Global, core: &Core, line: &str) -> Result<Option<Step>, Fail> {
+pub fn step_of(alloc: Global, core: &Core, line: &str) -> Result<Option<Step>, Fail> {
     match read_line(alloc, core.laws(), line.as_bytes())? {
         Some(Asked::Step(step)) => Ok(Some(step)),
         Some(Asked::Fired { key, generation }) => {
@@ -88,7 +88,7 @@ fn step_of(alloc: Global, core: &Core, line: &str) -> Result<Option<Step>, Fail>
 }
 
 /// Octets that come on a line, by words.
-fn came(alloc: Global, line: &str) -> Result<Step, Fail> {
+pub fn came(alloc: Global, line: &str) -> Result<Step, Fail> {
     let (number, words) = line.split_once(' ').unwrap_or((line, ""));
     let octets = joined(alloc, words)?;
     Ok(Step::Came {
