@@ -119,6 +119,17 @@ moved-asked tables book v item (Stale state) settings p laws becomes asked = tt
 moved-asked tables book v item (Move moved) settings p laws becomes asked =
     rw becomes.2.before_is (rw (becomes.0, becomes.1) at asked)
 
+-- the page that is asked says the same as the whole book
+pub page-says : (settings : Settings) (log : List Entry) (s : Stored) (pages : List Paged) (p : ℕ) (page : Paged) (want : Option Want) → IsTied settings log s
+    → s.books ≡ map (λ p. p.book) pages → slice_get pages p ≡ Some page → IsAsked settings.pages p want → SaysTheSame page.book (book_at settings log) want
+page-says settings log s pages p page want tied kept there asked = subst (λ b. SaysTheSame b (book_at settings log) want) (sym book) (record {
+  event = λ e. event_with_quote-page settings p log want e asked;
+  outcomes = λ ds. outcomes_for-page settings p log want ds asked;
+})
+  where
+    book : page.book ≡ page_at settings p log
+    book = tied.books p page.book (ap (λ bs. slice_get bs p) kept ∙ slice_get-map (λ p. p.book) pages p ∙ ap (option_map (λ p. p.book)) there)
+
 -- what was done
 pub record Done (settings : Settings) (log : List Entry) (k p : ℕ) (v : ShardView) (page : Paged) (item : MachineItem) (handled : Handled) (own : List Item) : Type 0 where
   pub next : next_in v.inbox ≡ Some item
@@ -140,14 +151,8 @@ done-facts settings log logged s pages k p v w page paged undos undone tied kept
     next : next_in v.inbox ≡ Some done.work.item
     next = done.decided.fits.item_is
 
-    book : page.book ≡ page_at settings p log
-    book = tied.books p page.book (ap (λ bs. slice_get bs p) kept ∙ slice_get-map (λ p. p.book) pages p ∙ ap (option_map (λ p. p.book)) there)
-
     same : SaysTheSame page.book (book_at settings log) (wanted settings.node.laws v done.work.item)
-    same = subst (λ b. SaysTheSame b (book_at settings log) (wanted settings.node.laws v done.work.item)) (sym book) (record {
-      event = λ e. event_with_quote-page settings p log (wanted settings.node.laws v done.work.item) e (asked done.work.item next);
-      outcomes = λ ds. outcomes_for-page settings p log (wanted settings.node.laws v done.work.item) ds (asked done.work.item next);
-    })
+    same = page-says settings log s pages p page (wanted settings.node.laws v done.work.item) tied kept there (asked done.work.item next)
 
 -- the entry may follow
 pub done-follows : (settings : Settings) (log logged : List Entry) (paused : List Bool) (s : Stored) (pages : List Paged) (k p : ℕ) (v w : ShardView) (page paged : Paged) (undos undone : List Undo) → IsWhole settings log s undos → s.books ≡ map (λ p. p.book) pages → refusal settings log paused (Work k) ≡ None → slice_get s.shards k ≡ Some v → slice_get pages p ≡ Some page → ((item : MachineItem) → next_in v.inbox ≡ Some item → IsAsked settings.pages p (wanted settings.node.laws v item)) → (done : IsDone (tables_of settings) k p v w page paged log logged undos undone) → MayFollow settings log (work_entry k done.work.item done.work.handled)
@@ -227,33 +232,33 @@ pub record Works (settings : Settings) (log : List Entry) (paused : List Bool) (
   pub place : p ≡ unwrap_or (page_of settings.pages task.want) 0
   pub page_read : page ≡ get_or pages p page
 
-works-at : (settings : Settings) (log : List Entry) (paused : List Bool) (s : Stored) (pages : List Paged) (undos : List Undo) (k p : ℕ) (v : ShardView) (page : Paged) (task : Task) → Works settings log paused s pages undos k p v page task → slice_get s.shards k ≡ Some v
+pub works-at : (settings : Settings) (log : List Entry) (paused : List Bool) (s : Stored) (pages : List Paged) (undos : List Undo) (k p : ℕ) (v : ShardView) (page : Paged) (task : Task) → Works settings log paused s pages undos k p v page task → slice_get s.shards k ≡ Some v
 works-at settings log paused s pages undos k p v page task h = work-shard settings log paused s k v h.whole.tied h.could h.read
 
 pub works-page : (settings : Settings) (log : List Entry) (paused : List Bool) (s : Stored) (pages : List Paged) (undos : List Undo) (k p : ℕ) (v : ShardView) (page : Paged) (task : Task) → Works settings log paused s pages undos k p v page task → slice_get pages p ≡ Some page
 works-page settings log paused s pages undos k p v page task h =
     subst (λ n. slice_get pages n ≡ Some page) (sym h.place) (task-page settings log s pages task.want page h.whole.tied h.kept h.some (subst (λ n. page ≡ get_or pages n page) h.place h.page_read))
 
-works-asked : (settings : Settings) (log : List Entry) (paused : List Bool) (s : Stored) (pages : List Paged) (undos : List Undo) (k p : ℕ) (v : ShardView) (page : Paged) (task : Task) → Works settings log paused s pages undos k p v page task → (item : MachineItem) → next_in v.inbox ≡ Some item → IsAsked settings.pages p (wanted settings.node.laws v item)
+pub works-asked : (settings : Settings) (log : List Entry) (paused : List Bool) (s : Stored) (pages : List Paged) (undos : List Undo) (k p : ℕ) (v : ShardView) (page : Paged) (task : Task) → Works settings log paused s pages undos k p v page task → (item : MachineItem) → next_in v.inbox ≡ Some item → IsAsked settings.pages p (wanted settings.node.laws v item)
 works-asked settings log paused s pages undos k p v page task h item next =
     subst (λ n. IsAsked settings.pages n (wanted settings.node.laws v item)) (sym h.place) (task-asked settings.node.laws settings.pages v task item h.task_is next)
 
 -- the world is whole behind it, whether memory was refused or not
-pub works-whole : (settings : Settings) (log logged : List Entry) (paused : List Bool) (s : Stored) (pages : List Paged) (undos undone : List Undo) (k p : ℕ) (v w : ShardView) (page paged : Paged) (task : Task) (r : Result (Unit {0}) AllocError) → Works settings log paused s pages undos k p v page task → OnOk r (IsDone (tables_of settings) k p v w page paged log logged undos undone) → OnErr r (IsUnwritten v w page paged log logged undos undone) → IsWhole settings logged (record s { shards = slice_set s.shards k w; books = map (λ p. p.book) (slice_set pages p paged) }) undone
+pub works-whole : {E : Type 0} (settings : Settings) (log logged : List Entry) (paused : List Bool) (s : Stored) (pages : List Paged) (undos undone : List Undo) (k p : ℕ) (v w : ShardView) (page paged : Paged) (task : Task) (r : Result (Unit {0}) E) → Works settings log paused s pages undos k p v page task → OnOk r (IsDone (tables_of settings) k p v w page paged log logged undos undone) → OnErr r (IsUnwritten v w page paged log logged undos undone) → IsWhole settings logged (record s { shards = slice_set s.shards k w; books = map (λ p. p.book) (slice_set pages p paged) }) undone
 works-whole settings log logged paused s pages undos undone k p v w page paged task (Ok x) h done un =
     done-whole settings log logged paused s pages k p v w page paged undos undone h.whole h.kept h.could (works-at settings log paused s pages undos k p v page task h) (works-page settings log paused s pages undos k p v page task h) (works-asked settings log paused s pages undos k p v page task h) done
 works-whole settings log logged paused s pages undos undone k p v w page paged task (Err e) h done un =
     undone-whole settings log logged s pages k p v w page paged undos undone h.whole h.kept (works-at settings log paused s pages undos k p v page task h) (works-page settings log paused s pages undos k p v page task h) un
 
 -- its page has its number
-pub works-paged : (count : ℕ) (log logged : List Entry) (pages : List Paged) (tables : Tables) (k p : ℕ) (v w : ShardView) (page paged : Paged) (undos undone : List Undo) (r : Result (Unit {0}) AllocError) → slice_get pages p ≡ Some page → EachAt (IsPageAt count) pages → OnOk r (IsDone tables k p v w page paged log logged undos undone) → OnErr r (IsUnwritten v w page paged log logged undos undone) → EachAt (IsPageAt count) (slice_set pages p paged)
+pub works-paged : {E : Type 0} (count : ℕ) (log logged : List Entry) (pages : List Paged) (tables : Tables) (k p : ℕ) (v w : ShardView) (page paged : Paged) (undos undone : List Undo) (r : Result (Unit {0}) E) → slice_get pages p ≡ Some page → EachAt (IsPageAt count) pages → OnOk r (IsDone tables k p v w page paged log logged undos undone) → OnErr r (IsUnwritten v w page paged log logged undos undone) → EachAt (IsPageAt count) (slice_set pages p paged)
 works-paged count log logged pages tables k p v w page paged undos undone (Ok x) there each done un =
     each-kept (IsPageAt count) pages p paged each (done.written.page_is.0 ∙ (each p page there).0, done.written.page_is.1 ∙ (each p page there).1)
 works-paged count log logged pages tables k p v w page paged undos undone (Err e) there each done un =
     each-kept (IsPageAt count) pages p paged each (un.page_is.0 ∙ (each p page there).0, un.page_is.1 ∙ (each p page there).1)
 
 -- its record sets no timer again
-pub works-placed : (wheel : Timers) (log logged : List Entry) (tables : Tables) (k p : ℕ) (v w : ShardView) (page paged : Paged) (undos undone : List Undo) (r : Result (Unit {0}) AllocError) → ArePlaced wheel undos → OnOk r (IsDone tables k p v w page paged log logged undos undone) → OnErr r (IsUnwritten v w page paged log logged undos undone) → ArePlaced wheel undone
+pub works-placed : {E : Type 0} (wheel : Timers) (log logged : List Entry) (tables : Tables) (k p : ℕ) (v w : ShardView) (page paged : Paged) (undos undone : List Undo) (r : Result (Unit {0}) E) → ArePlaced wheel undos → OnOk r (IsDone tables k p v w page paged log logged undos undone) → OnErr r (IsUnwritten v w page paged log logged undos undone) → ArePlaced wheel undone
 works-placed wheel log logged tables k p v w page paged undos undone (Ok x) placed done un =
     subst (ArePlaced wheel) (sym done.written.undo_is)
     (Each-append (IsPlaced wheel) undos (undo.Worked k done.written.change p (length done.work.effects.ops) ∷ []) placed (tt, tt))
@@ -275,7 +280,7 @@ works-taken settings log logged s pages undos undone k p v w page paged task (Ok
 works-taken settings log logged s pages undos undone k p v w page paged task (Err e) h done = tt
 
 -- or all is as before
-pub works-refused : (settings : Settings) (log logged : List Entry) (s : Stored) (pages : List Paged) (undos undone : List Undo) (k p : ℕ) (v w : ShardView) (page paged : Paged) (task : Task) (r : Result (Unit {0}) AllocError) → Works settings log (map (λ v. v.paused) s.shards) s pages undos k p v page task → OnErr r (IsUnwritten v w page paged log logged undos undone) → OnErr r (run_of settings logged (slice_set s.shards k w) ≡ run_of settings log s.shards)
-works-refused settings log logged s pages undos undone k p v w page paged task (Ok x) h un = tt
-works-refused settings log logged s pages undos undone k p v w page paged task (Err e) h un =
-    rw (un.log_is, paused-kept s.shards k v w (works-at settings log (map (λ v. v.paused) s.shards) s pages undos k p v page task h) (ap (λ u. u.paused) un.shard_is)) refl
+pub works-refused : {E : Type 0} (settings : Settings) (log logged : List Entry) (paused : List Bool) (s : Stored) (pages : List Paged) (undos undone : List Undo) (k p : ℕ) (v w : ShardView) (page paged : Paged) (task : Task) (r : Result (Unit {0}) E) → Works settings log paused s pages undos k p v page task → OnErr r (IsUnwritten v w page paged log logged undos undone) → OnErr r (run_of settings logged (slice_set s.shards k w) ≡ run_of settings log s.shards)
+works-refused settings log logged paused s pages undos undone k p v w page paged task (Ok x) h un = tt
+works-refused settings log logged paused s pages undos undone k p v w page paged task (Err e) h un =
+    rw (un.log_is, paused-kept s.shards k v w (works-at settings log paused s pages undos k p v page task h) (ap (λ u. u.paused) un.shard_is)) refl

@@ -19,4 +19,6 @@ pub mod LookLemmas
 pub mod StartLemmas
 pub mod OpenLemmas
 pub mod NewLemmas
+pub mod RedoneLemmas
 pub mod ReplayLemmas
+pub mod QueueLemmas

@@ -40,10 +40,10 @@ get-end (y ∷ xs) x = get-end xs x
 front-at : {X : Type 0} (xs ys : List X) (k : ℕ) (x : X) → IsFront xs ys → slice_get xs k ≡ Some x → slice_get ys k ≡ Some x
 front-at xs ys k x front there = subst (λ zs. slice_get zs k ≡ Some x) front.1 (get-more xs front.0 k x there)
 
-front-last : {X : Type 0} (xs ys : List X) (x : X) → IsFront (xs ++ x ∷ []) ys → slice_get ys (length xs) ≡ Some x
+pub front-last : {X : Type 0} (xs ys : List X) (x : X) → IsFront (xs ++ x ∷ []) ys → slice_get ys (length xs) ≡ Some x
 front-last xs ys x front = front-at (xs ++ x ∷ []) ys (length xs) x front (get-end xs x)
 
-number-itself : (n : ℕ) → (n == n) ≡ true
+pub number-itself : (n : ℕ) → (n == n) ≡ true
 number-itself n = grind (arith, nat_tests)
 
 source-itself : (source : Source) → is_same_source source source ≡ true
@@ -99,7 +99,7 @@ drops-hand settings log s source item handled tied order follows =
         (subst (λ xs. IsFront xs (lifted (log ++ e ∷ []) source)) more (follows.order.sources source).dropped_front))
 
 -- of a step that works no shard nothing is handled
-handles-none : (settings : Settings) (log : List Entry) (step : Step) (i : Option Item) (h : Option Handled) → IsCarried step
+pub handles-none : (settings : Settings) (log : List Entry) (step : Step) (i : Option Item) (h : Option Handled) → IsCarried step
     → HasParts settings log (entry_of step i h) → h ≡ None
 handles-none settings log Joined i h carried parts = parts.1
 handles-none settings log (Dialled line) i h carried parts = parts.1

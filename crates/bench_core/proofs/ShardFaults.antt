@@ -24,7 +24,7 @@ use Rattle.bench_spec.specs.Refusal.{is_empty, is_log_full, is_paused, lacks_wor
 use Rattle.bench_spec.specs.Settings.{Settings}
 use Rattle.bench_views.specs.Shards.{inbox_at, outbox_at}
 use Rattle.bench_views.specs.Stored.{IsTied, Stored}
-use Rattle.bench_core.specs.Faults.{first_of, shard_fault, work_fault_or}
+use Rattle.bench_core.specs.Faults.{first_of, shard_fault, unpaused_shard_fault, work_fault_or}
 
 -- the four reasons
 abbrev four : Bool → Bool → Bool → Bool → Option StepFault
@@ -44,23 +44,37 @@ past-none [] k e = omega arith
 past-none (x ∷ xs) zero e = absurd cc
 past-none (x ∷ xs) (suc k) e = omega (arith, past-none xs k e)
 
--- a shard that is there
-there-shard : (settings : Settings) (log : List Entry) (paused : List Bool) (s : Stored) (shard : ℕ) (v : ShardView) → IsTied settings log s → paused ≡ map (λ v. v.paused) s.shards
-    → slice_get s.shards shard ≡ Some v → work_fault_or (own.work_refusal v) (is_log_full log) ≡ refusal settings log paused (Work shard)
-there-shard settings log paused s shard v tied pauses at =
+-- a shard that is there, and is paused or not
+there-by : (settings : Settings) (log : List Entry) (paused : List Bool) (s : Stored) (shard : ℕ) (v : ShardView) (halted : Bool) → IsTied settings log s
+    → is_paused paused shard ≡ halted → slice_get s.shards shard ≡ Some v
+    → work_fault_or (own.first_of ((halted, fault.Paused) ∷ (is_empty (items_in v.inbox), fault.Nothing) ∷ (own.lacks_work_room v, fault.Full) ∷ [])) (is_log_full log)
+    ≡ refusal settings log paused (Work shard)
+there-by settings log paused s shard v halted tied pauses at =
     let is = tied.shards shard v at in
     let known : not (nat_lt shard settings.node.shards) ≡ false = ap not (lt-ltb shard settings.node.shards (omega (arith, slice_get_within s.shards shard v at, tied.shard_count))) in
-    let halted : is_paused paused shard ≡ v.paused =
-    ap (λ (ps : List Bool). unwrap_or (slice_get ps shard) false) pauses ∙ ap (λ (o : Option Bool). unwrap_or o false) (slice_get-map (λ (x : ShardView). x.paused) s.shards shard ∙ ap (option_map (λ (x : ShardView). x.paused)) at) in
     let came : inbox settings.node log shard ≡ items_in v.inbox =
     ap (λ (k : ℕ). inbox settings.node log k) (sym is.0) ∙ ap items_in (sym is.1.inbox) in
     let posted : outbox settings log (Shard shard) ≡ items_out v.outbox =
     ap (λ (k : ℕ). outbox settings log (Shard k)) (sym is.0) ∙ ap items_out (sym is.1.outbox) in
-    four-by v.paused (is_empty (items_in v.inbox)) (own.lacks_work_room v) (is_log_full log)
-    ∙ ap (λ (b : Bool). four b v.paused (is_empty (items_in v.inbox)) (is_log_full log || own.lacks_work_room v)) (sym known)
-    ∙ ap (λ (b : Bool). four (not (nat_lt shard settings.node.shards)) b (is_empty (items_in v.inbox)) (is_log_full log || own.lacks_work_room v)) (sym halted)
+    four-by halted (is_empty (items_in v.inbox)) (own.lacks_work_room v) (is_log_full log)
+    ∙ ap (λ (b : Bool). four b halted (is_empty (items_in v.inbox)) (is_log_full log || own.lacks_work_room v)) (sym known)
+    ∙ ap (λ (b : Bool). four (not (nat_lt shard settings.node.shards)) b (is_empty (items_in v.inbox)) (is_log_full log || own.lacks_work_room v)) (sym pauses)
     ∙ ap (λ (xs : List MachineItem). four (not (nat_lt shard settings.node.shards)) (is_paused paused shard) (is_empty xs) (is_log_full log || own.lacks_work_room v)) (sym came)
     ∙ ap (λ (xs : List Item). four (not (nat_lt shard settings.node.shards)) (is_paused paused shard) (is_empty (inbox settings.node log shard)) (is_log_full log || nat_lt MAX_WAITING (length xs + WORK_ROOM))) (sym posted)
+
+there-shard : (settings : Settings) (log : List Entry) (paused : List Bool) (s : Stored) (shard : ℕ) (v : ShardView) → IsTied settings log s → paused ≡ map (λ v. v.paused) s.shards
+    → slice_get s.shards shard ≡ Some v → work_fault_or (own.work_refusal v) (is_log_full log) ≡ refusal settings log paused (Work shard)
+there-shard settings log paused s shard v tied pauses at =
+    there-by settings log paused s shard v v.paused tied
+    (ap (λ (ps : List Bool). unwrap_or (slice_get ps shard) false) pauses ∙ ap (λ (o : Option Bool). unwrap_or o false) (slice_get-map (λ (x : ShardView). x.paused) s.shards shard ∙ ap (option_map (λ (x : ShardView). x.paused)) at))
+    at
+
+-- a shard that is not there
+none-there : (settings : Settings) (log : List Entry) (paused : List Bool) (s : Stored) (shard : ℕ) → IsTied settings log s → slice_get s.shards shard ≡ None
+    → Some Unknown ≡ refusal settings log paused (Work shard)
+none-there settings log paused s shard tied e =
+    let unknown : not (nat_lt shard settings.node.shards) ≡ true = ap not (le-ltb shard settings.node.shards (omega (arith, past-none s.shards shard e, tied.shard_count))) in
+    ap (λ (b : Bool). four b (is_paused paused shard) (is_empty (inbox settings.node log shard)) (is_log_full log || lacks_work_room settings log shard)) (sym unknown)
 
 -- a shard does not work
 pub work-log : (settings : Settings) (log : List Entry) (paused : List Bool) (s : Stored) (shard : ℕ) → IsTied settings log s → paused ≡ map (λ v. v.paused) s.shards
@@ -68,7 +82,14 @@ pub work-log : (settings : Settings) (log : List Entry) (paused : List Bool) (s 
 work-log settings log paused s shard tied pauses = by (slice_get s.shards shard) refl
   where
     by : (o : Option ShardView) → slice_get s.shards shard ≡ o → shard_fault o (is_log_full log) ≡ refusal settings log paused (Work shard)
-    by None e =
-        let unknown : not (nat_lt shard settings.node.shards) ≡ true = ap not (le-ltb shard settings.node.shards (omega (arith, past-none s.shards shard e, tied.shard_count))) in
-        ap (λ (b : Bool). four b (is_paused paused shard) (is_empty (inbox settings.node log shard)) (is_log_full log || lacks_work_room settings log shard)) (sym unknown)
+    by None e = none-there settings log paused s shard tied e
     by (Some v) e = there-shard settings log paused s shard v tied pauses e
+
+-- and would not if none were paused
+pub unpaused-log : (settings : Settings) (log : List Entry) (s : Stored) (shard : ℕ) → IsTied settings log s
+    → unpaused_shard_fault (slice_get s.shards shard) (is_log_full log) ≡ refusal settings log [] (Work shard)
+unpaused-log settings log s shard tied = by (slice_get s.shards shard) refl
+  where
+    by : (o : Option ShardView) → slice_get s.shards shard ≡ o → unpaused_shard_fault o (is_log_full log) ≡ refusal settings log [] (Work shard)
+    by None e = none-there settings log [] s shard tied e
+    by (Some v) e = there-by settings log [] s shard v false tied refl e

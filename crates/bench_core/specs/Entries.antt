@@ -1,6 +1,7 @@
 -- Entries by what their steps have.
 use Rattle.std.specs.Prelude.{ℕ, List, [], None, Option}
 use Rattle.bench_item.specs.declared.entry.Entry.{Entry}
+use Rattle.bench_item.specs.declared.entry.Handled.{Handled}
 use Rattle.bench_item.specs.declared.item.Item.{Item}
 use Rattle.bench_item.specs.declared.step.Step.{Step}
 use Rattle.bench_item.specs.declared.step.Step.TheVariants.{Came}
@@ -20,3 +21,7 @@ octets_in e = by e.step
 -- the entry of a step that carries an item, if there is one
 abbrev pub carried_entry : Step → Option Item → Entry
 carried_entry step item = record { step = step; item = item; handled = None }
+
+-- the entry of a step with all its parts
+abbrev pub whole_entry : Step → Option Item → Option Handled → Entry
+whole_entry step item handled = record { step = step; item = item; handled = handled }

@@ -1,5 +1,5 @@
 -- Why a step is refused, by what a world keeps.
-use Rattle.std.specs.Prelude.{Bool, List, Option, Some, None, find, option_map, if◌then◌else◌}
+use Rattle.std.specs.Prelude.{Bool, false, List, Option, Some, None, find, option_map, if◌then◌else◌}
 use Rattle.bench_item.specs.declared.step.StepFault.{StepFault}
 use Rattle.bench_item.specs.declared.step.StepFault.TheVariants as step
 use Rattle.bench_line.specs.declared.fault.LineFault.{LineFault}
@@ -7,7 +7,7 @@ use Rattle.bench_line.specs.declared.fault.LineFault.TheVariants.{Unknown, Close
 use Rattle.bench_shard.specs.declared.fault.WorkFault.{WorkFault}
 use Rattle.bench_shard.specs.declared.fault.WorkFault.TheVariants as shard
 use Rattle.bench_shard.specs.Refusal.{work_refusal}
-use Rattle.bench_shard.specs.View.{ShardView}
+use Rattle.bench_shard.specs.View.{ShardView, with_paused}
 
 -- the first of the reasons that holds
 abbrev pub first_of : List (Bool × StepFault) → Option StepFault
@@ -43,3 +43,8 @@ work_fault_or None full = if full then Some step.Full else None
 abbrev pub shard_fault : Option ShardView → Bool → Option StepFault
 shard_fault None full = Some step.Unknown
 shard_fault (Some v) full = work_fault_or (work_refusal v) full
+
+-- why a shard would not work if it were not paused, if it is there
+abbrev pub unpaused_shard_fault : Option ShardView → Bool → Option StepFault
+unpaused_shard_fault None full = Some step.Unknown
+unpaused_shard_fault (Some v) full = work_fault_or (work_refusal (with_paused v false)) full

@@ -3,7 +3,7 @@
 //! | File | What it has |
 //! |---|---|
 //! | `keeping` | all of a world but its callbacks |
-//! | `looks` | what a world shows |
+//! | `looks`, `queues` | what a world shows |
 //! | `refusal`, `told`, `carry_faults` | why a step is refused |
 //! | `room`, `entries` | room for one more entry and its record; entries that carry nothing and move nothing |
 //! | `opening`, `parts` | a world is opened, and each of its parts |
@@ -15,7 +15,7 @@
 //! | `back` | the last step is taken back |
 //! | `pause` | a shard is paused, and goes on |
 //! | `step` | a step is taken, or refused |
-//! | `replay` | an entry is added as it is |
+//! | `replay`, `replay_carried`, `replay_work` | an entry is added as it is: of any step, of one that works no shard, of work |
 #![tactic(auto)]
 
 mod back;
@@ -29,8 +29,11 @@ mod looks;
 mod opening;
 mod parts;
 mod pause;
+mod queues;
 mod refusal;
 mod replay;
+mod replay_carried;
+mod replay_work;
 mod room;
 mod step;
 mod tell;

@@ -1,12 +1,12 @@
 //! Why a step is refused, memory aside.
-ghost use Rattle.std.specs.Prelude.{◌≡◌, ◌==◌, ℕ, List, Some, None, false, length, nat_lt, slice_get, if◌then◌else◌};
+ghost use Rattle.std.specs.Prelude.{◌≡◌, ◌==◌, ℕ, List, [], Some, None, false, length, nat_lt, slice_get, if◌then◌else◌};
 ghost use Rattle.std.specs.FinMap as map;
 ghost use Rattle.std.specs.Option.{option_map_or};
 ghost use Rattle.bench_item.specs.Keys.{shard_of};
 ghost use Rattle.bench_item.specs.declared.step.Step.TheVariants as steps;
 ghost use Rattle.bench_spec.specs.Refusal.{refusal};
 ghost use Rattle.bench_views.specs.Timers.{generation_of};
-ghost use Rattle.bench_core.specs.Faults.{line_fault_or, shard_fault, step_fault, work_fault, work_fault_or};
+ghost use Rattle.bench_core.specs.Faults.{line_fault_or, shard_fault, step_fault, unpaused_shard_fault, work_fault, work_fault_or};
 
 use crate::keeping::Core;
 use bench_item::{MAX_MACHINES, StepFault};
@@ -73,6 +73,16 @@ fn shard_fault(shards: &[ShardState], shard: u32, full: bool) -> Option<StepFaul
     match shards.get(shard as usize) {
         None => Some(StepFault::Unknown),
         Some(own) => work_fault_or(own.work_refusal(), full),
+    }
+}
+
+/// Why the shard of that number would not work if it were not paused.
+fn unpaused_shard_fault(shards: &[ShardState], shard: u32, full: bool) -> Option<StepFault>
+    ensures { result ≡ unpaused_shard_fault (slice_get shards.now shard) full }
+{
+    match shards.get(shard as usize) {
+        None => Some(StepFault::Unknown),
+        Some(own) => work_fault_or(own.unpaused_refusal(), full),
     }
 }
 
@@ -149,5 +159,13 @@ impl Core {
     {
         let full = self.log.is_full();
         shard_fault(&self.shards, shard, full)
+    }
+
+    // Why a shard would not work if none were paused.
+    pub(crate) fn unpaused_work_fault(&self, shard: u32) -> Option<StepFault>
+        ensures { result ≡ refusal self.now.settings self.now.log [] (steps.Work shard) }
+    {
+        let full = self.log.is_full();
+        unpaused_shard_fault(&self.shards, shard, full)
     }
 }

@@ -1,124 +1,101 @@
 //! An entry is added as it is: for a log that is run again.
-ghost use Rattle.std.specs.Prelude.{◌≡◌, ◌≢◌, ◌<◌, ◌↔◌, None, IfOk, IsErrOf, IsTrue, OnOk, OnErr, length};
+ghost use Rattle.std.specs.Prelude.{◌≡◌, IsErrOf, OnOk, OnErr};
+ghost use Rattle.bench_item.specs.declared.step.Step.TheVariants as steps;
 ghost use Rattle.bench_spec.specs.Legal.{MayFollow};
-ghost use Rattle.bench_spec.specs.Refusal.{refusal};
-ghost use Rattle.bench_spec.specs.Taken.{GoesBackTo, Replays, Takes};
-ghost use Rattle.bench_core.specs.Entries.{carried_entry};
-ghost use Rattle.bench_core.specs.Replaying.{IsCarried, IsSingle, last_item};
+ghost use Rattle.bench_spec.specs.Taken.{Replays};
+ghost use Rattle.bench_core.specs.Entries.{whole_entry};
+ghost use Rattle.bench_core.specs.Replaying.{IsCarried, work_parts};
 
 use crate::keeping::Core;
-use bench_carry::are_items_same;
-use bench_item::{Item, Step};
+use bench_item::{Entry, Handled, Item, MachineItem, Step};
 use std::alloc::AllocError;
+use std::mem;
+use tab_step::Stepped;
+use thiserror::Error;
 
 /// Why an entry is not added as it is. Nothing has changed then.
-#[derive(Clone, Copy, Debug, PartialEq, Eq)]
+#[derive(Clone, Copy, Debug, PartialEq, Eq, Error)]
 pub enum ReplayError {
     /// It may not follow the entries before it.
+    #[error("the entry may not follow the log")]
     Illegal,
     /// Memory was refused.
+    #[error("out of memory")]
     NoMemory,
 }
 
-/// Whether two entries carry the same item, or none.
-fn are_carried_same(one: &Option<Item>, other: &Option<Item>) -> bool
-    ensures { IsTrue result ↔ (one.now ≡ other.now) }
+impl From<AllocError> for ReplayError {
+    ghost use Rattle.bench_core.specs.declared.replay.ReplayError.TheVariants.{NoMemory};
+
+    ghost from_gives = { λ _ e. e ≡ NoMemory };
+
+    fn from(_e: AllocError) -> ReplayError {
+        ReplayError::NoMemory
+    }
+}
+
+/// The item for a machine and what became of it, where both are there.
+fn work_parts(item: Option<Item>, handled: Option<Handled>) -> Option<(MachineItem, Handled)>
+    ensures { result ≡ work_parts item handled }
 {
-    match one {
-        None => other.is_none(),
-        Some(a) => match other {
-            None => false,
-            Some(b) => are_items_same(a, b),
-        },
+    match (item, handled) {
+        (Some(Item::ToMachine(item)), Some(handled)) => Some((item, handled)),
+        _ => None,
     }
 }
 
 impl Core {
-    // Of a step that works no shard, one entry at most may follow.
-    fn single(&self, step: &Step)
-        requires { IsCarried step.now }
-        ensures { IsSingle self.now.settings self.now.log step.now }
-    {
-        let _entries = self.log.len();
-    }
-
-    // Takes a step that works no shard and is not refused, unless memory is.
-    fn take_carried(&mut self, step: Step) -> Result<(), AllocError>
-        requires carried { IsCarried step }
-        requires could { refusal self.old.settings self.old.log self.old.paused step ≡ None }
-        ensures ok { OnOk result (Takes self.old self.new step) }
-        ensures err { OnErr result (self.new ≡ self.old) }
-    {
-        match step {
-            Step::Joined => self.joined(),
-            Step::Dialled(line) => self.dialled(line),
-            Step::Came { line, piece } => self.came(line, piece),
-            Step::Lost(line) => self.lost(line),
-            Step::Told { desk, key, event } => self.tell(desk, key, event),
-            Step::Fired {
-                machine,
-                generation,
-            } => self.fire(machine, generation),
-            Step::Lift(source) => self.lift(source),
-            Step::Drop(source) => self.drop_item(source),
-            Step::Work(_) => unreachable!(),
-        }
-    }
-
-    // Whether the last entry carries this item.
-    fn carries(&self, item: &Option<Item>) -> Result<bool, AllocError>
-        ensures { IfOk result (λ same. IsTrue same ↔ (item.now ≡ last_item self.now.log)) }
-    {
-        let place = self.log.len().saturating_sub(1);
-        let last = self.log.item(place, self.alloc)?;
-        Ok(are_carried_same(item, &last))
-    }
-
-    // Takes back a step, where one was taken.
-    fn unstep(&mut self)
-        requires { 0 < length self.old.log }
-        ensures { GoesBackTo self.old self.new }
-    {
-        if !self.back() {
-            unreachable!()
-        }
-    }
-
-    // Keeps the last step where it carries this item, and takes it back where it carries another.
-    fn settle(&mut self, item: &Option<Item>) -> Result<(), ReplayError>
-        requires { 0 < length self.old.log }
-        ensures kept { OnOk result (self.new ≡ self.old) }
-        ensures same { OnOk result (item.now ≡ last_item self.old.log) }
-        ensures other { IsErrOf result ReplayError.Illegal → item.now ≢ last_item self.old.log }
-        ensures back { OnErr result (GoesBackTo self.old self.new) }
-    {
-        let fault = match self.carries(item) {
-            Ok(true) => return Ok(()),
-            Ok(false) => ReplayError::Illegal,
-            Err(AllocError) => ReplayError::NoMemory,
-        };
-        self.unstep();
-        Err(fault)
-    }
-
-    // Adds the entry of a step that works no shard, with the item that it carries.
-    pub(crate) fn replay_carried(
+    // Adds the entry of a step that works no shard: nothing is handled by it.
+    fn replay_unworked(
         &mut self,
         step: Step,
-        item: &Option<Item>,
+        item: Option<Item>,
+        handled: Option<Handled>,
     ) -> Result<(), ReplayError>
         requires { IsCarried step }
-        ensures ok { OnOk result (Replays self.old self.new (carried_entry step item.now)) }
-        ensures illegal { IsErrOf result ReplayError.Illegal → MayFollow self.old.settings self.old.log (carried_entry step item.now) → ⊥ }
+        ensures ok { OnOk result (Replays self.old self.new (whole_entry step item handled)) }
+        ensures illegal { IsErrOf result ReplayError.Illegal → MayFollow self.old.settings self.old.log (whole_entry step item handled) → ⊥ }
         ensures err { OnErr result (self.new ≡ self.old) }
     {
-        if self.refusal(&step).is_some() {
+        if handled.is_some() {
             return Err(ReplayError::Illegal);
         }
-        self.single(&step);
-        match self.take_carried(step) {
-            Ok(()) => self.settle(item),
-            Err(AllocError) => Err(ReplayError::NoMemory),
+        self.replay_carried(step, &item)
+    }
+
+    // Adds the entry of a shard's work: there is an item for a machine, and what became of it.
+    fn replay_worked(
+        &mut self,
+        shard: u32,
+        item: Option<Item>,
+        handled: Option<Handled>,
+        room: &mut Stepped,
+    ) -> Result<(), ReplayError>
+        ensures ok { OnOk result (Replays self.old self.new (whole_entry (steps.Work shard) item handled)) }
+        ensures illegal { IsErrOf result ReplayError.Illegal → MayFollow self.old.settings self.old.log (whole_entry (steps.Work shard) item handled) → ⊥ }
+        ensures err { OnErr result (self.new ≡ self.old) }
+    {
+        match work_parts(item, handled) {
+            None => Err(ReplayError::Illegal),
+            Some((item, handled)) => self.replay_work(shard, item, handled, room),
+        }
+    }
+
+    /// Adds an entry as it is, where it may follow those before it, whatever is paused. The callbacks are not asked: where a shard works,
+    /// what the entry says of its item is checked by the laws. `room` is where a move is checked, and what stands there is gone. An entry
+    /// is found to be another than the one that may follow by making that one, which takes memory: want of memory may be told first.
+    pub fn replay(&mut self, entry: Entry, room: &mut Stepped) -> Result<(), ReplayError>
+        ensures ok { OnOk result (Replays self.old self.new entry) }
+        ensures illegal { IsErrOf result ReplayError.Illegal → MayFollow self.old.settings self.old.log entry → ⊥ }
+        ensures err { OnErr result (self.new ≡ self.old) }
+    {
+        let mut entry = entry;
+        let step = mem::replace(&mut entry.step, Step::Joined);
+        let item = entry.item.take();
+        let handled = entry.handled.take();
+        match step {
+            Step::Work(shard) => self.replay_worked(shard, item, handled, room),
+            carried => self.replay_unworked(carried, item, handled),
         }
     }
 }

@@ -3,6 +3,7 @@ ghost use Rattle.std.specs.Prelude.{◌≡◌, IfErr, OnOk, OnErr, None, length}
 ghost use Rattle.std.specs.List.{AllByRecursion as Each};
 ghost use Rattle.bench_spec.specs.Refusal.{refusal};
 ghost use Rattle.bench_spec.specs.Taken.{Takes, fault_of};
+ghost use Rattle.bench_core.specs.Replaying.{IsCarried};
 
 use crate::keeping::Core;
 use bench_item::{Step, StepFault};
@@ -31,15 +32,9 @@ impl Core {
         }
     }
 
-    // Takes a step that is not refused, unless memory is.
-    fn take(
-        &mut self,
-        registries: &[Registry],
-        step: Step,
-        room: &mut Stepped,
-    ) -> Result<(), AllocError>
-        requires laws { Each (λ r. r.book ≡ self.old.settings.node.laws) registries.now }
-        requires count { length registries.now ≡ self.old.settings.node.shards }
+    // Takes a step that works no shard and is not refused, unless memory is.
+    pub(crate) fn take_carried(&mut self, step: Step) -> Result<(), AllocError>
+        requires carried { IsCarried step }
         requires could { refusal self.old.settings self.old.log self.old.paused step ≡ None }
         ensures ok { OnOk result (Takes self.old self.new step) }
         ensures err { OnErr result (self.new ≡ self.old) }
@@ -56,7 +51,26 @@ impl Core {
             } => self.fire(machine, generation),
             Step::Lift(source) => self.lift(source),
             Step::Drop(source) => self.drop_item(source),
+            Step::Work(_) => unreachable!(),
+        }
+    }
+
+    // Takes a step that is not refused, unless memory is.
+    fn take(
+        &mut self,
+        registries: &[Registry],
+        step: Step,
+        room: &mut Stepped,
+    ) -> Result<(), AllocError>
+        requires laws { Each (λ r. r.book ≡ self.old.settings.node.laws) registries.now }
+        requires count { length registries.now ≡ self.old.settings.node.shards }
+        requires could { refusal self.old.settings self.old.log self.old.paused step ≡ None }
+        ensures ok { OnOk result (Takes self.old self.new step) }
+        ensures err { OnErr result (self.new ≡ self.old) }
+    {
+        match step {
             Step::Work(shard) => self.work(&registries[shard as usize], shard, room),
+            carried => self.take_carried(carried),
         }
     }
 

@@ -69,7 +69,7 @@ fn book(page: &mut Page, ops: &[Op])
 }
 
 /// Writes what a shard is to do: all of it, or nothing where memory is refused.
-fn write(
+pub(crate) fn write(
     alloc: Global,
     number: u32,
     shard: &mut ShardState,

@@ -1,12 +1,13 @@
 //! A world: all of a bench in one value.
-ghost use Rattle.std.specs.Prelude.{◌≡◌, [], None, IfOk, IfErr, IsFalse, IsTrue, OnOk, OnErr, false, map, nat_lt, replicate, slice_set, true};
+ghost use Rattle.std.specs.Prelude.{◌≡◌, [], None, IfOk, IfErr, IsErrOf, IsFalse, IsTrue, OnOk, OnErr, false, map, nat_lt, replicate, slice_set, true};
 ghost use Rattle.bench_open.specs.Given.{config_of};
 ghost use Rattle.bench_open.specs.Faults.{IsOpeningError};
+ghost use Rattle.bench_spec.specs.Legal.{MayFollow};
 ghost use Rattle.bench_spec.specs.Opening.{opening_refusal, settings_of};
-ghost use Rattle.bench_spec.specs.Taken.{GoesBackTo, Takes, fault_of, opened, with_paused};
+ghost use Rattle.bench_spec.specs.Taken.{GoesBackTo, Replays, Runs, Takes, fault_of, opened, with_paused};
 
-use bench_core::Core;
-use bench_item::{Step, StepFault};
+use bench_core::{Core, ReplayError};
+use bench_item::{Entry, Step, StepFault};
 use bench_open::Config;
 use bench_spec::OpeningError;
 use std::alloc::Global;
@@ -16,7 +17,7 @@ use tab_step::Stepped;
 /// A bench: peers, sessions, connections, account book, timers and log in one value. A contract sees `core`: what it was opened with, its
 /// log, and which shards are paused; all else is what the log says (`docs/WHOLE.md`).
 ///
-/// In: `step`, `back`, `pause`, `resume`. Looks: those of `core`.
+/// In: `step`, `run`, `replay`, `back`, `pause`, `resume`. Looks: those of `core`. Laws: `law.rt`.
 pub struct World {
     pub core: Core,
     registries: Vec<Registry>,
@@ -70,6 +71,31 @@ impl World {
         ensures err { OnErr result (self.new.core ≡ self.old.core) }
     {
         self.core.step(&self.registries, step, &mut self.room)
+    }
+
+    /// Takes steps in their order, up to the first that is refused: answers its place in the list, from 0, and why. Those before it stay taken.
+    pub fn run(&mut self, steps: Vec<Step>) -> Result<(), (usize, StepFault)>
+        ensures { Runs self.old.core self.new.core steps.items result }
+    {
+        let count = steps.len();
+        let mut left = count;
+        for step in steps {
+            if let Err(fault) = self.step(step) {
+                return Err((count - left, fault));
+            }
+            left -= 1;
+        }
+        Ok(())
+    }
+
+    /// Adds an entry as it is, where it may follow those of the log, whatever is paused: for a log that is run again. No callback is asked;
+    /// a move is checked by the laws. Want of memory may be told before it is known whether the entry may follow.
+    pub fn replay(&mut self, entry: Entry) -> Result<(), ReplayError>
+        ensures ok { OnOk result (Replays self.old.core self.new.core entry) }
+        ensures illegal { IsErrOf result ReplayError.Illegal → MayFollow self.old.core.settings self.old.core.log entry → ⊥ }
+        ensures err { OnErr result (self.new.core ≡ self.old.core) }
+    {
+        self.core.replay(entry, &mut self.room)
     }
 
     /// Takes the last step back, where one was taken; says whether. Which shards are paused stays. Asks no callback and takes no memory.

@@ -73,4 +73,4 @@ pub returns-clause-err : goal.returns-clause-err
 returns-clause-err g c =
     let w = c.self.inside in
     subst (λ run. OnErr c.do_task.result (run_of (settings_in w) c.do_task.new.log.entries (slice_set w.shards.items c.args.shard c.do_task.new.shard) ≡ run)) c.self.view_is
-    (works-refused (settings_in w) w.log.entries c.do_task.new.log.entries (stored_in w) w.pages.items w.undo.records c.do_task.new.undo.records c.args.shard c.unwrap_or-place.result c.index_mut.result.now c.do_task.new.shard c.index_mut-2.result.now c.do_task.new.page c.in-Some.task c.do_task.result (works g c) c.do_task.ensures.err)
+    (works-refused (settings_in w) w.log.entries c.do_task.new.log.entries (paused_in w) (stored_in w) w.pages.items w.undo.records c.do_task.new.undo.records c.args.shard c.unwrap_or-place.result c.index_mut.result.now c.do_task.new.shard c.index_mut-2.result.now c.do_task.new.page c.in-Some.task c.do_task.result (works g c) c.do_task.ensures.err)
