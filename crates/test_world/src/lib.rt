@@ -24,6 +24,8 @@ mod places;
 #[cfg(test)]
 mod play;
 #[cfg(test)]
+mod replay;
+#[cfg(test)]
 mod services;
 #[cfg(test)]
 mod sessions;

@@ -45,12 +45,7 @@ pub fn put_machine(core: &Core, key: &Key, out: &mut Vec<u8>) -> Result<(), Fail
 }
 
 /// Puts where the machine of a key stands.
-pub fn put_shown(
-    alloc: Global,
-    core: &Core,
-    word: &str,
-    out: &mut Vec<u8>,
-) -> Result<(), Fail> {
+pub fn put_shown(alloc: Global, core: &Core, word: &str, out: &mut Vec<u8>) -> Result<(), Fail> {
     match read_key(alloc, word.as_bytes())? {
         Some(key) => put_machine(core, &key, out),
         None => Ok(out.extend_from_slice(b" no key\n")?),
@@ -68,12 +63,7 @@ pub fn put_timer(core: &Core, machine: u64, out: &mut Vec<u8>) -> Result<(), Fai
 }
 
 /// Puts what stands on an account.
-pub fn put_totals(
-    alloc: Global,
-    core: &Core,
-    account: u64,
-    out: &mut Vec<u8>,
-) -> Result<(), Fail> {
+pub fn put_totals(alloc: Global, core: &Core, account: u64, out: &mut Vec<u8>) -> Result<(), Fail> {
     let Some(totals) = core.totals(account) else {
         out.extend_from_slice(b" no account\n")?;
         return Ok(());
@@ -111,12 +101,7 @@ fn put_sent(core: &Core, line: u32, count: usize, out: &mut Vec<u8>) -> Result<(
 }
 
 /// Says whether a connection has sent just these octets, else which ones.
-pub fn put_sent_is(
-    core: &Core,
-    line: u32,
-    octets: &[u8],
-    out: &mut Vec<u8>,
-) -> Result<(), Fail> {
+pub fn put_sent_is(core: &Core, line: u32, octets: &[u8], out: &mut Vec<u8>) -> Result<(), Fail> {
     if core.sent(line) == octets {
         out.extend_from_slice(b" as told\n")?;
         return Ok(());
@@ -125,12 +110,7 @@ pub fn put_sent_is(
 }
 
 /// Says whether these are the last octets that a connection has sent, else which ones.
-pub fn put_tail_is(
-    core: &Core,
-    line: u32,
-    octets: &[u8],
-    out: &mut Vec<u8>,
-) -> Result<(), Fail> {
+pub fn put_tail_is(core: &Core, line: u32, octets: &[u8], out: &mut Vec<u8>) -> Result<(), Fail> {
     if !octets.is_empty() && core.sent(line).ends_with(octets) {
         out.extend_from_slice(b" as told\n")?;
         return Ok(());

@@ -217,7 +217,10 @@ fn a_step_refused_for_memory_changes_nothing(rt: HostRuntime) -> Result<(), Fail
         let printed = over(rt.alloc(), trial.nodes, false, &lockstep)?;
         let text = text_of(printed.as_slice());
         println!(rt; "{text}")?;
-        assert!(rt; !text.contains(" changed") && !text.contains("twice") && !text.contains("not"), "{text}");
+        assert!(rt;
+            !text.contains(" changed") && !text.contains("twice") && !text.contains("not"),
+            "{text}"
+        );
     }
     Ok(())
 }

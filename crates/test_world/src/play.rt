@@ -21,8 +21,8 @@
 //! | `retrace` | back to that place, forward and back again: whether the same was shown at each place |
 
 use crate::looks::{
-    number_in, put_all, put_back, put_fate, put_last, put_line, put_read_back, put_sent_is, put_shown, put_tail_is,
-    put_timer, put_totals, short_in,
+    number_in, put_all, put_back, put_fate, put_last, put_line, put_read_back, put_sent_is,
+    put_shown, put_tail_is, put_timer, put_totals, short_in,
 };
 use crate::words::joined;
 use base_list::Octets;
@@ -78,10 +78,12 @@ pub fn step_of(alloc: Global, core: &Core, line: &str) -> Result<Option<Step>, F
     match read_line(alloc, core.laws(), line.as_bytes())? {
         Some(Asked::Step(step)) => Ok(Some(step)),
         Some(Asked::Fired { key, generation }) => {
-            Ok(core.number_of(&key).map(|machine| Step::Fired {
-                machine,
-                generation,
-            }))
+            Ok(
+                core.number_of(&key).map(|machine| Step::Fired {
+                    machine,
+                    generation,
+                }),
+            )
         }
         None => Ok(None),
     }
@@ -116,7 +118,7 @@ fn sent_from(alloc: Global, core: &Core, line: u32, from: usize) -> Result<Vec<u
 }
 
 /// The steps of a log from a place on.
-fn steps_from(alloc: Global, core: &Core, first: usize) -> Result<Vec<Step>, Fail> {
+pub fn steps_from(alloc: Global, core: &Core, first: usize) -> Result<Vec<Step>, Fail> {
     let mut steps = Vec::new(alloc);
     for place in first..core.place() {
         if let Some(step) = core.log().step(place, alloc)? {

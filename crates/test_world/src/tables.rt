@@ -7,13 +7,16 @@ use std::alloc::Global;
 use std::test::Fail;
 use tab_text::{ParseError, parse};
 
-const HEADER: &str = "  State  Event                            Action                                      Next\n";
+const HEADER: &str =
+    "  State  Event                            Action                                      Next\n";
 
 /// A row that takes no request: none is both a repetition and old.
-const NEVER: &str = "  Idle   Initial when repeat and old      Snd-CCA                                     Idle\n";
+const NEVER: &str =
+    "  Idle   Initial when repeat and old      Snd-CCA                                     Idle\n";
 
 /// Two rows that are taken.
-const TAKEN: &str = "  Idle   Initial when enough              Open-Account, Reserve, Snd-CCA, Start-Tcc   Open
+const TAKEN: &str =
+    "  Idle   Initial when enough              Open-Account, Reserve, Snd-CCA, Start-Tcc   Open
   Open   Tcc                              Release, Close                              Idle
 ";
 
