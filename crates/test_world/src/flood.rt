@@ -1,0 +1,143 @@
+//! More sessions than a shard has room for.
+
+use crate::case::{SERVER, text_of};
+use crate::over::{Trial, over};
+use crate::play::Play;
+use crate::words::joined;
+use base_list::Octets;
+use bench_item::{Source, Step};
+use std::alloc::Global;
+use std::test::Fail;
+
+/// The most machines of a shard; one is the peer's.
+const MACHINES: u32 = 4_096;
+
+/// The header of a message of so many octets below 256, with these flags, command 272, Application-Id 4 and both identifiers 7.
+fn header(flags: u8, length: usize) -> [u8; 20] {
+    let length = length.min(255) as u8;
+    [
+        1, 0, 0, length, flags, 0, 1, 16, 0, 0, 0, 4, 0, 0, 0, 7, 0, 0, 0, 7,
+    ]
+}
+
+/// A message whose Session-Id is `f;` and a number, with so many octets behind that.
+fn message(alloc: Global, flags: u8, number: u32, rest: &[u8]) -> Result<Vec<u8>, Fail> {
+    let name = format!(in alloc; "f;{number}")?;
+    let size = name.len().min(9);
+    let padded = (size + 3) / 4 * 4;
+    let length = rest.len().min(200) + 28 + padded;
+    let mut octets = Vec::new(alloc);
+    octets.extend_from_slice(&header(flags, length))?;
+    octets.extend_from_slice(&[0, 0, 1, 7, 0x40, 0, 0, 8 + size as u8])?;
+    octets.extend_from_slice(name.as_bytes())?;
+    for _ in size..padded {
+        octets.push(0)?;
+    }
+    octets.extend_from_slice(rest)?;
+    Ok(octets)
+}
+
+/// Takes the steps in which a request is served: it is handed on by the peer's machine, to its session and back.
+fn serve(play: &mut Play) -> Result<(), Fail> {
+    for (source, items) in [
+        (Source::Line(1), 1u32),
+        (Source::Shard(0), 1),
+        (Source::Shard(0), 2),
+    ] {
+        for _ in 0..items {
+            play.take(Step::Lift(source), true)?;
+            play.take(Step::Drop(source), true)?;
+        }
+        play.take(Step::Work(0), true)?;
+    }
+    play.take(Step::Lift(Source::Shard(0)), true)?;
+    play.take(Step::Drop(Source::Shard(0)), true)?;
+    Ok(())
+}
+
+/// Whether the request of a session is answered by these octets.
+fn is_answered(play: &mut Play, piece: Octets, answer: &[u8]) -> Result<bool, Fail> {
+    play.take(Step::Came { line: 1, piece }, true)?;
+    serve(play)?;
+    Ok(match play.worlds.get(0) {
+        Some(world) => world.core.sent(1).ends_with(answer),
+        None => false,
+    })
+}
+
+/// The number of the first session that is not answered 2001.
+fn wrong_session(play: &mut Play, asked: &[u8], granted: &[u8]) -> Result<Option<u32>, Fail> {
+    for number in 0..MACHINES - 1 {
+        let octets = message(play.alloc, 0xc0, number, asked)?;
+        let answer = message(play.alloc, 0x40, number, granted)?;
+        if !is_answered(play, Octets::new(octets), answer.as_slice())? {
+            return Ok(Some(number));
+        }
+    }
+    Ok(None)
+}
+
+/// A request for no units by each of 4,096 sessions.
+struct Flood;
+
+impl Drop for Flood {
+    fn drop(self) {
+        let Flood = self;
+    }
+}
+
+/// The last one.
+const LAST: &str = "\
+carry line 1
+work 0
+carry shard 0
+place
+show s:f;4094
+show s:f;4095
+work 0
+fate
+settle
+tail 1 0100005460000110000000040000000700000007 000001074000000e663b343039350000 server 0000010c4000000c00000bbc
+show s:f;4095
+totals 100
+back 1
+";
+
+impl Trial for Flood {
+    fn plays(&self, play: &mut Play) -> Result<(), Fail> {
+        let alloc = play.alloc;
+        play.script("join\ncame 1 cer\nsettle\n")?;
+        let asked = joined(alloc, "others context initial subscriber")?;
+        let granted = joined(
+            alloc,
+            "0000010c4000000c000007d1 server 000001024000000c00000004 initial",
+        )?;
+        if let Some(number) = wrong_session(play, asked.as_slice(), granted.as_slice())? {
+            let text = format!(in alloc; "session {number}\n")?;
+            play.out.extend_from_slice(text.as_bytes())?;
+        }
+        let octets = message(alloc, 0xc0, MACHINES - 1, asked.as_slice())?;
+        let piece = Octets::new(octets);
+        play.take(Step::Came { line: 1, piece }, true)?;
+        play.wants(LAST, BUSY)
+    }
+}
+
+/// A connection is accepted and greeted in 9 steps, and each session before takes 14.
+const BUSY: &str = " at 57345
+ s:f;4094 Open r0=100 r1=1 r2=2001 r8=1 r14=4095 r15=1
+ no machine
+ busy
+ as told
+ no machine
+ given 100 reserved 0 debited 0 unpaid 0
+ at 57350
+";
+
+#[test]
+fn a_session_without_room_is_answered_too_busy(rt: HostRuntime) -> Result<(), Fail> {
+    let printed = over(rt.alloc(), &[SERVER], false, &Flood)?;
+    let text = text_of(printed.as_slice());
+    assert!(rt; text.is_empty(), "{text}");
+    Ok(())
+}

@@ -1,0 +1,228 @@
+//! A log that is run again: each entry is added as it is, no callback is asked, and an entry that is wrong in one value is refused. Lists of
+//! steps are run up to the first that is refused.
+
+use crate::case::{SERVER, text_of};
+use crate::over::{Trial, over};
+use crate::play::{Play, all_of, steps_from};
+use bench_core::ReplayError;
+use bench_item::{Entry, Handled, Item, Moved, Series, Step};
+use bench_world::World;
+use std::alloc::Global;
+use std::test::Fail;
+
+/// In how many ways an entry is made wrong.
+const WAYS: u8 = 15;
+
+/// Makes an item another; whether it is one that can be made so.
+fn alters_item(item: &mut Item) -> bool {
+    match item {
+        Item::ToMachine(item) => {
+            item.event.facts[20] = item.event.facts[20].wrapping_add(1);
+            true
+        }
+        Item::ToLine(item) => {
+            item.line = item.line.wrapping_add(1);
+            true
+        }
+        Item::Arm { ticks, .. } => {
+            *ticks = ticks.wrapping_add(1);
+            true
+        }
+        _ => false,
+    }
+}
+
+/// Makes a move another, in one of 9 ways; whether that can be done.
+fn alters_move(alloc: Global, moved: &mut Moved, way: u8) -> bool {
+    match way {
+        0 => moved.row = None,
+        1 => moved.after.state = moved.after.state.wrapping_add(1),
+        2 => moved.after.regs[5] = moved.after.regs[5].wrapping_add(1),
+        3 => moved.before.regs[40] = moved.before.regs[40].wrapping_add(1),
+        4 => moved.event.facts[13] = moved.event.facts[13].wrapping_add(1),
+        5 => moved.machine = moved.machine.wrapping_add(1),
+        6 if moved.deeds.len() > 0 => moved.deeds = Series::empty(alloc),
+        7 if moved.outcomes.len() > 0 => moved.outcomes = Series::empty(alloc),
+        8 if moved.chain.len() > 0 => moved.chain = Series::empty(alloc),
+        _ => return false,
+    }
+    true
+}
+
+/// Makes what became of an item another; whether that can be done.
+fn alters_handled(alloc: Global, handled: &mut Option<Handled>, way: u8) -> bool {
+    if handled.is_none() {
+        return false;
+    }
+    match way {
+        0 => *handled = None,
+        1 => *handled = Some(Handled::Stale(0)),
+        2 => *handled = Some(Handled::TooBusy),
+        _ => {
+            return match handled {
+                Some(Handled::Move(moved)) => alters_move(alloc, moved, way - 3),
+                _ => false,
+            };
+        }
+    }
+    true
+}
+
+/// Makes an entry wrong, in one of the ways; whether that can be done.
+fn alters(alloc: Global, entry: &mut Entry, way: u8) -> bool {
+    match way {
+        0 => {
+            entry.step = Step::Work(9);
+            true
+        }
+        1 => {
+            let there = entry.item.is_some();
+            entry.item = None;
+            there
+        }
+        2 => match &mut entry.item {
+            Some(item) => alters_item(item),
+            None => false,
+        },
+        _ => alters_handled(alloc, &mut entry.handled, way - 3),
+    }
+}
+
+/// The number of the first way in which an entry is made wrong and not refused, or changes what is shown.
+fn wrong_way(
+    alloc: Global,
+    from: &World,
+    place: usize,
+    to: &mut World,
+) -> Result<Option<u8>, Fail> {
+    let shown = all_of(alloc, &to.core)?;
+    for way in 0..WAYS {
+        let Some(mut entry) = from.core.log().entry(place, alloc)? else {
+            return Ok(Some(way));
+        };
+        if !alters(alloc, &mut entry, way) {
+            continue;
+        }
+        let is_refused = matches!(to.replay(entry), Err(ReplayError::Illegal));
+        if !is_refused || all_of(alloc, &to.core)?.as_slice() != shown.as_slice() {
+            return Ok(Some(way));
+        }
+    }
+    Ok(None)
+}
+
+/// Adds an entry of a world to another; whether it may follow there.
+fn is_added(alloc: Global, from: &World, place: usize, to: &mut World) -> Result<bool, Fail> {
+    match from.core.log().entry(place, alloc)? {
+        Some(entry) => Ok(to.replay(entry).is_ok()),
+        None => Ok(false),
+    }
+}
+
+/// Runs the log of a world again in another: what goes wrong is put.
+fn replays(alloc: Global, from: &World, to: &mut World, out: &mut Vec<u8>) -> Result<(), Fail> {
+    for place in 0..from.core.place() {
+        if let Some(way) = wrong_way(alloc, from, place, to)? {
+            let text = format!(in alloc; "entry {place} made wrong in way {way}\n")?;
+            out.extend_from_slice(text.as_bytes())?;
+        }
+        if !is_added(alloc, from, place, to)? {
+            let text = format!(in alloc; "entry {place} is refused\n")?;
+            out.extend_from_slice(text.as_bytes())?;
+        }
+    }
+    if all_of(alloc, &from.core)?.as_slice() != all_of(alloc, &to.core)?.as_slice() {
+        out.extend_from_slice(b"not the same is shown\n")?;
+    }
+    Ok(())
+}
+
+/// Runs the steps of a world in another, with one that is refused behind them: what goes wrong is put.
+fn runs(alloc: Global, from: &World, to: &mut World, out: &mut Vec<u8>) -> Result<(), Fail> {
+    let mut steps = steps_from(alloc, &from.core, 0)?;
+    let count = steps.len();
+    steps.push(Step::Lost(9))?;
+    steps.push(Step::Joined)?;
+    let is_none_run = to.run(Vec::new(alloc)).is_ok() && to.core.place() == 0;
+    let is_stopped = match to.run(steps) {
+        Ok(()) => false,
+        Err((place, fault)) => place == count && fault.number() == 2,
+    };
+    if !is_none_run || !is_stopped || to.core.place() != count {
+        out.extend_from_slice(b"steps are not run so\n")?;
+    }
+    if all_of(alloc, &from.core)?.as_slice() != all_of(alloc, &to.core)?.as_slice() {
+        out.extend_from_slice(b"not the same is shown behind a run\n")?;
+    }
+    Ok(())
+}
+
+/// Whether the last three entries, of which the first is a shard's work, are taken back and added again while the shard is paused.
+fn is_added_while_paused(alloc: Global, from: &World, to: &mut World) -> Result<bool, Fail> {
+    let mut all = to.pause(0) && to.back() && to.back() && to.back();
+    let first = to.core.place();
+    let is_work = matches!(from.core.log().step(first, alloc)?, Some(Step::Work(0)));
+    for place in first..from.core.place() {
+        all = all && is_added(alloc, from, place, to)?;
+    }
+    Ok(all && is_work && to.core.place() == first.saturating_add(3))
+}
+
+/// A log, which is run again in a second bench whose shard is paused, and whose steps are run in a third.
+struct Again;
+
+impl Drop for Again {
+    fn drop(self) {
+        let Again = self;
+    }
+}
+
+const STEPS: &str = "\
+join
+came 1 cer
+settle
+came 1 ccr
+settle
+came 1 010000d4c0000110000000040000000c0000000c sessiona others context update subscriber ten usedseventy
+settle
+came 1 010000fcc0000110000000040000000700000007 sessionb others context initial subscriber seventy fiftyof2
+settle
+fired s:c1;1 1
+settle
+lost 1
+settle
+asked
+";
+
+impl Trial for Again {
+    fn plays(&self, play: &mut Play) -> Result<(), Fail> {
+        play.wants(STEPS, " asked\n")?;
+        let (Some(mut third), Some(mut second)) = (play.worlds.pop(), play.worlds.pop()) else {
+            return Ok(());
+        };
+        if let Some(first) = play.worlds.get(0) {
+            replays(play.alloc, first, &mut second, &mut play.out)?;
+        }
+        play.wants("asked", " not asked\n")?;
+        if let Some(first) = play.worlds.get(0) {
+            runs(play.alloc, first, &mut third, &mut play.out)?;
+        }
+        if let Some(first) = play.worlds.get(0)
+            && !is_added_while_paused(play.alloc, first, &mut second)?
+        {
+            play.out
+                .extend_from_slice(b"a paused shard's entry is refused\n")?;
+        }
+        Ok(())
+    }
+}
+
+#[test]
+fn a_log_is_run_again(rt: HostRuntime) -> Result<(), Fail> {
+    for sparing in [false, true] {
+        let printed = over(rt.alloc(), &[SERVER, SERVER, SERVER], sparing, &Again)?;
+        let text = text_of(printed.as_slice());
+        assert!(rt; text.is_empty(), "{text}");
+    }
+    Ok(())
+}
