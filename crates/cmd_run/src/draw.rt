@@ -5,9 +5,7 @@ ghost use Rattle.cmd_read.specs.Reads.{TellsNoMemory};
 ghost use Rattle.cmd_run.specs.Runs.{DrawsTable};
 
 use crate::unread::tell_not_whole;
-use base_device::{
-    ByteSink, FileSource, MAX_IDLE_WRITES, MAX_READS, Status, read_input,
-};
+use base_device::{ByteSink, FileSource, MAX_IDLE_WRITES, MAX_READS, Status, read_input};
 use std::alloc::Global;
 use tab_draw::draw_on;
 

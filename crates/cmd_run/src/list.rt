@@ -6,9 +6,7 @@ ghost use Rattle.cmd_run.specs.Runs.{ListsImage};
 
 use crate::unread::tell_not_whole;
 use crate::walk::tell_no_memory;
-use base_device::{
-    ByteSink, FileSource, MAX_IDLE_WRITES, MAX_READS, Status, read_input,
-};
+use base_device::{ByteSink, FileSource, MAX_IDLE_WRITES, MAX_READS, Status, read_input};
 use image_text::list_on;
 use role_tables::all_laws;
 use std::alloc::Global;

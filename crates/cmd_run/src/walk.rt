@@ -9,9 +9,7 @@ ghost use Rattle.tab_walk.specs.Starts.{from_of};
 ghost use Rattle.tab_walk.specs.Walks.{IsWalkedOn};
 
 use crate::unread::tell_not_whole;
-use base_device::{
-    ByteSink, FileSource, MAX_IDLE_WRITES, MAX_READS, Status, read_input, tell,
-};
+use base_device::{ByteSink, FileSource, MAX_IDLE_WRITES, MAX_READS, Status, read_input, tell};
 use law_text::put_book;
 use role_tables::{all_laws, table_named};
 use std::alloc::{AllocError, Global};

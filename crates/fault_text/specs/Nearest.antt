@@ -17,11 +17,13 @@ is_near limit word entry = nat_le (distance word entry.name) limit
 abbrev pub first_near : {T : Type 0} → ℕ → List ℕ → List (Named T) → Option (List ℕ)
 first_near limit word entries = option_map (λ entry. entry.name) (find (is_near limit word) entries)
 
--- the first name that is one off, or else two; words of other lengths than those of names have none, nor have short ones
+-- the first name that is one off, or else two, where the word is long; words of other lengths than those of names have none,
+-- nor have short ones
 unfoldable pub nearest : {T : Type 0} → List ℕ → List (Named T) → Option (List ℕ)
 nearest word entries =
     if nat_le 4 (length word) && nat_le (length word) 40
-    then option_or (first_near 1 word entries) (first_near 2 word entries) else None
+    then option_or (first_near 1 word entries) (if nat_le 8 (length word) then first_near 2 word entries else None)
+    else None
 
 -- it, on a line of its own
 abbrev pub nearest_line : {T : Type 0} → List ℕ → List (Named T) → List ℕ

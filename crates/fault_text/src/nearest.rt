@@ -30,7 +30,7 @@ fn first_near<'a, T: Drop>(
     Ok(None)
 }
 
-/// The first name that is one off, or else two. Words of 4 to 40 octets alone have one.
+/// The first name that is one off, or else two, where the word has 8 octets or more. Words of 4 to 40 octets alone have one.
 #[tactic(auto, unfolding(crate::specs::Nearest::nearest))]
 fn nearest<'a, T: Drop>(
     alloc: Global,
@@ -43,7 +43,13 @@ fn nearest<'a, T: Drop>(
         return Ok(None);
     }
     match first_near(alloc, 1, word, entries) {
-        Ok(None) => first_near(alloc, 2, word, entries),
+        Ok(None) => {
+            if word.len() < 8 {
+                Ok(None)
+            } else {
+                first_near(alloc, 2, word, entries)
+            }
+        }
         Ok(Some(name)) => Ok(Some(name)),
         Err(error) => Err(error),
     }

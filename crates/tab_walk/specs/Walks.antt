@@ -164,7 +164,7 @@ table_text fault = table_fault fault ++ neither fault.code
 abbrev pub table_refusal : Laws → List ℕ → Option (List ℕ)
 table_refusal laws table =
     option_or (option_map table_text (first_fault table))
-    (option_map unbound_text (slice_get (missing laws (table_of table)) 0))
+    (option_map (unbound_text laws) (slice_get (missing laws (table_of table)) 0))
 
 -- what is printed of a table's text, with which status: that, or what is printed of its machine
 abbrev pub IsWalked : Laws → Manner → (table events text : List ℕ) → Status → Type 0
@@ -189,9 +189,9 @@ parse_text parsing.NoMemory = None
 parse_text (parsing.Fault fault) = Some (table_text fault)
 
 -- the text of a table that isn't bound, likewise
-abbrev pub bind_text : Unbound → Option (List ℕ)
-bind_text binding.NoMemory = None
-bind_text (binding.Missing name) = Some (unbound_text name)
+abbrev pub bind_text : Laws → Unbound → Option (List ℕ)
+bind_text laws binding.NoMemory = None
+bind_text laws (binding.Missing name) = Some (unbound_text laws name)
 
 -- a text is that of an image where its first character that is no blank is a hexadecimal digit; no table's text begins
 -- so

@@ -18,6 +18,7 @@ use fault_text::{bad_line, table_fault, unbound_text};
 use image_text::{ImageError, read_image, refusal_text};
 use std::alloc::{AllocError, Global};
 use tab_call::Registry;
+use tab_law::LawBook;
 use tab_step::{MachineState, Unbound, bind};
 use tab_text::{ParseError, TextCode, TextFault, parse};
 
@@ -176,15 +177,15 @@ fn unparsed<O: ByteSink>(alloc: Global, error: &ParseError, sink: &mut O) -> Sta
 }
 
 /// Tells of a table that names what the book lacks.
-fn unbound<O: ByteSink>(alloc: Global, why: &Unbound, sink: &mut O) -> Status
+fn unbound<O: ByteSink>(alloc: Global, book: &LawBook, why: &Unbound, sink: &mut O) -> Status
     requires idle { O.idle sink.old ≡ 0 }
     requires failures { O.failures sink.old < 2 ^ 64 - 1 }
-    ensures told { IsToldWith O.contents O.failures O.idle (IsRefused (bind_text why.now)) sink.old sink.new result }
+    ensures told { IsToldWith O.contents O.failures O.idle (IsRefused (bind_text book.now why.now)) sink.old sink.new result }
     ensures row { O.most_idle sink.new ≤ max (O.most_idle sink.old) MAX_IDLE_WRITES }
 {
     match why {
         Unbound::NoMemory => tell_no_memory(sink),
-        Unbound::Missing(name) => tell_refusal(unbound_text(alloc, name.as_slice()), sink),
+        Unbound::Missing(name) => tell_refusal(unbound_text(alloc, book, name.as_slice()), sink),
     }
 }
 
@@ -207,9 +208,10 @@ fn walk_table<O: ByteSink>(
         Ok(table) => table,
         Err(error) => return unparsed(alloc, &error, sink),
     };
-    match bind(alloc, table, registry.laws()) {
+    let book = registry.laws();
+    match bind(alloc, table, book) {
         Ok(bound) => walk_by(alloc, Rules::Rows(&bound), registry, manner, events, sink),
-        Err(why) => unbound(alloc, &why, sink),
+        Err(why) => unbound(alloc, book, &why, sink),
     }
 }
 

@@ -168,7 +168,12 @@ const WALKS: &[(&str, &str, &str, Status)] = &[
     (IMAGE, "Tx 63=5\n", TO_THE_LAST, Status::Done),
     (IMAGE, "CCA-I 12\n", NO_VALUE, Status::Refused),
     ("\n 0x", EVENTS, "bad hex\n", Status::Refused),
-    ("44544931", EVENTS, "at 4 fault 2\n  wrong: the image is cut off; it has that many octets\n", Status::Refused),
+    (
+        "44544931",
+        EVENTS,
+        "at 4 fault 2\n  wrong: the image is cut off; it has that many octets\n",
+        Status::Refused,
+    ),
     (TABLE, "CCA-I 12=1 12=1\n", TWICE, Status::Refused),
     (TABLE, "CCA-I 12\n", NO_VALUE, Status::Refused),
     (
