@@ -93,17 +93,17 @@ event_lines all = filter (λ line. not (is_skipped line.octets)) all
 abbrev pub events_in : Laws → List Line → List Event
 events_in laws all = filter_map (λ line. event_of laws line.octets) (event_lines all)
 
--- the number of the first line that is no event
-abbrev pub bad_in : Laws → List Line → Option ℕ
-bad_in laws all = option_map (λ line. line.number) (find (λ line. is_none (event_of laws line.octets)) (event_lines all))
+-- the first of lines that is no event
+abbrev pub bad_line_in : Laws → List Line → Option Line
+bad_line_in laws all = find (λ line. is_none (event_of laws line.octets)) (event_lines all)
 
 -- the events of a text
 abbrev pub events_of : Laws → List ℕ → List Event
 events_of laws text = events_in laws (lines text)
 
 -- the first line of a text that is no event
-abbrev pub first_bad : Laws → List ℕ → Option ℕ
-first_bad laws text = bad_in laws (lines text)
+abbrev pub bad_line : Laws → List ℕ → Option Line
+bad_line laws text = bad_line_in laws (lines text)
 
 -- the refusal names the first such line, or memory was refused
 abbrev pub IsBadText : Option ℕ → LinesError → Type 0

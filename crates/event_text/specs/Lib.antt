@@ -1,3 +1,4 @@
 pub mod Deeds
 pub mod Events
 pub mod Left
+pub mod Wrong

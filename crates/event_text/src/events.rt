@@ -1,14 +1,16 @@
 //! Events as text: a line each, `KIND N=V ..`, a kind by its name and then facts by number.
 ghost use Rattle.std.specs.Prelude.{◌≡◌, ◌==◌, ◌<◌, ◌∷◌, [], None, IfNone, IfSome, MatchOption};
 ghost use Rattle.std.specs.List.{slice_split};
-ghost use Rattle.event_text.specs.Events.{event_of, events_of, fact_between, fact_of, facts_by, facts_of, first_bad, is_skipped, labelled, registers_of};
+ghost use Rattle.std.specs.Option.{option_map};
+ghost use Rattle.event_text.specs.Events.{bad_line, event_of, events_of, fact_between, fact_of, facts_by, facts_of, is_skipped, labelled, registers_of};
+ghost use Rattle.text_parts.specs.Left.{line_of};
 ghost use Rattle.text_parts.specs.Pieces.{words_left};
 
 use base_text::number_of;
 use std::alloc::{AllocError, AllocFailed};
 use tab_law::{LawBook, PLACES};
 use tab_step::Event;
-use text_parts::{Lines, Pieces, Words};
+use text_parts::{Lines, Pieces, TextLine, Words};
 
 /// Why the lines of a text are not what they are read for.
 #[derive(Clone, Copy, PartialEq, Eq)]
@@ -141,16 +143,16 @@ pub fn is_skipped(line: &[u8]) -> bool
     }
 }
 
-/// The first line of a text, from 1, that is no event, if there is one. Empty lines, and lines that begin with a blank, are
+/// The first line of a text that is no event, if there is one. Empty lines, and lines that begin with a blank, are
 /// skipped. A line is no event whose kind isn't in the book, or one of whose facts has a number that is too large or stands
 /// twice.
-pub fn first_bad(book: &LawBook, text: &[u8]) -> Option<usize>
-    ensures { result ≡ first_bad book.now text.now }
+pub fn first_bad<'a>(book: &LawBook, text: &'a [u8]) -> Option<TextLine<'a>>
+    ensures { option_map line_of result ≡ bad_line book.now text.now }
 {
     let mut lines = Lines::new(text);
     while let Some(line) = lines.next() {
         if !is_skipped(line.octets) && event_of(book, line.octets).is_none() {
-            return Some(line.number);
+            return Some(line);
         }
     }
     None

@@ -1,5 +1,9 @@
 -- What is told of a table, or of lines of events, that is refused.
-use Rattle.std.specs.Prelude.{ℕ, List, ◌++◌, codes, decimal}
+use Rattle.std.specs.Prelude.{ℕ, Bool, List, [], ◌++◌, Option, Some, None, ◌&&◌, codes, decimal, length, nat_le, if◌then◌else◌}
+use Rattle.tab_law.specs.Books.{Laws}
+use Rattle.text_parts.specs.Lines.{Line, is_plain}
+use Rattle.event_text.specs.Wrong.{wrong_of}
+use Rattle.fault_text.specs.Nearest.{nearest_line}
 use Rattle.tab_text.specs.Codes.{number_of}
 use Rattle.tab_text.specs.declared.fault.TextCode.{TextCode}
 use Rattle.tab_text.specs.declared.fault.TextCode.TheVariants.{NoHeader, BadByte, EmptyCell, NoRowToContinue, BadName, TooManyRows, TooManyNames, TooManyInRow, TooLong}
@@ -26,15 +30,36 @@ abbrev pub table_fault : TextFault → List ℕ
 table_fault fault =
     codes "line " ++ decimal fault.line ++ codes " fault " ++ decimal (number_of fault.code) ++ codes "\n" ++ wanted_line (wanted_of fault.code)
 
--- `unbound Start`: the first name of a table that isn't registered
-abbrev pub unbound_text : List ℕ → List ℕ
-unbound_text name =
+-- the kind, the guard and the action that are near a name, where they are
+abbrev pub near_names : Laws → List ℕ → List ℕ
+near_names laws name = nearest_line name laws.kinds ++ nearest_line name laws.guards ++ nearest_line name laws.acts
+
+-- `unbound Strat`: the first name of a table that isn't registered, and what is near it
+abbrev pub unbound_text : Laws → List ℕ → List ℕ
+unbound_text laws name =
     codes "unbound " ++ name ++ codes "\n" ++ wanted_line (codes "a kind, a guard or an action that is registered")
+    ++ near_names laws name
 
 -- what a line of events is
 unfoldable pub event_form : List ℕ
 event_form = codes "KIND N=V ..: a kind that is registered, then facts, each once, N at most 63 and V below 2^64"
 
--- `bad line 2`: the first line that is no event
-abbrev pub bad_text : ℕ → List ℕ
-bad_text line = codes "bad line " ++ decimal line ++ codes "\n" ++ wanted_line event_form
+-- a word as it is shown, where it is printable and has at most 80 octets
+abbrev pub shown : List ℕ → List ℕ
+shown word =
+    if is_plain word && nat_le (length word) 80 then word else codes "a word that is long, or not printable ASCII"
+
+-- the kind that is near a word, where one is
+abbrev pub near_kind : Laws → (Bool × List ℕ) → List ℕ
+near_kind laws wrong = if wrong.0 then nearest_line wrong.1 laws.kinds else []
+
+-- which word of a line is wrong, and the kind that is near it
+abbrev pub wrong_text : Laws → Option (Bool × List ℕ) → List ℕ
+wrong_text laws None = codes "  wrong: a fact stands twice\n"
+wrong_text laws (Some wrong) = codes "  wrong: " ++ shown wrong.1 ++ codes "\n" ++ near_kind laws wrong
+
+-- `bad line 2`: the first line that is no event, with the word of it that is wrong
+abbrev pub bad_text : Laws → Line → List ℕ
+bad_text laws line =
+    codes "bad line " ++ decimal line.number ++ codes "\n" ++ wanted_line event_form
+    ++ wrong_text laws (wrong_of laws line.octets)

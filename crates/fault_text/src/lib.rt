@@ -2,11 +2,19 @@
 #![tactic(auto)]
 
 ghost use Rattle.std.specs.Prelude.{◌≡◌, ◌++◌, IfOk, OnOk, codes};
-ghost use Rattle.fault_text.specs.Faults.{bad_text, event_form, table_fault, unbound_text, wanted_of};
+ghost use Rattle.event_text.specs.Wrong.{wrong_of};
+ghost use Rattle.fault_text.specs.Faults.{bad_text, event_form, near_names, shown, table_fault, unbound_text, wanted_of, wrong_text};
+ghost use Rattle.text_parts.specs.Left.{line_of};
 
+mod nearest;
+
+use crate::nearest::put_nearest;
 use base_text::put_number;
+use event_text::wrong_word;
 use std::alloc::{AllocError, Global};
+use tab_law::LawBook;
 use tab_text::{TextCode, TextFault};
+use text_parts::{TextLine, is_plain};
 
 /// What was wanted where a table's text has a fault.
 #[tactic(auto, unfolding(crate::specs::Faults::wanted_of))]
@@ -63,9 +71,23 @@ pub fn table_fault(alloc: Global, fault: &TextFault) -> Result<Vec<u8>, AllocErr
     Ok(text)
 }
 
-/// `unbound NAME`: the first name of a table that isn't registered.
-pub fn unbound_text(alloc: Global, name: &[u8]) -> Result<Vec<u8>, AllocError>
-    ensures { IfOk result (λ text. text.items ≡ unbound_text name.now) }
+/// Puts the kind, the guard and the action that are near a name, where they are.
+fn put_near_names(
+    alloc: Global,
+    out: &mut Vec<u8>,
+    book: &LawBook,
+    name: &[u8],
+) -> Result<(), AllocError>
+    ensures { OnOk result (out.new.items ≡ out.old.items ++ near_names book.now name.now) }
+{
+    put_nearest(alloc, out, name, book.kinds())?;
+    put_nearest(alloc, out, name, book.guards())?;
+    put_nearest(alloc, out, name, book.acts())
+}
+
+/// `unbound NAME`: the first name of a table that isn't registered, and what is near it.
+pub fn unbound_text(alloc: Global, book: &LawBook, name: &[u8]) -> Result<Vec<u8>, AllocError>
+    ensures { IfOk result (λ text. text.items ≡ unbound_text book.now name.now) }
 {
     let mut text = Vec::new(alloc);
     text.extend_from_slice(b"unbound ")?;
@@ -75,16 +97,52 @@ pub fn unbound_text(alloc: Global, name: &[u8]) -> Result<Vec<u8>, AllocError>
         &mut text,
         b"a kind, a guard or an action that is registered",
     )?;
+    put_near_names(alloc, &mut text, book, name)?;
     Ok(text)
 }
 
-/// `bad line N`: the first line of events that is none, and what a line is.
-pub fn bad_line(alloc: Global, line: usize) -> Result<Vec<u8>, AllocError>
-    ensures { IfOk result (λ text. text.items ≡ bad_text line) }
+/// A word as it is shown, where it is printable and has at most 80 octets.
+fn shown(word: &[u8]) -> &[u8]
+    ensures { result.now ≡ shown word.now }
+{
+    if is_plain(word) && word.len() <= 80 {
+        word
+    } else {
+        b"a word that is long, or not printable ASCII"
+    }
+}
+
+/// Puts which word of a line is wrong, and the kind that is near it.
+fn put_wrong(
+    alloc: Global,
+    out: &mut Vec<u8>,
+    book: &LawBook,
+    line: &[u8],
+) -> Result<(), AllocError>
+    ensures { OnOk result (out.new.items ≡ out.old.items ++ wrong_text book.now (wrong_of book.now line.now)) }
+{
+    let Some(wrong) = wrong_word(book, line) else {
+        return out.extend_from_slice(b"  wrong: a fact stands twice\n");
+    };
+    out.extend_from_slice(b"  wrong: ")?;
+    out.extend_from_slice(shown(wrong.octets))?;
+    out.extend_from_slice(b"\n")?;
+    if wrong.is_kind {
+        put_nearest(alloc, out, wrong.octets, book.kinds())
+    } else {
+        Ok(())
+    }
+}
+
+/// `bad line N`: the first line of events that is none, what a line is, and the word of it that is wrong, with the kind that
+/// is near it.
+pub fn bad_line(alloc: Global, book: &LawBook, line: &TextLine<'_>) -> Result<Vec<u8>, AllocError>
+    ensures { IfOk result (λ text. text.items ≡ bad_text book.now (line_of line.now)) }
 {
     let mut text = Vec::new(alloc);
-    put_number(&mut text, b"bad line ", line as u64)?;
+    put_number(&mut text, b"bad line ", line.number as u64)?;
     text.extend_from_slice(b"\n")?;
     put_wanted(&mut text, event_form())?;
+    put_wrong(alloc, &mut text, book, line.octets)?;
     Ok(text)
 }

@@ -21,7 +21,7 @@ unfolding refusal_of
 refusal-unparsed laws table fault refusal = rw (fault_is _ fault refusal) refl
 
 -- the book lacks a name
-pub refusal-unbound : (laws : Laws) (table name : List ℕ) → first_fault table ≡ None → slice_get (missing laws (table_of table)) 0 ≡ Some name → refusal_of laws table ≡ Some (unbound_text name)
+pub refusal-unbound : (laws : Laws) (table name : List ℕ) → first_fault table ≡ None → slice_get (missing laws (table_of table)) 0 ≡ Some name → refusal_of laws table ≡ Some (unbound_text laws name)
 unfolding refusal_of
 refusal-unbound laws table name sound lacks = rw (sound, lacks) refl
 

@@ -25,7 +25,7 @@ image_text table = encode_lower (image_octets format_2 (image_of table)) ++ code
 unfoldable pub refusal_of : Laws → List ℕ → Option (List ℕ)
 refusal_of laws table =
     option_or (option_map table_fault (first_fault table))
-    (option_map unbound_text (slice_get (missing laws (table_of table)) 0))
+    (option_map (unbound_text laws) (slice_get (missing laws (table_of table)) 0))
 
 -- what is told, and whether it is a refusal
 abbrev pub IsTold : Laws → (table text : List ℕ) → Bool → Type 0

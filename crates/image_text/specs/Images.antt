@@ -6,6 +6,8 @@ use Rattle.base_text.specs.declared.digits.Stop.TheVariants.{TextEnds}
 use Rattle.tab_law.specs.Books.{Laws}
 use Rattle.tab_load.specs.Faults.{number_of}
 use Rattle.tab_load.specs.Loading.{HasFault, IsLoaded, IsReadFrom, Loaded}
+use Rattle.tab_load.specs.declared.fault.ImageFault.{ImageFault}
+use Rattle.tab_load.specs.declared.fault.ImageFault.TheVariants.{Magic, Cut, Count, Name, Unbound, Offset, BackJump, OpCode, NoEnd, Trailing}
 use Rattle.tab_load.specs.declared.fault.LoadFault.{LoadFault}
 use Rattle.image_text.specs.declared.reading.ImageError.{ImageError}
 use Rattle.image_text.specs.declared.reading.ImageError.TheVariants.{NoMemory, BadHex, Refused}
@@ -38,9 +40,25 @@ IsNoImage laws text NoMemory = Unit {0}
 IsNoImage laws text BadHex = (octets : List ℕ) → Spells text octets → ⊥
 IsNoImage laws text (Refused fault) = (octets : List ℕ) × Spells text octets × HasFault laws octets fault.at fault.code
 
--- `at 97 fault 2`: the first fault of an image
+-- what is wrong with an image, in words
+unfoldable pub wrong_of : ImageFault → List ℕ
+wrong_of Magic = codes "it doesn't begin as an image of a format that is known"
+wrong_of Cut = codes "the image is cut off; it has that many octets"
+wrong_of Count = codes "a number is out of range"
+wrong_of Name = codes "a name is misspelled, or stands in its list twice"
+wrong_of Unbound = codes "a name isn't registered"
+wrong_of Offset = codes "no row begins at that offset, and no code ends there"
+wrong_of BackJump = codes "a guard leads back"
+wrong_of OpCode = codes "no instruction begins with that octet"
+wrong_of NoEnd = codes "the code doesn't end"
+wrong_of Trailing = codes "octets stand behind the code"
+
+-- `at 97 fault 2`: the first fault of an image, and what it says
 abbrev pub fault_text : LoadFault → List ℕ
-fault_text fault = codes "at " ++ decimal fault.at ++ codes " fault " ++ decimal (number_of fault.code) ++ codes "\n"
+fault_text fault =
+    codes "at " ++ decimal fault.at ++ codes " fault " ++ decimal (number_of fault.code) ++ codes "\n  wrong: "
+    ++ wrong_of fault.code
+    ++ codes "\n"
 
 -- what is told of a text that gives no program, if memory wasn't what lacked
 abbrev pub refusal_text : ImageError → Option (List ℕ)

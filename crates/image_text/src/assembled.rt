@@ -47,7 +47,7 @@ fn text_of(alloc: Global, table: &[u8], book: &LawBook) -> Result<Told, AllocErr
         }),
         Err(Unbound::NoMemory) => Err(AllocError),
         Err(Unbound::Missing(name)) => Ok(Told {
-            text: unbound_text(alloc, name.as_slice())?,
+            text: unbound_text(alloc, book, name.as_slice())?,
             refused: true,
         }),
     }

@@ -1,12 +1,12 @@
 //! An image read from its text, or why it isn't.
 ghost use Rattle.std.specs.Prelude.{◌≡◌, Some, IfOk, IfErr, codes};
-ghost use Rattle.image_text.specs.Images.{IsImageOf, IsNoImage, IsNoText, Spells, fault_text, is_whole, refusal_text};
+ghost use Rattle.image_text.specs.Images.{IsImageOf, IsNoImage, IsNoText, Spells, fault_text, is_whole, refusal_text, wrong_of};
 ghost use Rattle.image_text.specs.declared.reading.ImageError.TheVariants.{NoMemory};
 
 use base_text::{Decoded, Stop, decode, one_meaning, put_number};
 use std::alloc::{AllocError, Global};
 use tab_law::LawBook;
-use tab_load::{LoadError, LoadFault, Program, load};
+use tab_load::{ImageFault, LoadError, LoadFault, Program, load};
 use thiserror::Error;
 
 /// Why a text gives no program.
@@ -71,13 +71,34 @@ pub fn read_image(alloc: Global, text: &[u8], book: &LawBook) -> Result<Program,
     }
 }
 
-/// `at N fault C`: the first fault of an image.
+/// What is wrong with an image, in words.
+#[tactic(auto, unfolding(crate::specs::Images::wrong_of))]
+fn wrong_of(fault: ImageFault) -> &'static [u8]
+    ensures { result.now ≡ wrong_of fault }
+{
+    match fault {
+        ImageFault::Magic => b"it doesn't begin as an image of a format that is known",
+        ImageFault::Cut => b"the image is cut off; it has that many octets",
+        ImageFault::Count => b"a number is out of range",
+        ImageFault::Name => b"a name is misspelled, or stands in its list twice",
+        ImageFault::Unbound => b"a name isn't registered",
+        ImageFault::Offset => b"no row begins at that offset, and no code ends there",
+        ImageFault::BackJump => b"a guard leads back",
+        ImageFault::OpCode => b"no instruction begins with that octet",
+        ImageFault::NoEnd => b"the code doesn't end",
+        ImageFault::Trailing => b"octets stand behind the code",
+    }
+}
+
+/// `at N fault C`: the first fault of an image, and what it says.
 fn fault_text(alloc: Global, fault: LoadFault) -> Result<Vec<u8>, AllocError>
     ensures { IfOk result (λ text. text.items ≡ fault_text fault) }
 {
     let mut text = Vec::new(alloc);
     put_number(&mut text, b"at ", fault.at as u64)?;
     put_number(&mut text, b" fault ", u64::from(fault.code.number()))?;
+    text.extend_from_slice(b"\n  wrong: ")?;
+    text.extend_from_slice(wrong_of(fault.code))?;
     text.extend_from_slice(b"\n")?;
     Ok(text)
 }

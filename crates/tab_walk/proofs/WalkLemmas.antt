@@ -94,7 +94,7 @@ IsWalked-unparsed laws manner table events text status (parsing.Fault fault) ref
 
 -- the book lacks a name
 pub IsWalked-unbound : (laws : Laws) (manner : Manner) (table events text : List ℕ) (status : Status) (why : Unbound) → first_fault table ≡ None
-    → IsUnbound (slice_get (missing laws (table_of table)) 0) why → IsRefused (bind_text why) text status → IsWalked laws manner table events text status
+    → IsUnbound (slice_get (missing laws (table_of table)) 0) why → IsRefused (bind_text laws why) text status → IsWalked laws manner table events text status
 IsWalked-unbound laws manner table events text status why sound unbound (inr short) = inl (inr short)
 IsWalked-unbound laws manner table events text status binding.NoMemory sound unbound (inl is) = let none = is.0 in absurd (cc)
 IsWalked-unbound laws manner table events text status (binding.Missing name) sound unbound (inl is) =

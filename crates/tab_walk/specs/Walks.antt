@@ -9,6 +9,9 @@ use Rattle.tab_text.specs.Faults.{first_fault}
 use Rattle.tab_text.specs.Rows.{table_of}
 use Rattle.tab_text.specs.declared.fault.ParseError.{ParseError}
 use Rattle.tab_text.specs.declared.fault.ParseError.TheVariants as parsing
+use Rattle.tab_text.specs.declared.fault.TextCode.{TextCode}
+use Rattle.tab_text.specs.declared.fault.TextCode.TheVariants.{NoHeader, BadByte, EmptyCell, NoRowToContinue, BadName, TooManyRows, TooManyNames, TooManyInRow, TooLong}
+use Rattle.tab_text.specs.declared.fault.TextFault.{TextFault}
 use Rattle.tab_step.specs.Bind.{IsBoundTo, missing}
 use Rattle.tab_step.specs.declared.binding.Unbound.{Unbound}
 use Rattle.tab_step.specs.declared.binding.Unbound.TheVariants as binding
@@ -27,7 +30,7 @@ use Rattle.base_device.specs.declared.status.Status.{Status}
 use Rattle.base_device.specs.declared.status.Status.TheVariants as statuses
 use Rattle.fault_text.specs.Faults.{bad_text, table_fault, unbound_text}
 use Rattle.event_text.specs.Deeds.{deed_line, name_or}
-use Rattle.event_text.specs.Events.{events_of, first_bad}
+use Rattle.event_text.specs.Events.{bad_line, events_of}
 use Rattle.tab_walk.specs.Starts.{from_of, start_of, start_text}
 use Rattle.tab_walk.specs.Whys.{changes_text, rows_why}
 use Rattle.tab_walk.specs.declared.start.Manner.{Manner}
@@ -117,7 +120,7 @@ StepByImage program laws = IsRunByImage (NamedPermits laws) program laws
 abbrev pub run_refusal : (names : List (List ℕ)) → Laws → Manner → (events : List ℕ) → Option (List ℕ)
 run_refusal names laws manner events =
     option_or (if is_none (start_of names (from_of manner)) then Some start_text else None)
-    (option_map bad_text (first_bad laws events))
+    (option_map (bad_text laws) (bad_line laws events))
 
 -- what is printed of a run, with which status: its text, whole or up to where memory ran out
 abbrev pub IsRunFrom : (Step : MachineState → Event → Stepped → Type 0) → Printing → MachineState → List Event
@@ -141,11 +144,27 @@ IsRunOver Step told names laws manner events text status =
     × (start_of names (from_of manner) ≡ Some start)
     × IsRunFrom Step told start (events_of laws events) text status)
 
+-- what a text without a header is not
+unfoldable pub neither : TextCode → List ℕ
+neither NoHeader = codes "  neither a table nor an image, which begins with a hexadecimal digit\n"
+neither BadByte = []
+neither EmptyCell = []
+neither NoRowToContinue = []
+neither BadName = []
+neither TooManyRows = []
+neither TooManyNames = []
+neither TooManyInRow = []
+neither TooLong = []
+
+-- the first fault of a table's text, and what a text without a header is not
+abbrev pub table_text : TextFault → List ℕ
+table_text fault = table_fault fault ++ neither fault.code
+
 -- what is refused of a table's text before a machine stands: a fault, a name that the book lacks
 abbrev pub table_refusal : Laws → List ℕ → Option (List ℕ)
 table_refusal laws table =
-    option_or (option_map table_fault (first_fault table))
-    (option_map unbound_text (slice_get (missing laws (table_of table)) 0))
+    option_or (option_map table_text (first_fault table))
+    (option_map (unbound_text laws) (slice_get (missing laws (table_of table)) 0))
 
 -- what is printed of a table's text, with which status: that, or what is printed of its machine
 abbrev pub IsWalked : Laws → Manner → (table events text : List ℕ) → Status → Type 0
@@ -167,12 +186,12 @@ IsImageWalked laws manner image events text status =
 -- the text of a refused table, if memory wasn't what lacked
 abbrev pub parse_text : ParseError → Option (List ℕ)
 parse_text parsing.NoMemory = None
-parse_text (parsing.Fault fault) = Some (table_fault fault)
+parse_text (parsing.Fault fault) = Some (table_text fault)
 
 -- the text of a table that isn't bound, likewise
-abbrev pub bind_text : Unbound → Option (List ℕ)
-bind_text binding.NoMemory = None
-bind_text (binding.Missing name) = Some (unbound_text name)
+abbrev pub bind_text : Laws → Unbound → Option (List ℕ)
+bind_text laws binding.NoMemory = None
+bind_text laws (binding.Missing name) = Some (unbound_text laws name)
 
 -- a text is that of an image where its first character that is no blank is a hexadecimal digit; no table's text begins
 -- so

@@ -1,5 +1,5 @@
 //! A walk: a table, or its image, stepped over a list of events, printed event by event.
-ghost use Rattle.std.specs.Prelude.{◌≡◌, ◌≢◌, ◌<◌, ◌≤◌, ◌-◌, ◌^◌, max, Some, None, codes, MatchResult};
+ghost use Rattle.std.specs.Prelude.{◌≡◌, ◌≢◌, ◌<◌, ◌≤◌, ◌-◌, ◌^◌, max, Some, None, codes, IfOk, MatchResult};
 ghost use Rattle.base_device.specs.Devices.{HasWriteCause, Tells};
 ghost use Rattle.base_text.specs.Digits.{is_blank};
 ghost use Rattle.event_text.specs.Events.{events_of};
@@ -7,7 +7,7 @@ ghost use Rattle.hex.specs.Hex.{is_hex_digit};
 ghost use Rattle.image_text.specs.Images.{refusal_text};
 ghost use Rattle.tab_walk.specs.Starts.{start_text};
 ghost use Rattle.tab_walk.specs.Walks.{IsImageWalked, IsReady, IsRefused, IsRunBy, IsRunFrom, IsToldWith, IsWalked};
-ghost use Rattle.tab_walk.specs.Walks.{IsWalkedOf, IsWalkedOn, StepBy, bind_text, is_image, parse_text, told_of};
+ghost use Rattle.tab_walk.specs.Walks.{IsWalkedOf, IsWalkedOn, StepBy, bind_text, is_image, neither, parse_text, table_text, told_of};
 
 use crate::pour::{Halt, Stepping, pour};
 use crate::start::{Manner, start_of};
@@ -18,8 +18,9 @@ use fault_text::{bad_line, table_fault, unbound_text};
 use image_text::{ImageError, read_image, refusal_text};
 use std::alloc::{AllocError, Global};
 use tab_call::Registry;
+use tab_law::LawBook;
 use tab_step::{MachineState, Unbound, bind};
-use tab_text::{ParseError, parse};
+use tab_text::{ParseError, TextCode, TextFault, parse};
 
 /// What is told where no machine is written as a walk is asked to begin.
 #[tactic(auto, unfolding(crate::specs::Starts::start_text))]
@@ -122,7 +123,7 @@ fn walk_by<O: ByteSink>(
         return tell(sink, start_text(), Status::Refused);
     };
     if let Some(line) = first_bad(registry.laws(), events) {
-        return tell_refusal(bad_line(alloc, line), sink);
+        return tell_refusal(bad_line(alloc, registry.laws(), &line), sink);
     }
     let why = manner.why;
     let by = Stepping {
@@ -131,6 +132,35 @@ fn walk_by<O: ByteSink>(
         why,
     };
     run(alloc, by, &start, events, sink)
+}
+
+/// What a text without a header is not.
+#[tactic(auto, unfolding(crate::specs::Walks::neither))]
+fn neither(code: TextCode) -> &'static [u8]
+    ensures { result.now ≡ neither code }
+{
+    match code {
+        TextCode::NoHeader => {
+            b"  neither a table nor an image, which begins with a hexadecimal digit\n"
+        }
+        TextCode::BadByte
+        | TextCode::EmptyCell
+        | TextCode::NoRowToContinue
+        | TextCode::BadName
+        | TextCode::TooManyRows
+        | TextCode::TooManyNames
+        | TextCode::TooManyInRow
+        | TextCode::TooLong => b"",
+    }
+}
+
+/// The first fault of a table's text, and what a text without a header is not.
+fn table_text(alloc: Global, fault: &TextFault) -> Result<Vec<u8>, AllocError>
+    ensures { IfOk result (λ text. text.items ≡ table_text fault.now) }
+{
+    let mut text = table_fault(alloc, fault)?;
+    text.extend_from_slice(neither(fault.code))?;
+    Ok(text)
 }
 
 /// Tells of a text that gives no table.
@@ -142,20 +172,20 @@ fn unparsed<O: ByteSink>(alloc: Global, error: &ParseError, sink: &mut O) -> Sta
 {
     match error {
         ParseError::NoMemory => tell_no_memory(sink),
-        ParseError::Fault(fault) => tell_refusal(table_fault(alloc, fault), sink),
+        ParseError::Fault(fault) => tell_refusal(table_text(alloc, fault), sink),
     }
 }
 
 /// Tells of a table that names what the book lacks.
-fn unbound<O: ByteSink>(alloc: Global, why: &Unbound, sink: &mut O) -> Status
+fn unbound<O: ByteSink>(alloc: Global, book: &LawBook, why: &Unbound, sink: &mut O) -> Status
     requires idle { O.idle sink.old ≡ 0 }
     requires failures { O.failures sink.old < 2 ^ 64 - 1 }
-    ensures told { IsToldWith O.contents O.failures O.idle (IsRefused (bind_text why.now)) sink.old sink.new result }
+    ensures told { IsToldWith O.contents O.failures O.idle (IsRefused (bind_text book.now why.now)) sink.old sink.new result }
     ensures row { O.most_idle sink.new ≤ max (O.most_idle sink.old) MAX_IDLE_WRITES }
 {
     match why {
         Unbound::NoMemory => tell_no_memory(sink),
-        Unbound::Missing(name) => tell_refusal(unbound_text(alloc, name.as_slice()), sink),
+        Unbound::Missing(name) => tell_refusal(unbound_text(alloc, book, name.as_slice()), sink),
     }
 }
 
@@ -178,9 +208,10 @@ fn walk_table<O: ByteSink>(
         Ok(table) => table,
         Err(error) => return unparsed(alloc, &error, sink),
     };
-    match bind(alloc, table, registry.laws()) {
+    let book = registry.laws();
+    match bind(alloc, table, book) {
         Ok(bound) => walk_by(alloc, Rules::Rows(&bound), registry, manner, events, sink),
-        Err(why) => unbound(alloc, &why, sink),
+        Err(why) => unbound(alloc, book, &why, sink),
     }
 }
 

@@ -101,8 +101,16 @@ fn an_image_is_listed_or_its_first_refusal_told(rt: HostRuntime) -> Result<(), F
         (FORMAT_1, LISTING_1, Status::Done),
         ("4454493", "bad hex\n", Status::Refused),
         ("4454493x", "bad hex\n", Status::Refused),
-        ("", "at 0 fault 2\n", Status::Refused),
-        ("44544933", "at 0 fault 1\n", Status::Refused),
+        (
+            "",
+            "at 0 fault 2\n  wrong: the image is cut off; it has that many octets\n",
+            Status::Refused,
+        ),
+        (
+            "44544933",
+            "at 0 fault 1\n  wrong: it doesn't begin as an image of a format that is known\n",
+            Status::Refused,
+        ),
     ] {
         assert!(rt; lists(&laws, &rt, image, printed, status));
     }

@@ -48,6 +48,7 @@ fn client_book(alloc: Global) -> Result<LawBook, Fail> {
 fn walks(
     alloc: Global,
     registry: &Registry,
+    manner: Manner<'_>,
     table: &str,
     events: &str,
     printed: &str,
@@ -58,7 +59,7 @@ fn walks(
         alloc,
         table.as_bytes(),
         registry,
-        PLAIN,
+        manner,
         events.as_bytes(),
         &mut sink,
     );
@@ -101,19 +102,38 @@ const UNKNOWN: &str = "  State  Event  Action  Next\n  Wait   Start  -       Wai
 
 const NO_HEADER_TEXT: &str = "line 1 fault 1
   wanted: a header: two blanks, then the words State, Event, Action and Next
+  neither a table nor an image, which begins with a hexadecimal digit
 ";
 
-/// What is told of a line that is no event.
-const BAD_1: &str = "bad line 1
+/// What is told of lines that are no event.
+const BAD_KIND: &str = "bad line 2
   wanted: KIND N=V ..: a kind that is registered, then facts, each once, N at most 63 and V below 2^64
+  wrong: CCA-U
+  nearest: CCA-I
 ";
 
-const BAD_2: &str = "bad line 2
+const BAD_NUMBER: &str = "bad line 1
   wanted: KIND N=V ..: a kind that is registered, then facts, each once, N at most 63 and V below 2^64
+  wrong: 64=1
 ";
 
-const BAD_3: &str = "bad line 3
+const NO_VALUE: &str = "bad line 1
   wanted: KIND N=V ..: a kind that is registered, then facts, each once, N at most 63 and V below 2^64
+  wrong: 12
+";
+
+const TWICE: &str = "bad line 1
+  wanted: KIND N=V ..: a kind that is registered, then facts, each once, N at most 63 and V below 2^64
+  wrong: a fact stands twice
+";
+
+const BAD_VALUE: &str = "bad line 3
+  wanted: KIND N=V ..: a kind that is registered, then facts, each once, N at most 63 and V below 2^64
+  wrong: 3=x
+";
+
+const NO_START: &str = "bad start
+  wanted: STATE rN=V ..: a state of the table, then registers, each once, N at most 63 and V below 2^64
 ";
 
 /// Tables, events, what is printed of the walk, and how it ends.
@@ -139,25 +159,89 @@ const WALKS: &[(&str, &str, &str, Status)] = &[
         "unbound abcdefghijabcdefghijabcdefghijabcdefghij\n  wanted: a kind, a guard or an action that is registered\n",
         Status::Refused,
     ),
-    (TABLE, "CCA-I 12=2001\nCCA-U\n", BAD_2, Status::Refused),
+    (TABLE, "CCA-I 12=2001\nCCA-U\n", BAD_KIND, Status::Refused),
     // No event: nothing is stepped, and nothing is wrong.
     (TABLE, "", "", Status::Done),
     (TABLE, "Tx 63=5\n", TO_THE_LAST, Status::Done),
-    (TABLE, "CCA-I 64=1\n", BAD_1, Status::Refused),
+    (TABLE, "CCA-I 64=1\n", BAD_NUMBER, Status::Refused),
     (IMAGE, EVENTS, PRINTED, Status::Done),
     (IMAGE, "Tx 63=5\n", TO_THE_LAST, Status::Done),
-    (IMAGE, "CCA-I 12\n", BAD_1, Status::Refused),
+    (IMAGE, "CCA-I 12\n", NO_VALUE, Status::Refused),
     ("\n 0x", EVENTS, "bad hex\n", Status::Refused),
-    ("44544931", EVENTS, "at 4 fault 2\n", Status::Refused),
-    (TABLE, "CCA-I 12=1 12=1\n", BAD_1, Status::Refused),
-    (TABLE, "CCA-I 12\n", BAD_1, Status::Refused),
+    (
+        "44544931",
+        EVENTS,
+        "at 4 fault 2\n  wrong: the image is cut off; it has that many octets\n",
+        Status::Refused,
+    ),
+    (TABLE, "CCA-I 12=1 12=1\n", TWICE, Status::Refused),
+    (TABLE, "CCA-I 12\n", NO_VALUE, Status::Refused),
     (
         TABLE,
         "\n  a log's line is skipped\nTx 3=x\n",
-        BAD_3,
+        BAD_VALUE,
         Status::Refused,
     ),
 ];
+
+/// A walk from the start, that doesn't say why.
+const PLAIN: Manner<'static> = Manner {
+    why: false,
+    from: None,
+};
+
+/// Where a walk that says why begins, its events, what is printed, and how it ends.
+const WHYS: &[(Option<&str>, &str, &str, Status)] = &[
+    (
+        None,
+        "CCA-I 12=5012\nCCA-I 6=1 12=2001\nTx\n",
+        "\
+CCA-I Wait Wait row 1
+  Service 2
+  r10 0 -> 2
+  row 0: not success: fact 12 is 5012, wanted f12 = 2001
+CCA-I Wait Wait row 1
+  Service 2
+  row 0: not mine: fact 6 is 1, wanted f6 = r1, where r1 is 0
+Tx Wait Wait row -
+  Unlisted
+",
+        Status::Done,
+    ),
+    (
+        Some("Wait r1=1 r10=1"),
+        "CCA-I 6=1 12=2001\nCCA-I 6=1\n",
+        "\
+CCA-I Wait Done row 0
+  Service 1
+CCA-I Done Done row -
+  Unlisted 0 0 0 0 0 0 1
+",
+        Status::Done,
+    ),
+    (Some("Gone"), "", NO_START, Status::Refused),
+    (Some(""), "", NO_START, Status::Refused),
+    (Some("Wait 1=1"), "", NO_START, Status::Refused),
+    (Some("Wait r64=1"), "", NO_START, Status::Refused),
+    (Some("Wait r1=1 r1=2"), "", NO_START, Status::Refused),
+];
+
+/// Whether a walk that says why, from where a text says, prints this text and ends so.
+fn says_why(
+    alloc: Global,
+    registry: &Registry,
+    from: Option<&str>,
+    events: &str,
+    printed: &str,
+    wanted: Status,
+) -> bool {
+    let from = match from {
+        Some(text) => Some(text.as_bytes()),
+        None => None,
+    };
+    let manner = Manner { why: true, from };
+    walks(alloc, registry, manner, TABLE, events, printed, wanted)
+}
 
 #[test]
 fn each_step_and_its_deeds_are_printed_or_the_first_refusal(rt: HostRuntime) -> Result<(), Fail> {
@@ -184,8 +268,12 @@ fn each_step_and_its_deeds_are_printed_or_the_first_refusal(rt: HostRuntime) -> 
         assert!(rt; registry.add_act(entry.name.as_slice(), stored).is_ok());
     }
     for (table, events, printed, status) in WALKS {
-        let is_printed = walks(alloc, &registry, table, events, printed, *status);
+        let is_printed = walks(alloc, &registry, PLAIN, table, events, printed, *status);
         assert!(rt; is_printed, "of {events}");
+    }
+    for (from, events, printed, status) in WHYS {
+        let is_printed = says_why(alloc, &registry, *from, events, printed, *status);
+        assert!(rt; is_printed, "why, of {events}");
     }
     Ok(())
 }

@@ -98,6 +98,21 @@ fn words_ask_for_a_text_or_an_input_or_are_refused(rt: HostRuntime) -> Result<()
             "wanted one of",
         ),
         (
+            ["dbench", "walk", "--why", "--names"].as_slice(),
+            2,
+            "wanted one of",
+        ),
+        (
+            ["dbench", "walk", "--from", "Open", "--table", "peer"].as_slice(),
+            2,
+            "wanted one of",
+        ),
+        (
+            ["dbench", "walk", "/"].as_slice(),
+            3,
+            "read fault: / can't be read\n",
+        ),
+        (
             ["dbench", "walk", "a", "b", "c"].as_slice(),
             2,
             "Usage: dbench",

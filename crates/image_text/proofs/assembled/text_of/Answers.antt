@@ -23,4 +23,4 @@ pub returns-in_ok-unbound_text-in-Err-Missing : goal.returns-in_ok-unbound_text-
 returns-in_ok-unbound_text-in-Err-Missing c =
     let lacks = rw (c.in-Ok.ensures.table, c.in-Err-Missing.field-0-is) at c.in-Err-Missing.ensures.err in
     refusal-unbound c.args.book.now c.args.table.now _ c.in-Ok.ensures.sound lacks
-    ∙ ap (λ name. Some (unbound_text name)) (sym c.as_slice.ensures) ∙ ap Some (sym c.in_ok-unbound_text-in-Err-Missing.ensures)
+    ∙ ap (λ name. Some (unbound_text c.args.book.now name)) (sym c.as_slice.ensures) ∙ ap Some (sym c.in_ok-unbound_text-in-Err-Missing.ensures)

@@ -14,7 +14,7 @@ returns-in-Err-clause-told g c =
 pub returns-in-Ok-bind-clause-told : goal.returns-in-Ok-bind-clause-told
 returns-in-Ok-bind-clause-told g c =
     let same = c.in-Ok-bind.ensures.table ∙ c.in-Ok.ensures.table in
-    let found = rw (c.in-Ok.ensures.table, c.laws.ensures) at c.in-Ok-bind.ensures.found in
+    let found = rw (c.in-Ok.ensures.table, c.laws-book.ensures) at c.in-Ok-bind.ensures.found in
     IsToldWith-map g.O.ByteSink.contents g.O.ByteSink.failures g.O.ByteSink.idle _ _ c.args.sink.now c.walk_by.new.sink c.walk_by.result
     (λ text status is. IsWalked-bound c.args.registry.now.book c.args.manner c.args.table.now c.args.events.now text status _ same c.in-Ok.ensures.sound found is)
     c.walk_by.ensures.told
@@ -22,7 +22,7 @@ returns-in-Ok-bind-clause-told g c =
 -- the book lacks a name
 pub returns-in-Err-bind-clause-told : goal.returns-in-Err-bind-clause-told
 returns-in-Err-bind-clause-told g c =
-    let lacks = rw (c.in-Ok.ensures.table, c.laws.ensures) at c.in-Err-bind.ensures.err in
+    let lacks = rw (c.in-Ok.ensures.table, c.laws-book.ensures) at c.in-Err-bind.ensures.err in
     IsToldWith-map g.O.ByteSink.contents g.O.ByteSink.failures g.O.ByteSink.idle _ _ c.args.sink.now c.unbound.new.sink c.unbound.result
-    (λ text status is. IsWalked-unbound c.args.registry.now.book c.args.manner c.args.table.now c.args.events.now text status c.in-Err-bind.why c.in-Ok.ensures.sound lacks is)
+    (λ text status is. IsWalked-unbound c.args.registry.now.book c.args.manner c.args.table.now c.args.events.now text status c.in-Err-bind.why c.in-Ok.ensures.sound lacks (rw c.laws-book.ensures at is))
     c.unbound.ensures.told
