@@ -1,7 +1,7 @@
 //! What is played on a new bench, and what it prints.
 
 use crate::node::Node;
-use crate::over::{Script, over};
+use crate::over::{Trial, over};
 use role_tables::SERVER_TABLE;
 use std::alloc::Global;
 use std::str;
@@ -35,9 +35,6 @@ pub fn text_of(printed: &[u8]) -> &str {
 
 /// What a case prints that is not wanted.
 pub fn printed(alloc: Global, case: &Case) -> Result<Vec<u8>, Fail> {
-    let trial = Script {
-        script: case.script,
-        wanted: case.wanted,
-    };
-    over(alloc, &[case.node], case.sparing, &trial)
+    let trial = Trial::Script(case.script, case.wanted);
+    over(alloc, &[case.node], case.sparing, trial)
 }

@@ -117,34 +117,24 @@ fn comes(play: &mut Play, octets: &[u8], count: usize) -> Result<(), Fail> {
     Ok(())
 }
 
-/// All places at which a stream of a CER and a request can be cut.
-struct Cuts;
-
-impl Drop for Cuts {
-    fn drop(self) {
-        let Cuts = self;
+/// Cuts the stream of a CER and a request at all places.
+pub fn cut_everywhere(play: &mut Play) -> Result<(), Fail> {
+    let octets = joined(play.alloc, "cer ccr")?;
+    for count in 0..108 {
+        comes(play, octets.as_slice(), count)?;
+        play.wants(LOST_BEFORE, NOTHING)?;
     }
-}
-
-impl Trial for Cuts {
-    fn plays(&self, play: &mut Play) -> Result<(), Fail> {
-        let octets = joined(play.alloc, "cer ccr")?;
-        for count in 0..108 {
-            comes(play, octets.as_slice(), count)?;
-            play.wants(LOST_BEFORE, NOTHING)?;
-        }
-        for count in 108..296 {
-            comes(play, octets.as_slice(), count)?;
-            play.wants(LOST, NOTHING_CHARGED)?;
-        }
-        comes(play, octets.as_slice(), 296)?;
-        play.wants(LOST_BEHIND, CHARGED)
+    for count in 108..296 {
+        comes(play, octets.as_slice(), count)?;
+        play.wants(LOST, NOTHING_CHARGED)?;
     }
+    comes(play, octets.as_slice(), 296)?;
+    play.wants(LOST_BEHIND, CHARGED)
 }
 
 #[test]
 fn a_connection_may_be_lost_anywhere(rt: HostRuntime) -> Result<(), Fail> {
-    let printed = over(rt.alloc(), &[SERVER], false, &Cuts)?;
+    let printed = over(rt.alloc(), &[SERVER], false, Trial::Cuts)?;
     let text = text_of(printed.as_slice());
     assert!(rt; text.is_empty(), "{text}");
     Ok(())

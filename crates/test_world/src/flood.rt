@@ -77,15 +77,6 @@ fn wrong_session(play: &mut Play, asked: &[u8], granted: &[u8]) -> Result<Option
     Ok(None)
 }
 
-/// A request for no units by each of 4,096 sessions.
-struct Flood;
-
-impl Drop for Flood {
-    fn drop(self) {
-        let Flood = self;
-    }
-}
-
 /// The last one.
 const LAST: &str = "\
 carry line 1
@@ -103,24 +94,23 @@ totals 100
 back 1
 ";
 
-impl Trial for Flood {
-    fn plays(&self, play: &mut Play) -> Result<(), Fail> {
-        let alloc = play.alloc;
-        play.script("join\ncame 1 cer\nsettle\n")?;
-        let asked = joined(alloc, "others context initial subscriber")?;
-        let granted = joined(
-            alloc,
-            "0000010c4000000c000007d1 server 000001024000000c00000004 initial",
-        )?;
-        if let Some(number) = wrong_session(play, asked.as_slice(), granted.as_slice())? {
-            let text = format!(in alloc; "session {number}\n")?;
-            play.out.extend_from_slice(text.as_bytes())?;
-        }
-        let octets = message(alloc, 0xc0, MACHINES - 1, asked.as_slice())?;
-        let piece = Octets::new(octets);
-        play.take(Step::Came { line: 1, piece }, true)?;
-        play.wants(LAST, BUSY)
+/// A request for no units by each of 4,096 sessions.
+pub fn flood(play: &mut Play) -> Result<(), Fail> {
+    let alloc = play.alloc;
+    play.script("join\ncame 1 cer\nsettle\n")?;
+    let asked = joined(alloc, "others context initial subscriber")?;
+    let granted = joined(
+        alloc,
+        "0000010c4000000c000007d1 server 000001024000000c00000004 initial",
+    )?;
+    if let Some(number) = wrong_session(play, asked.as_slice(), granted.as_slice())? {
+        let text = format!(in alloc; "session {number}\n")?;
+        play.out.extend_from_slice(text.as_bytes())?;
     }
+    let octets = message(alloc, 0xc0, MACHINES - 1, asked.as_slice())?;
+    let piece = Octets::new(octets);
+    play.take(Step::Came { line: 1, piece }, true)?;
+    play.wants(LAST, BUSY)
 }
 
 /// A connection is accepted and greeted in 9 steps, and each session before takes 14.
@@ -136,7 +126,7 @@ const BUSY: &str = " at 57345
 
 #[test]
 fn a_session_without_room_is_answered_too_busy(rt: HostRuntime) -> Result<(), Fail> {
-    let printed = over(rt.alloc(), &[SERVER], false, &Flood)?;
+    let printed = over(rt.alloc(), &[SERVER], false, Trial::Flood)?;
     let text = text_of(printed.as_slice());
     assert!(rt; text.is_empty(), "{text}");
     Ok(())

@@ -2,7 +2,7 @@
 
 use crate::case::{Case, printed, text_of};
 use crate::node::Node;
-use crate::over::{Script, over};
+use crate::over::{Trial, over};
 use role_tables::SERVER_TABLE;
 use std::test::Fail;
 
@@ -43,8 +43,8 @@ const BOTH: &[Node<'static>] = &[
 ];
 
 /// Both are told Start at once, each dial is acknowledged and each request comes: the greater host wins.
-const ELECTION: Script<'static> = Script {
-    script: "\
+const ELECTION: Trial<'static> = Trial::Script(
+    "\
 bench 0
 told 0 p:b.example Start
 carry desk 0
@@ -108,7 +108,7 @@ carry shard 0
 line 1
 line 2
 ",
-    wanted: " p:b.example Wait-Conn-Ack r2=1 r15=1
+    " p:b.example Wait-Conn-Ack r2=1 r15=1
  dialling 0
  p:a.example Wait-Conn-Ack r2=1 r15=1
  timer 1
@@ -127,11 +127,11 @@ line 2
  open
  closed
 ",
-};
+);
 
 #[test]
 fn the_greater_host_wins(rt: HostRuntime) -> Result<(), Fail> {
-    let printed = over(rt.alloc(), BOTH, false, &ELECTION)?;
+    let printed = over(rt.alloc(), BOTH, false, ELECTION)?;
     let text = text_of(printed.as_slice());
     assert!(rt; text.is_empty(), "{text}");
     Ok(())

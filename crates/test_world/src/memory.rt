@@ -90,27 +90,15 @@ fn are_tried(
     Ok(same && shown.as_slice() == wanted.as_slice())
 }
 
-/// The steps of all lines, each tried in two worlds.
-struct Lockstep<'a> {
-    lines: &'a str,
-}
-
-impl Drop for Lockstep<'_> {
-    fn drop(self) {
-        let Lockstep { lines: _ } = self;
+/// Takes the steps of all lines in two worlds.
+pub fn take_in_lockstep(play: &mut Play, lines: &str) -> Result<(), Fail> {
+    let (Some(mut twin), Some(mut world)) = (play.worlds.pop(), play.worlds.pop()) else {
+        return Ok(());
+    };
+    if !are_tried(play.alloc, &mut world, &mut twin, lines, &mut play.out)? {
+        play.out.extend_from_slice(b" not the same\n")?;
     }
-}
-
-impl Trial for Lockstep<'_> {
-    fn plays(&self, play: &mut Play) -> Result<(), Fail> {
-        let (Some(mut twin), Some(mut world)) = (play.worlds.pop(), play.worlds.pop()) else {
-            return Ok(());
-        };
-        if !are_tried(play.alloc, &mut world, &mut twin, self.lines, &mut play.out)? {
-            play.out.extend_from_slice(b" not the same\n")?;
-        }
-        Ok(())
-    }
+    Ok(())
 }
 
 /// A client's node, whose one peer is s.example.
@@ -213,8 +201,7 @@ work 0
 #[test]
 fn a_step_refused_for_memory_changes_nothing(rt: HostRuntime) -> Result<(), Fail> {
     for trial in TRIALS {
-        let lockstep = Lockstep { lines: trial.lines };
-        let printed = over(rt.alloc(), trial.nodes, false, &lockstep)?;
+        let printed = over(rt.alloc(), trial.nodes, false, Trial::Lockstep(trial.lines))?;
         let text = text_of(printed.as_slice());
         println!(rt; "{text}")?;
         assert!(rt;

@@ -2,8 +2,12 @@
 
 ghost use Rattle.tab_law.specs.Acts.{Permits};
 
+use crate::cuts::cut_everywhere;
+use crate::flood::flood;
+use crate::memory::take_in_lockstep;
 use crate::node::{Node, config_of};
 use crate::play::Play;
+use crate::replay::run_again;
 use bench_spec::OpeningError;
 use bench_world::World;
 use role_tables::all_laws;
@@ -16,8 +20,29 @@ use tab_law::{ActLaw, Acted, LawBook, Scene, emitted, high_into, holds, permits}
 use tab_role::TakesRoles;
 
 /// What is tried on benches; it prints what goes wrong.
-pub trait Trial: Drop {
-    fn plays(&self, play: &mut Play) -> Result<(), Fail>;
+#[derive(Clone, Copy)]
+pub enum Trial<'a> {
+    /// A script, and what it prints.
+    Script(&'a str, &'a str),
+    /// All places at which a stream of a CER and a request can be cut.
+    Cuts,
+    /// A request for no units by each of 4,096 sessions.
+    Flood,
+    /// Steps that are taken in two benches, again where they are refused for memory.
+    Lockstep(&'a str),
+    /// A log that is run again in a second bench, and whose steps are run in a third.
+    Again,
+}
+
+/// Tries it.
+fn plays(trial: Trial<'_>, play: &mut Play) -> Result<(), Fail> {
+    match trial {
+        Trial::Script(script, wanted) => play.wants(script, wanted),
+        Trial::Cuts => cut_everywhere(play),
+        Trial::Flood => flood(play),
+        Trial::Lockstep(lines) => take_in_lockstep(play, lines),
+        Trial::Again => run_again(play),
+    }
 }
 
 /// Writes the answer that a law permits with 1 unit granted, if it permits one, else with as many as it permits.
@@ -87,17 +112,17 @@ fn opened(
 }
 
 /// Tries it on the benches of these nodes.
-fn tried<T: Trial>(
+fn tried(
     alloc: Global,
     nodes: &[Node<'_>],
     registries: Vec<Registry>,
     asks: Arc<AtomicU64>,
-    trial: &T,
+    trial: Trial<'_>,
 ) -> Result<Vec<u8>, Fail> {
     let mut out = Vec::new(alloc);
     if let Some(worlds) = opened(alloc, nodes, registries, &mut out)? {
         let mut play = Play::new(alloc, worlds, asks);
-        trial.plays(&mut play)?;
+        plays(trial, &mut play)?;
         out.extend_from_slice(play.out.as_slice())?;
     }
     Ok(out)
@@ -113,12 +138,12 @@ fn shards_of(nodes: &[Node<'_>]) -> u64 {
 }
 
 /// Tries it over callbacks of these laws; a sparing Reserve grants 1 unit where it may.
-fn tried_by<T: Trial>(
+fn tried_by(
     alloc: Global,
     laws: &LawBook,
     nodes: &[Node<'_>],
     sparing: bool,
-    trial: &T,
+    trial: Trial<'_>,
 ) -> Result<Vec<u8>, Fail> {
     let asks = Arc::new(alloc, AtomicU64::new(0))?;
     let mut registries = Vec::new(alloc);
@@ -151,33 +176,12 @@ fn tried_by<T: Trial>(
     tried(alloc, nodes, registries, asks, trial)
 }
 
-/// A script, and what it prints.
-pub struct Script<'a> {
-    pub script: &'a str,
-    pub wanted: &'a str,
-}
-
-impl Drop for Script<'_> {
-    fn drop(self) {
-        let Script {
-            script: _,
-            wanted: _,
-        } = self;
-    }
-}
-
-impl Trial for Script<'_> {
-    fn plays(&self, play: &mut Play) -> Result<(), Fail> {
-        play.wants(self.script, self.wanted)
-    }
-}
-
 /// What a trial prints on the benches of these nodes; nothing where all goes as it should.
-pub fn over<T: Trial>(
+pub fn over(
     alloc: Global,
     nodes: &[Node<'_>],
     sparing: bool,
-    trial: &T,
+    trial: Trial<'_>,
 ) -> Result<Vec<u8>, Fail> {
     let laws = all_laws(alloc)?;
     tried_by(alloc, &laws, nodes, sparing, trial)

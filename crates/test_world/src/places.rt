@@ -1,8 +1,7 @@
 //! Benches that go back to their start, forth and back again, and show at each place what they showed there.
 
-use crate::case::{Case, SERVER, text_of};
+use crate::case::{Case, SERVER, printed, text_of};
 use crate::node::Node;
-use crate::over::{Script, over};
 use role_tables::SERVER_TABLE;
 use std::test::Fail;
 
@@ -103,11 +102,7 @@ retrace
 #[test]
 fn each_place_is_as_it_was(rt: HostRuntime) -> Result<(), Fail> {
     for case in CASES {
-        let trial = Script {
-            script: case.script,
-            wanted: case.wanted,
-        };
-        let printed = over(rt.alloc(), &[case.node], case.sparing, &trial)?;
+        let printed = printed(rt.alloc(), case)?;
         let text = text_of(printed.as_slice());
         let name = case.name;
         assert!(rt; text.is_empty(), "{name}:\n{text}");

@@ -168,15 +168,6 @@ fn is_added_while_paused(alloc: Global, from: &World, to: &mut World) -> Result<
     Ok(all && is_work && to.core.place() == first.saturating_add(3))
 }
 
-/// A log, which is run again in a second bench whose shard is paused, and whose steps are run in a third.
-struct Again;
-
-impl Drop for Again {
-    fn drop(self) {
-        let Again = self;
-    }
-}
-
 const STEPS: &str = "\
 join
 came 1 cer
@@ -194,33 +185,32 @@ settle
 asked
 ";
 
-impl Trial for Again {
-    fn plays(&self, play: &mut Play) -> Result<(), Fail> {
-        play.wants(STEPS, " asked\n")?;
-        let (Some(mut third), Some(mut second)) = (play.worlds.pop(), play.worlds.pop()) else {
-            return Ok(());
-        };
-        if let Some(first) = play.worlds.get(0) {
-            replays(play.alloc, first, &mut second, &mut play.out)?;
-        }
-        play.wants("asked", " not asked\n")?;
-        if let Some(first) = play.worlds.get(0) {
-            runs(play.alloc, first, &mut third, &mut play.out)?;
-        }
-        if let Some(first) = play.worlds.get(0)
-            && !is_added_while_paused(play.alloc, first, &mut second)?
-        {
-            play.out
-                .extend_from_slice(b"a paused shard's entry is refused\n")?;
-        }
-        Ok(())
+/// Runs a log again in a second bench, and its steps in a third.
+pub fn run_again(play: &mut Play) -> Result<(), Fail> {
+    play.wants(STEPS, " asked\n")?;
+    let (Some(mut third), Some(mut second)) = (play.worlds.pop(), play.worlds.pop()) else {
+        return Ok(());
+    };
+    if let Some(first) = play.worlds.get(0) {
+        replays(play.alloc, first, &mut second, &mut play.out)?;
     }
+    play.wants("asked", " not asked\n")?;
+    if let Some(first) = play.worlds.get(0) {
+        runs(play.alloc, first, &mut third, &mut play.out)?;
+    }
+    if let Some(first) = play.worlds.get(0)
+        && !is_added_while_paused(play.alloc, first, &mut second)?
+    {
+        play.out
+            .extend_from_slice(b"a paused shard's entry is refused\n")?;
+    }
+    Ok(())
 }
 
 #[test]
 fn a_log_is_run_again(rt: HostRuntime) -> Result<(), Fail> {
     for sparing in [false, true] {
-        let printed = over(rt.alloc(), &[SERVER, SERVER, SERVER], sparing, &Again)?;
+        let printed = over(rt.alloc(), &[SERVER, SERVER, SERVER], sparing, Trial::Again)?;
         let text = text_of(printed.as_slice());
         assert!(rt; text.is_empty(), "{text}");
     }

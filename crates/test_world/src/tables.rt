@@ -2,7 +2,7 @@
 
 use crate::case::text_of;
 use crate::node::Node;
-use crate::over::{Script, over};
+use crate::over::{Trial, over};
 use std::alloc::Global;
 use std::test::Fail;
 use tab_text::{ParseError, parse};
@@ -44,8 +44,7 @@ fn printed(alloc: Global, rows: u32, wanted: &str) -> Result<Vec<u8>, Fail> {
         knows_test: false,
         server: text.as_str(),
     };
-    let trial = Script {
-        script: "\
+    let script = "\
 join
 came 1 cer ccr
 carry line 1
@@ -65,10 +64,8 @@ carry clock
 work 0
 last 1
 totals 100
-",
-        wanted,
-    };
-    over(alloc, &[node], false, &trial)
+";
+    over(alloc, &[node], false, Trial::Script(script, wanted))
 }
 
 /// Counts of rows, and what is printed.
