@@ -1,101 +1,92 @@
 //! What a text is read as, in lines.
 
 use base_list::Octets;
+use base_text::put_number;
 use config_text::{DeskConfig, NodeConfig, PeerConfig, put_fault, read_config};
-use std::alloc::{AllocError, Global};
+use std::alloc::AllocError;
 
-fn put_line(out: &mut Vec<u8>, line: &str) -> Result<(), AllocError> {
-    out.extend_from_slice(line.as_bytes())?;
-    out.extend_from_slice(b"\n")
+/// Puts octets between two texts.
+fn put_between(
+    out: &mut Vec<u8>,
+    before: &[u8],
+    octets: &[u8],
+    behind: &[u8],
+) -> Result<(), AllocError> {
+    out.extend_from_slice(before)?;
+    out.extend_from_slice(octets)?;
+    out.extend_from_slice(behind)
 }
 
-/// Text of ASCII; a question mark stands for octets that are none.
-fn text_of(octets: &Octets) -> &str {
-    match str::from_utf8(octets.as_slice()) {
-        Ok(text) => text,
-        Err(_) => "?",
-    }
+fn put_peer(out: &mut Vec<u8>, peer: &PeerConfig) -> Result<(), AllocError> {
+    put_between(out, b"    peer ", peer.host.as_slice(), b" ")?;
+    put_between(out, b"", peer.address.as_slice(), b"\n")
 }
 
-fn put_peer(out: &mut Vec<u8>, alloc: Global, peer: &PeerConfig) -> Result<(), AllocError> {
-    let (host, address) = (text_of(&peer.host), text_of(&peer.address));
-    let line = format!(in alloc; "    peer {host} {address}")?;
-    put_line(out, line.as_str())
-}
-
-fn put_desk(out: &mut Vec<u8>, alloc: Global, desk: &DeskConfig) -> Result<(), AllocError> {
-    let repeat = desk.repeat;
-    let line = format!(in alloc; "    desk {repeat} times")?;
-    put_line(out, line.as_str())?;
-    for told in desk.lines.as_slice() {
-        let told = text_of(told);
-        let line = format!(in alloc; "      {told}")?;
-        put_line(out, line.as_str())?;
+fn put_desk(out: &mut Vec<u8>, desk: &DeskConfig) -> Result<(), AllocError> {
+    put_number(out, b"    desk ", desk.repeat)?;
+    out.extend_from_slice(b" times\n")?;
+    for line in desk.lines.as_slice() {
+        put_between(out, b"      ", line.as_slice(), b"\n")?;
     }
     Ok(())
 }
 
-fn put_name(
-    out: &mut Vec<u8>,
-    alloc: Global,
-    what: &str,
-    name: &Option<Octets>,
-) -> Result<(), AllocError> {
+fn put_name(out: &mut Vec<u8>, what: &[u8], name: &Option<Octets>) -> Result<(), AllocError> {
     match name {
-        Some(name) => {
-            let name = text_of(name);
-            let line = format!(in alloc; "    {what} {name}")?;
-            put_line(out, line.as_str())
-        }
+        Some(name) => put_between(out, what, name.as_slice(), b"\n"),
         None => Ok(()),
     }
 }
 
-fn put_front(out: &mut Vec<u8>, alloc: Global, node: &NodeConfig) -> Result<(), AllocError> {
-    let host = text_of(&node.identity.host);
-    let realm = text_of(&node.identity.realm);
-    let [a, b, c, d] = node.identity.address;
-    let listen = match &node.listen {
-        Some(listen) => text_of(listen),
-        None => "nowhere",
-    };
-    let line = format!(in alloc; "  {host} {realm} {a}.{b}.{c}.{d} listens {listen}")?;
-    put_line(out, line.as_str())?;
-    let (shards, pages) = (node.shards, node.pages);
-    let (units, turns) = (node.default_units, node.turns);
-    let line = format!(in alloc;
-        "    {shards} shards, {pages} pages, {units} units, {turns} turns"
-    )?;
-    put_line(out, line.as_str())
+fn put_address(out: &mut Vec<u8>, address: [u8; 4]) -> Result<(), AllocError> {
+    put_number(out, b" ", u64::from(address[0]))?;
+    put_number(out, b".", u64::from(address[1]))?;
+    put_number(out, b".", u64::from(address[2]))?;
+    put_number(out, b".", u64::from(address[3]))
 }
 
-fn put_files(out: &mut Vec<u8>, alloc: Global, node: &NodeConfig) -> Result<(), AllocError> {
+fn put_identity(out: &mut Vec<u8>, node: &NodeConfig) -> Result<(), AllocError> {
+    put_between(out, b"  ", node.identity.host.as_slice(), b" ")?;
+    out.extend_from_slice(node.identity.realm.as_slice())?;
+    put_address(out, node.identity.address)?;
+    match &node.listen {
+        Some(listen) => put_between(out, b" listens ", listen.as_slice(), b"\n"),
+        None => out.extend_from_slice(b" listens nowhere\n"),
+    }
+}
+
+fn put_numbers(out: &mut Vec<u8>, node: &NodeConfig) -> Result<(), AllocError> {
+    put_number(out, b"    ", node.shards)?;
+    put_number(out, b" shards, ", node.pages)?;
+    put_number(out, b" pages, ", node.default_units)?;
+    put_number(out, b" units, ", node.turns)?;
+    out.extend_from_slice(b" turns\n")
+}
+
+fn put_files(out: &mut Vec<u8>, node: &NodeConfig) -> Result<(), AllocError> {
     let tables = &node.files.tables;
-    put_name(out, alloc, "peer table", &tables.peer)?;
-    put_name(out, alloc, "client table", &tables.client)?;
-    put_name(out, alloc, "server table", &tables.server)?;
-    put_name(out, alloc, "dictionary", &node.files.dictionary)
+    put_name(out, b"    peer table ", &tables.peer)?;
+    put_name(out, b"    client table ", &tables.client)?;
+    put_name(out, b"    server table ", &tables.server)?;
+    put_name(out, b"    dictionary ", &node.files.dictionary)
 }
 
 /// All that a node is opened with.
-pub(crate) fn put_node(
-    out: &mut Vec<u8>,
-    alloc: Global,
-    node: &NodeConfig,
-) -> Result<(), AllocError> {
-    put_front(out, alloc, node)?;
+fn put_node(out: &mut Vec<u8>, node: &NodeConfig) -> Result<(), AllocError> {
+    put_identity(out, node)?;
+    put_numbers(out, node)?;
     for peer in node.peers.as_slice() {
-        put_peer(out, alloc, peer)?;
+        put_peer(out, peer)?;
     }
     for account in node.accounts.as_slice() {
-        let (id, given) = (account.id, account.given);
-        let line = format!(in alloc; "    account {id} {given}")?;
-        put_line(out, line.as_str())?;
+        put_number(out, b"    account ", account.id)?;
+        put_number(out, b" ", account.given)?;
+        out.extend_from_slice(b"\n")?;
     }
     for desk in node.desks.as_slice() {
-        put_desk(out, alloc, desk)?;
+        put_desk(out, desk)?;
     }
-    put_files(out, alloc, node)
+    put_files(out, node)
 }
 
 /// The nodes of a text, or what is told of it.
@@ -104,7 +95,7 @@ pub(crate) fn put_text(out: &mut Vec<u8>, text: &[u8]) -> Result<(), AllocError>
     match read_config(alloc, text) {
         Ok(nodes) => {
             for node in &nodes {
-                put_node(out, alloc, node)?;
+                put_node(out, node)?;
             }
             Ok(())
         }
