@@ -1,0 +1,17 @@
+pub mod Fields
+pub mod Places
+pub mod Faults
+pub mod Addresses
+pub mod Objects
+pub mod Answers
+pub mod Leaves
+pub mod Parts
+pub mod Peers
+pub mod Accounts
+pub mod Desks
+pub mod Files
+pub mod Identities
+pub mod Nodes
+pub mod Texts
+pub mod Told
+pub mod Configs
