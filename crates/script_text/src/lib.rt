@@ -8,15 +8,20 @@
 //! | `words` | the parts of lines: numbers, octets, sources |
 //! | `lines` | what a line asks for, read |
 //! | `script` | all lines of a script |
+//! | `run_line`, `run_script` | the same of a script that is run: a line may be `settle` |
 #![tactic(auto)]
 
 mod asked;
 mod keys;
 mod lines;
+mod run_line;
+mod run_script;
 mod script;
 mod words;
 
 pub use asked::{Asked, NO_KIND};
 pub use keys::read_key;
 pub use lines::read_line;
+pub use run_line::RunLine;
+pub use run_script::read_run_script;
 pub use script::read_script;

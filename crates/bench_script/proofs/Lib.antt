@@ -1,0 +1,4 @@
+pub mod NextLemmas
+pub mod LogLemmas
+pub mod PrintedLemmas
+pub mod RanLemmas

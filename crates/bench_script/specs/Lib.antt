@@ -1,0 +1,4 @@
+pub mod Settled
+pub mod Printed
+pub mod Ran
+pub mod Ends
