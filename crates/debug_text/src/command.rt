@@ -8,9 +8,15 @@ use bench_item::{Key, Role, StepFault};
 #[derive(Drop)]
 pub enum Breakpoint {
     /// A machine of the role moves by that row of its table, from 0.
-    Row { role: Role, row: u64 },
+    Row {
+        role: Role,
+        row: u64,
+    },
     /// The machine moves, and stands in that state afterwards.
-    State { key: Key, state: u8 },
+    State {
+        key: Key,
+        state: u8,
+    },
     /// An event of that kind is handled, by its place in the book of laws.
     Kind(u8),
     /// An item for the machine is handled.

@@ -32,11 +32,7 @@ pub(crate) fn one_number(words: &mut Words<'_>) -> Result<u64, CommandFault>
 
 /// The key of a word, or this fault where it is none.
 #[tactic(auto, using(crate::proofs::KeyLemmas::reads))]
-pub(crate) fn key_or(
-    alloc: Global,
-    fault: CommandFault,
-    word: &[u8],
-) -> Result<Key, CommandFault>
+pub(crate) fn key_or(alloc: Global, fault: CommandFault, word: &[u8]) -> Result<Key, CommandFault>
     ensures ok { IfOk result (λ key. key_or fault (key_of word.now) ≡ Ok key) }
     ensures fault { IfErr result (λ f. f ≡ fault_in (key_or fault (key_of word.now))) }
 {
@@ -114,10 +110,7 @@ pub(crate) fn role_in(word: &[u8]) -> Option<Role>
 }
 
 /// A register and a value, where both are there.
-fn register_with(
-    register: Option<u64>,
-    value: Option<u64>,
-) -> Result<(usize, u64), CommandFault>
+fn register_with(register: Option<u64>, value: Option<u64>) -> Result<(usize, u64), CommandFault>
     ensures { result ≡ register_with register value }
 {
     match (register, value) {
