@@ -1,0 +1,7 @@
+pub mod Tables
+pub mod Faults
+pub mod Verbs
+pub mod Words
+pub mod Breaks
+pub mod Commands
+pub mod Replies
