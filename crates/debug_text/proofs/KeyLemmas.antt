@@ -10,7 +10,6 @@ use Rattle.debug_text.specs.Faults.{fault_in}
 use Rattle.debug_text.specs.Tables.{Tables, table_of}
 use Rattle.debug_text.specs.Words.{key_or, role_in}
 use Rattle.debug_text.specs.declared.command.Breakpoint.{Breakpoint}
-use Rattle.debug_text.specs.declared.command.Breakpoint.TheVariants.{State}
 use Rattle.debug_text.specs.declared.command.CommandFault.{CommandFault}
 use Rattle.debug_text.specs.declared.command.CommandFault.TheVariants.{NoMemory, UnknownCommand}
 
