@@ -1,5 +1,5 @@
 -- What a call of a device changes in its counters, and why a read or a write fault comes.
-use Rattle.std.specs.Prelude.{◌≡◌, ◌<◌, ◌≤◌, ℕ, ◌+◌, ◌==◌, List, length, take, Option, Some, None, Result, Ok, Err, if◌then◌else◌, ◌⊎◌}
+use Rattle.std.specs.Prelude.{◌≡◌, ◌<◌, ◌≤◌, ℕ, ◌+◌, ◌-◌, ◌^◌, ◌==◌, min, List, length, take, Option, Some, None, Result, Ok, Err, if◌then◌else◌, ◌⊎◌}
 use Rattle.std.specs.Io.KnownBytes.{Appends, Consumes, Keeps, IsAtEnd}
 use Rattle.base_device.specs.declared.status.Status.{Status}
 use Rattle.base_device.specs.declared.status.Status.TheVariants.{Fault}
@@ -8,6 +8,21 @@ use Rattle.base_device.specs.declared.status.Status.TheVariants.{Fault}
 abbrev pub failures_after : {T E : Type 0} → Result T E → ℕ → ℕ
 failures_after (Ok answer) failures = failures
 failures_after (Err why) failures = failures + 1
+
+-- a count after one more, which stops at 2^64 - 1
+abbrev pub counted : ℕ → ℕ
+counted count = min (count + 1) (2 ^ 64 - 1)
+
+-- the reads that would have had to wait, after one more read: only one that gave nothing, and that is no end, may be one
+abbrev pub Blocks : {E : Type 0} → Result (Option ℕ) E → (old new : ℕ) → Type 0
+Blocks (Ok (Some count)) old new = new ≡ old
+Blocks (Ok None) old new = (new ≡ old) ⊎ (new ≡ counted old)
+Blocks (Err why) old new = new ≡ old
+
+-- the writes that would have had to wait, after one more write: only one that took nothing may be one
+abbrev pub BlocksIdle : {E : Type 0} → Result ℕ E → (old new : ℕ) → Type 0
+BlocksIdle (Ok taken) old new = (new ≡ old) ⊎ ((taken ≡ 0) × (new ≡ counted old))
+BlocksIdle (Err why) old new = new ≡ old
 
 -- the writes in a row that took nothing, after one more write
 abbrev pub idle_after : {E : Type 0} → Result ℕ E → ℕ → ℕ

@@ -23,7 +23,7 @@ pub record IsInput {I : Type 0} (remaining : I → Option (List ℕ)) (reads fai
 
 -- one call failed, or none did and 1,048,576 reads were made, or memory ran out
 abbrev pub IsUnread : {I : Type 0} → (reads failures : I → ℕ) → (old new : I) → InputError → Type 0
-IsUnread reads failures old new NotOpened = failures new ≡ failures old + 1
+IsUnread reads failures old new (NotOpened why) = failures new ≡ failures old + 1
 IsUnread reads failures old new Failed = failures new ≡ failures old + 1
 IsUnread reads failures old new NoEnd = (failures new ≡ failures old) × (reads old + 1048576 ≤ reads new)
 IsUnread reads failures old new NoMemory = failures new ≡ failures old

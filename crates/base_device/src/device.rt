@@ -3,7 +3,7 @@
 ghost use Rattle.std.specs.Prelude.{◌≡◌, ◌<◌, ◌+◌, ◌-◌, ◌^◌, ℕ, List, Option, max};
 ghost use Rattle.std.specs.Io.{WritesAtMost};
 ghost use Rattle.std.specs.Io.KnownBytes.{WriteAppends};
-ghost use Rattle.base_device.specs.Devices.{failures_after, idle_after, Gives, Within};
+ghost use Rattle.base_device.specs.Devices.{counted, failures_after, idle_after, Blocks, BlocksIdle, Gives, Within};
 
 use thiserror::Error;
 
@@ -23,6 +23,21 @@ pub trait ByteSource {
     /// How many calls failed.
     ghost failures: { Self → ℕ };
 
+    /// How many calls would have had to wait for octets; counted to 2^64 - 1.
+    ghost blocked: { Self → ℕ };
+
+    /// How many reads were made.
+    fn reads(&self) -> u64
+        ensures { result ≡ reads self.now };
+
+    /// How many calls failed.
+    fn failures(&self) -> u64
+        ensures { result ≡ failures self.now };
+
+    /// How many calls would have had to wait: where this has grown over a call that gave nothing, that call is one.
+    fn blocked(&self) -> u64
+        ensures { result ≡ blocked self.now };
+
     /// Reads into the front of `buffer`, and says how many octets: 0 at the end of the input, `None` where the
     /// call was interrupted or would block, so that the caller may read again.
     fn read(&mut self, buffer: &mut [u8]) -> Result<Option<usize>, DeviceFailed>
@@ -31,7 +46,8 @@ pub trait ByteSource {
         ensures within { Within result buffer.new }
         ensures octets { Gives (remaining self.old) (remaining self.new) result buffer.new }
         ensures reads { reads self.new ≡ reads self.old + 1 }
-        ensures failures { failures self.new ≡ failures_after result (failures self.old) };
+        ensures failures { failures self.new ≡ failures_after result (failures self.old) }
+        ensures blocked { Blocks result (blocked self.old) (blocked self.new) };
 }
 
 /// Where octets go.
@@ -48,6 +64,28 @@ pub trait ByteSink {
     /// The most writes in a row that took nothing.
     ghost most_idle: { Self → ℕ };
 
+    /// How many writes were made; counted to 2^64 - 1.
+    ghost writes: { Self → ℕ };
+
+    /// How many calls would have had to wait for room; counted to 2^64 - 1.
+    ghost blocked: { Self → ℕ };
+
+    /// How many writes were made.
+    fn writes(&self) -> u64
+        ensures { result ≡ writes self.now };
+
+    /// How many calls failed.
+    fn failures(&self) -> u64
+        ensures { result ≡ failures self.now };
+
+    /// How many writes in a row, up to now, took nothing.
+    fn idle(&self) -> u64
+        ensures { result ≡ idle self.now };
+
+    /// How many calls would have had to wait: where this has grown over a call that took nothing, that call is one.
+    fn blocked(&self) -> u64
+        ensures { result ≡ blocked self.now };
+
     /// Takes octets from the front of `octets`, and says how many; 0 where it took nothing, also where the call
     /// was interrupted or would block, so that the caller may write again.
     fn write(&mut self, octets: &[u8]) -> Result<usize, DeviceFailed>
@@ -57,5 +95,7 @@ pub trait ByteSink {
         ensures octets { WriteAppends (contents self.old) (contents self.new) result octets.now }
         ensures failures { failures self.new ≡ failures_after result (failures self.old) }
         ensures idle { idle self.new ≡ idle_after result (idle self.old) }
-        ensures most_idle { most_idle self.new ≡ max (most_idle self.old) (idle self.new) };
+        ensures most_idle { most_idle self.new ≡ max (most_idle self.old) (idle self.new) }
+        ensures writes { writes self.new ≡ counted (writes self.old) }
+        ensures blocked { BlocksIdle result (blocked self.old) (blocked self.new) };
 }

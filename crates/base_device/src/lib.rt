@@ -10,7 +10,7 @@ mod whole;
 
 pub use counting::Counting;
 pub use device::{ByteSink, ByteSource, DeviceFailed};
-pub use inputs::{FileSource, Inputs};
+pub use inputs::{FileSource, Inputs, OpenError};
 pub use output::{MAX_IDLE_WRITES, WriteFault, tell, write_whole};
 pub use status::Status;
 pub use whole::{InputError, MAX_READS, read_input, tell_not_opened, tell_unread};

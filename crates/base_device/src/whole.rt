@@ -3,8 +3,8 @@ ghost use Rattle.std.specs.Prelude.{◌≡◌, ◌<◌, ◌≤◌, ◌+◌, ◌-
 ghost use Rattle.base_device.specs.Devices.{failures_after, Tells};
 ghost use Rattle.base_device.specs.Inputs.{IsRead, IsInput, IsUnread, IsToldUnread};
 
-use crate::device::{ByteSink, ByteSource, DeviceFailed};
-use crate::inputs::FileSource;
+use crate::device::{ByteSink, ByteSource};
+use crate::inputs::{FileSource, OpenError};
 use crate::output::{MAX_IDLE_WRITES, tell};
 use crate::status::Status;
 use std::alloc::{AllocError, AllocFailed, Global};
@@ -19,8 +19,8 @@ const PIECE: usize = 65_536;
 /// Why an input was not read whole.
 #[derive(Clone, Copy, Debug, PartialEq, Eq, Error)]
 pub enum InputError {
-    #[error("the file can't be opened")]
-    NotOpened,
+    #[error("{0}")]
+    NotOpened(OpenError),
     #[error("a read failed")]
     Failed,
     /// `MAX_READS` reads were made, and the input didn't end.
@@ -93,7 +93,7 @@ fn read_whole<I: ByteSource>(alloc: Global, source: &mut I) -> Result<Vec<u8>, I
 }
 
 /// Turns a source to a file, or to standard input.
-fn turn_to<I: FileSource>(source: &mut I, name: Option<&str>) -> Result<(), DeviceFailed>
+fn turn_to<I: FileSource>(source: &mut I, name: Option<&str>) -> Result<(), OpenError>
     requires { I.failures source.old < 2 ^ 64 - 1 }
     ensures reads { I.reads source.new ≡ I.reads source.old }
     ensures failures { I.failures source.new ≡ failures_after result (I.failures source.old) }
@@ -120,30 +120,55 @@ pub fn read_input<I: FileSource>(
     ensures read { IfOk result (λ text. IsInput I.remaining I.reads I.failures source.old source.new text.items) }
     ensures unread { IfErr result (IsUnread I.reads I.failures source.old source.new) }
 {
-    if turn_to(source, name).is_err() {
-        return Err(InputError::NotOpened);
+    if let Err(why) = turn_to(source, name) {
+        return Err(InputError::NotOpened(why));
     }
     read_whole(alloc, source)
 }
 
-fn not_opened_text(alloc: Global, name: &str) -> Result<String, AllocError> {
-    format!(in alloc; "read fault: {name} can't be opened\n")
+fn not_opened_text(alloc: Global, name: &str, why: OpenError) -> Result<String, AllocError> {
+    match why {
+        OpenError::Directory => format!(in alloc; "read fault: {name} is a directory\n"),
+        OpenError::Failed => format!(in alloc; "read fault: {name} can't be opened\n"),
+    }
 }
 
-/// Tells that a file can't be opened.
-pub fn tell_not_opened<O: ByteSink>(alloc: Global, name: &str, sink: &mut O) -> Status
+/// Tells that a file can't be opened, or that its name is a directory's.
+pub fn tell_not_opened<O: ByteSink>(
+    alloc: Global,
+    name: &str,
+    why: OpenError,
+    sink: &mut O,
+) -> Status
     requires idle { O.idle sink.old ≡ 0 }
     requires failures { O.failures sink.old < 2 ^ 64 - 1 }
     ensures told { (text : List ℕ) × Tells O.contents O.failures O.idle sink.old sink.new text Status.Fault result }
     ensures row { O.most_idle sink.new ≤ max (O.most_idle sink.old) MAX_IDLE_WRITES }
 {
-    match not_opened_text(alloc, name) {
+    match not_opened_text(alloc, name, why) {
         Ok(text) => tell(sink, text.as_bytes(), Status::Fault),
         Err(AllocError) => tell(sink, b"read fault\n", Status::Fault),
     }
 }
 
-/// Tells why an input was not read whole: `no memory`, or `read fault` with what is known of it.
+fn not_read_text(alloc: Global, name: &str) -> Result<String, AllocError> {
+    format!(in alloc; "read fault: {name} can't be read\n")
+}
+
+// Tells that a file was opened and can't be read.
+fn tell_not_read<O: ByteSink>(alloc: Global, name: &str, sink: &mut O) -> Status
+    requires idle { O.idle sink.old ≡ 0 }
+    requires failures { O.failures sink.old < 2 ^ 64 - 1 }
+    ensures told { (text : List ℕ) × Tells O.contents O.failures O.idle sink.old sink.new text Status.Fault result }
+    ensures row { O.most_idle sink.new ≤ max (O.most_idle sink.old) MAX_IDLE_WRITES }
+{
+    match not_read_text(alloc, name) {
+        Ok(text) => tell(sink, text.as_bytes(), Status::Fault),
+        Err(AllocError) => tell(sink, b"read fault\n", Status::Fault),
+    }
+}
+
+/// Tells why an input was not read whole: `no memory`, or `read fault` with what is known of it, and the file's name.
 pub fn tell_unread<O: ByteSink>(
     alloc: Global,
     name: Option<&str>,
@@ -157,13 +182,14 @@ pub fn tell_unread<O: ByteSink>(
 {
     match (why, name) {
         (InputError::NoMemory, _) => tell(sink, b"no memory\n", Status::NoMemory),
-        (InputError::NotOpened, Some(name)) => tell_not_opened(alloc, name, sink),
+        (InputError::NotOpened(why), Some(name)) => tell_not_opened(alloc, name, why, sink),
+        (InputError::Failed, Some(name)) => tell_not_read(alloc, name, sink),
         (InputError::NoEnd, _) => tell(
             sink,
             b"read fault: no end of input after 1048576 reads\n",
             Status::Fault,
         ),
-        (InputError::Failed, _) | (InputError::NotOpened, None) => {
+        (InputError::Failed, None) | (InputError::NotOpened(_), None) => {
             tell(sink, b"read fault\n", Status::Fault)
         }
     }

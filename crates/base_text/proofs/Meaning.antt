@@ -70,3 +70,10 @@ front_more used rest n = rw (append_assoc, take-append-drop) refl
 -- the rest of a list is what stands at a place, and what comes after
 pub cut_at : (xs : List ℕ) (i : ℕ) → i < length xs → drop i xs ≡ get_or xs i 0 ∷ drop (i + 1) xs
 cut_at xs i below = rw (add-one, ← drop-cons xs i 0) refl
+
+-- what stands at a place, and what stands at the next
+pub take_one : (xs : List ℕ) (i : ℕ) → i < length xs → take 1 (drop i xs) ≡ get_or xs i 0 ∷ []
+take_one xs i below = rw (cut_at xs i below) refl
+
+pub take_two : (xs : List ℕ) (i : ℕ) → i + 1 < length xs → take 2 (drop i xs) ≡ get_or xs i 0 ∷ get_or xs (i + 1) 0 ∷ []
+take_two xs i below = rw (cut_at xs i (omega arith), cut_at xs (i + 1) below) refl

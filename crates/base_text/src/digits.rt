@@ -1,5 +1,5 @@
 //! Octets from hexadecimal digits, in text that comes in pieces.
-ghost use Rattle.std.specs.Prelude.{◌≡◌, ◌<◌, ◌≤◌, ℕ, List, [], ◌∷◌, ◌++◌, false, None, Option, IfSome, length, take, slice_index};
+ghost use Rattle.std.specs.Prelude.{◌≡◌, ◌<◌, ◌≤◌, ◌+◌, ◌*◌, ℕ, List, [], ◌∷◌, ◌++◌, false, None, Option, IfSome, length, take};
 ghost use Rattle.std.specs.Option.{ForSome, option_to_list};
 ghost use Rattle.hex.specs.Hex.{hex_digit_value};
 ghost use Rattle.base_text.specs.Digits.{is_blank, is_hex_text, Means};
@@ -83,11 +83,9 @@ fn pair_value(high: u8, low: u8) -> Option<u8>
     }
 }
 
-// What characters at the front of a text mean: so many of them, with the digit before, are one octet or none, and a digit may
-// be left over.
+// What a character means, with the digit before: one octet or none, and a digit may be left over.
 #[derive(Clone, Copy)]
 struct Step {
-    used: usize,
     octet: Option<u8>,
     half: Option<u8>,
 }
@@ -95,54 +93,65 @@ struct Step {
 // What a character means behind a digit or none; nothing where it is neither a digit nor a blank.
 fn character(half: Option<u8>, c: u8) -> Option<Step>
     requires { ForSome half (λ digit. digit < 16) }
-    ensures value { IfSome result (λ step. (step.used ≡ 1) × Means half (c ∷ []) (option_to_list step.octet) step.half) }
+    ensures value { IfSome result (λ step. Means half (c ∷ []) (option_to_list step.octet) step.half) }
     ensures none { result ≡ None → is_hex_text c ≡ false }
 {
     match (digit_value(c), half) {
         (Some(low), Some(high)) => Some(Step {
-            used: 1,
             octet: Some(high * 16 + low),
             half: None,
         }),
         (Some(high), None) => Some(Step {
-            used: 1,
             octet: None,
             half: Some(high),
         }),
-        (None, _) if is_blank_character(c) => Some(Step {
-            used: 1,
-            octet: None,
-            half,
-        }),
+        (None, _) if is_blank_character(c) => Some(Step { octet: None, half }),
         (None, _) => None,
     }
-}
-
-// What one or two characters at the front of a text mean: mostly they are two digits.
-#[inline(always)]
-fn front_of(half: Option<u8>, text: &[u8]) -> Option<Step>
-    requires fits { ForSome half (λ digit. digit < 16) }
-    requires some { 0 < length text.now }
-    ensures value { IfSome result (λ step. Means half (take step.used text.now) (option_to_list step.octet) step.half) }
-    ensures counts { IfSome result (λ step. (1 ≤ step.used) × (step.used ≤ length text.now)) }
-    ensures none { result ≡ None → is_hex_text (slice_index text.now 0) ≡ false }
-{
-    if half.is_none() && text.len() > 1 {
-        if let Some(octet) = pair_value(text[0], text[1]) {
-            return Some(Step {
-                used: 2,
-                octet: Some(octet),
-                half: None,
-            });
-        }
-    }
-    character(half, text[0])
 }
 
 fn is_blank_character(c: u8) -> bool
     ensures { result ≡ is_blank c }
 {
     matches!(c, b' ' | b'\t' | b'\n' | b'\r')
+}
+
+// Puts the octets of pairs of digits, from a place of a text on, into a piece from a place on: as many as stand there in a row
+// and fit. It says how many.
+fn run_of_pairs(text: &[u8], piece: &mut [u8], used: usize, made: usize) -> usize
+    requires used { used ≤ length text.now }
+    requires made { made ≤ length piece.old }
+    ensures meaning { (before : Option ℕ) → Means before (take used text.now) (take made piece.old) None
+        → Means before (take (used + 2 * result) text.now) (take (made + result) piece.new) None }
+    ensures room { made + result ≤ length piece.new }
+    ensures text { used + 2 * result ≤ length text.now }
+{
+    let mut at = used;
+    let mut to = made;
+    'pairs: while to < piece.len() && text.len() - at > 1 {
+        let Some(octet) = pair_value(text[at], text[at + 1]) else {
+            return to - made;
+        };
+        piece[to] = octet;
+        to += 1;
+        at += 2;
+    }
+    to - made
+}
+
+// The same behind a digit or none: behind a digit no pair begins.
+fn pairs(half: Option<u8>, text: &[u8], piece: &mut [u8], used: usize, made: usize) -> usize
+    requires used { used ≤ length text.now }
+    requires made { made ≤ length piece.old }
+    ensures meaning { (before : Option ℕ) → Means before (take used text.now) (take made piece.old) half
+        → Means before (take (used + 2 * result) text.now) (take (made + result) piece.new) half }
+    ensures room { made + result ≤ length piece.new }
+    ensures text { used + 2 * result ≤ length text.now }
+{
+    match half {
+        None => run_of_pairs(text, piece, used, made),
+        Some(_) => 0,
+    }
 }
 
 /// Reads digits from the front of `text` and puts their octets at the front of `piece`. `half` is the digit that
@@ -168,7 +177,7 @@ pub fn decode(half: Option<u8>, text: &[u8], piece: &mut [u8]) -> Decoded
                 half,
             };
         }
-        let Some(step) = front_of(half, &text[used..]) else {
+        let Some(step) = character(half, text[used]) else {
             let stop = Stop::BadCharacter;
             return Decoded {
                 used,
@@ -182,7 +191,10 @@ pub fn decode(half: Option<u8>, text: &[u8], piece: &mut [u8]) -> Decoded
             made += 1;
         }
         half = step.half;
-        used += step.used;
+        used += 1;
+        let count = pairs(half, text, piece, used, made);
+        used += 2 * count;
+        made += count;
     }
     let stop = Stop::TextEnds;
     Decoded {

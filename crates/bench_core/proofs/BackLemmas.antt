@@ -1,5 +1,5 @@
 -- The last step is taken back: the world is whole before it.
-use Rattle.std.proofs.Common.{◌≡◌, ◌+◌, ◌-◌, ◌<◌, ℕ, List, [], ◌∷◌, ◌++◌, Bool, refl, sym, ◌∙◌, ap, arith, length, length-append, subst, take}
+use Rattle.std.proofs.Common.{◌≡◌, ◌-◌, ◌<◌, ℕ, List, [], ◌∷◌, ◌++◌, Bool, refl, sym, ◌∙◌, ap, arith, length, length-append, subst, take}
 use Rattle.std.specs.Prelude.{IsTrue}
 use Rattle.std.specs.FinSet as set
 use Rattle.std.proofs.lemmas.List.{same_from_push}

@@ -1,17 +1,15 @@
 -- A shard's work on the parts of a world: what was done is what the log allows, and where nothing was written the world is as before.
-use Rattle.std.proofs.Common.{◌≡◌, ◌+◌, ◌-◌, ◌<◌, ◌≤◌, ℕ, List, [], ◌∷◌, ◌++◌, Bool, true, false, Option, Some, None, refl, sym, ◌∙◌, ap, subst, arith, length, suc, zero, fold, drop, get_or, map}
+use Rattle.std.proofs.Common.{◌≡◌, ◌<◌, ℕ, List, [], ◌∷◌, ◌++◌, Bool, true, false, Option, Some, None, refl, sym, ◌∙◌, ap, subst, arith, length, suc, zero, fold, drop, get_or, map}
 use Rattle.std.specs.List.{slice_get}
-use Rattle.std.specs.Prelude.{◌||◌, ◌%◌, ◌≢◌, find, nat_lt, not, option_map, slice_set, unwrap_or, OnOk, OnErr, Result, Ok, Err}
+use Rattle.std.specs.Prelude.{◌||◌, find, nat_lt, not, option_map, slice_set, unwrap_or, OnOk, OnErr, Result, Ok, Err}
 use Rattle.std.proofs.lemmas.Bool.Decides.{nat_tests}
 use Rattle.std.proofs.lemmas.List.{map-set, length-map}
 use Rattle.std.proofs.lemmas.Option.{slice_get-map, slice_get_read}
 use Rattle.std.specs.declared.alloc.AllocError.{AllocError}
 use Rattle.acct_book.specs.Book.{Book, Paged, after}
 use Rattle.acct_totals.specs.declared.op.Op.{Op}
-use Rattle.server_wants.specs.declared.want.Want.{Want}
+use Rattle.charge_session.specs.declared.want.Want.{Want}
 use Rattle.tab_law.specs.Books.{Laws}
-use Rattle.tab_law.specs.declared.scene.Deed.{Deed}
-use Rattle.tab_step.specs.declared.machine.Event.{Event}
 use Rattle.bench_item.specs.declared.entry.Entry.{Entry}
 use Rattle.bench_item.specs.declared.entry.Handled.{Handled}
 use Rattle.bench_item.specs.declared.entry.Handled.TheVariants.{Move, Stale, TooBusy}
@@ -31,7 +29,7 @@ use Rattle.tick_wheel.specs.Timers.{Timers}
 use Rattle.bench_views.proofs.Distinct.{Each-append}
 use Rattle.bench_shard.specs.Works.{BecomesIn, after_work, ops_in, taken_back}
 use Rattle.bench_shard.specs.declared.task.Task.{Task}
-use Rattle.bench_spec.specs.Booked.{book_at, want_of}
+use Rattle.bench_spec.specs.Booked.{book_at}
 use Rattle.bench_spec.specs.Items.{arrived, handled_posts, inbox, worked}
 use Rattle.bench_spec.specs.Legal.{BecomesOf, MayFollow}
 use Rattle.bench_spec.specs.Refusal.{is_empty, is_log_full, is_paused, lacks_work_room, refusal}
@@ -41,7 +39,7 @@ use Rattle.bench_undo.specs.declared.undo.Undo.{Undo}
 use Rattle.bench_undo.specs.declared.undo.Undo.TheVariants as undo
 use Rattle.bench_views.specs.Pages.{IsAsked, page_at}
 use Rattle.bench_views.specs.Stored.{EachAt, IsTied, Stored}
-use Rattle.bench_views.specs.Worked.{IsAskedBy, booked_on, worked_by}
+use Rattle.bench_views.specs.Worked.{IsAskedBy, booked_on}
 use Rattle.bench_views.proofs.Handled.{work_entry}
 use Rattle.bench_views.proofs.Pages.{event_with_quote-page, outcomes_for-page}
 use Rattle.bench_core.specs.Inside.{IsPageAt}

@@ -2,7 +2,7 @@
 use Rattle.std.proofs.Common.{◌≡◌, ◌+◌, ◌<◌, ◌≤◌, ℕ, List, [], ◌∷◌, ◌++◌, Bool, true, false, Option, Some, None, refl, sym, ◌∙◌, ap, arith, length, suc, zero}
 use Rattle.std.specs.FinMap as fin
 use Rattle.std.specs.FinSet as set
-use Rattle.std.specs.List.{AllByRecursion as Each, slice_get}
+use Rattle.std.specs.List.{slice_get}
 use Rattle.std.specs.Option.{option_and_then, option_map_or}
 use Rattle.std.specs.Prelude.{◌==◌, IsSome, IsTrue, flat_map, get_or, map, nat_lt, not, option_map, option_to_list, slice_set}
 use Rattle.std.proofs.lemmas.Bool.{false≢true}
@@ -22,10 +22,10 @@ use Rattle.bench_item.specs.declared.step.Step.TheVariants.{Fired}
 use Rattle.bench_queue.specs.Outbox.{OutboxState, OutboxView, put_out, without_out}
 use Rattle.bench_shard.specs.Names.{key_in, key_octets, octet_role, role_octet}
 use Rattle.bench_shard.specs.View.{ShardView}
-use Rattle.bench_spec.specs.Items.{InOrder, armed, firing}
+use Rattle.bench_spec.specs.Items.{InOrder, firing}
 use Rattle.bench_spec.specs.Legal.{MayFollow}
 use Rattle.bench_spec.specs.Machines.{directory, key_numbered}
-use Rattle.bench_spec.specs.Refusal.{fired_reasons, is_armed, refusal}
+use Rattle.bench_spec.specs.Refusal.{fired_reasons, refusal}
 use Rattle.bench_spec.specs.Settings.{Settings}
 use Rattle.bench_spec.proofs.BookLemmas.{entry_of}
 use Rattle.bench_spec.proofs.PauseLemmas.{refusal-unpaused}

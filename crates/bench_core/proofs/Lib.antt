@@ -22,3 +22,4 @@ pub mod NewLemmas
 pub mod RedoneLemmas
 pub mod ReplayLemmas
 pub mod QueueLemmas
+pub mod WaitingLemmas

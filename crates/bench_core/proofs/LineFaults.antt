@@ -1,6 +1,6 @@
 -- Why a step of a line is refused: by the lines that a world keeps as by its log.
-use Rattle.std.proofs.Common.{◌≡◌, ◌-◌, ◌<◌, ◌≤◌, ℕ, zero, suc, List, [], ◌∷◌, length, drop, Bool, true, false, Option, Some, None, refl, sym, ◌∙◌, ap, arith}
-use Rattle.std.specs.Prelude.{◌&&◌, ◌||◌, not, nat_le, nat_lt, slice_get, if◌then◌else◌}
+use Rattle.std.proofs.Common.{◌≡◌, ◌-◌, ◌≤◌, ℕ, zero, suc, List, [], ◌∷◌, length, Bool, true, false, Option, Some, None, refl, sym, ◌∙◌, ap, arith}
+use Rattle.std.specs.Prelude.{◌&&◌, ◌||◌, not, nat_le, slice_get, if◌then◌else◌}
 use Rattle.std.specs.Option.{option_map, option_map_or}
 use Rattle.std.proofs.lemmas.Bool.{le-leb, lt-ltb}
 use Rattle.std.proofs.lemmas.Bool.Decides.{nat_tests}
@@ -21,9 +21,8 @@ use Rattle.bench_line.specs.declared.fault.LineFault.TheVariants as faults
 use Rattle.bench_log.specs.Logged.{is_past}
 use Rattle.bench_spec.specs.Items.{lifted, outbox, posts}
 use Rattle.bench_spec.specs.Lines.{line_state, openings}
-use Rattle.bench_spec.specs.Refusal.{is_closed_line, is_crowded, is_dialling, is_line, is_log_full, is_open, refusal}
+use Rattle.bench_spec.specs.Refusal.{is_crowded, is_dialling, is_line, is_log_full, is_open, refusal}
 use Rattle.bench_spec.specs.Settings.{Settings}
-use Rattle.bench_views.specs.LinePasts.{outbox_on}
 use Rattle.bench_views.specs.Stored.{IsTied, Stored, meaning_of}
 use Rattle.bench_views.proofs.Lifting.{line_at-suc}
 use Rattle.bench_views.proofs.LineStands.{length_lines}

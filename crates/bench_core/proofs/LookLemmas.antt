@@ -1,5 +1,5 @@
 -- What a world shows is what its log says.
-use Rattle.std.proofs.Common.{◌≡◌, ◌+◌, ◌<◌, ◌≤◌, ◌%◌, ◌/◌, ℕ, zero, suc, List, [], ◌∷◌, length, map, Bool, true, false, Option, Some, None, refl, sym, ◌∙◌, ap, subst, arith, sum}
+use Rattle.std.proofs.Common.{◌≡◌, ◌<◌, ◌≤◌, ◌%◌, ℕ, zero, suc, List, [], ◌∷◌, length, Bool, true, false, Option, Some, None, refl, sym, ◌∙◌, ap, subst, arith, sum}
 use Rattle.std.specs.Prelude.{IfOk, Result, Ok, Err, cond, nat_lt, option_map, slice_get, unwrap_or}
 use Rattle.std.specs.List.{position, position_or_len}
 use Rattle.std.specs.Option.{option_and_then}
@@ -23,7 +23,7 @@ use Rattle.bench_spec.specs.Settings.{Settings}
 use Rattle.bench_views.proofs.Each.{some-same}
 use Rattle.bench_views.proofs.Pages.{totals_of-page}
 use Rattle.bench_core.specs.Firings.{numbered}
-use Rattle.bench_core.specs.Inside.{IsShardCount, IsSound, settings_in, stored_in}
+use Rattle.bench_core.specs.Inside.{IsShardCount, IsSound, settings_in}
 use Rattle.bench_core.specs.declared.keeping.Core.TheInside.{Inside}
 
 -- something stands within a list

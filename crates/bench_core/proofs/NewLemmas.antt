@@ -1,5 +1,5 @@
 -- A configuration that nothing is in the way of, with its registries.
-use Rattle.std.proofs.Common.{◌≡◌, ◌<◌, List, [], Option, None, length, map}
+use Rattle.std.proofs.Common.{◌≡◌, ◌<◌, List, [], None, length, map}
 use Rattle.tab_law.specs.Books.{Laws}
 use Rattle.bench_item.specs.Past.{any_after}
 use Rattle.bench_open.specs.Given.{config_of, opened_as}

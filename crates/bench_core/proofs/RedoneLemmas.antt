@@ -1,17 +1,15 @@
 -- The entry of a shard's work is added as it is: where it was done the entry may follow, and where the shard's oldest item is another, or becomes
 -- something else, it may not.
-use Rattle.std.proofs.Common.{◌≡◌, ◌==◌, ◌<◌, ℕ, List, [], ◌∷◌, ◌++◌, Bool, true, false, Option, Some, None, refl, sym, ◌∙◌, ap, subst, arith, fold, length, map}
+use Rattle.std.proofs.Common.{◌≡◌, ℕ, List, [], ◌∷◌, ◌++◌, Bool, Option, Some, None, refl, sym, ◌∙◌, ap, subst, fold, length}
 use Rattle.std.specs.List.{slice_get}
-use Rattle.std.specs.Prelude.{flat_map, if◌then◌else◌, option_to_list, slice_set, OnOk, Result, Ok, Err}
-use Rattle.std.proofs.lemmas.Bool.Decides.{nat_tests}
+use Rattle.std.specs.Prelude.{if◌then◌else◌, slice_set, OnOk, Result, Ok, Err}
 use Rattle.std.proofs.lemmas.List.{append-nil}
-use Rattle.acct_book.specs.Book.{Book, Paged, after, with_book}
+use Rattle.acct_book.specs.Book.{Paged, after, with_book}
 use Rattle.bench_item.specs.declared.entry.Entry.{Entry}
 use Rattle.bench_item.specs.declared.entry.Handled.{Handled}
 use Rattle.bench_item.specs.declared.item.Item.{Item}
 use Rattle.bench_item.specs.declared.item.Item.TheVariants.{ToMachine}
 use Rattle.bench_item.specs.declared.item.MachineItem.{MachineItem}
-use Rattle.bench_item.specs.declared.step.Step.TheVariants.{Work}
 use Rattle.bench_move.specs.Tables.{Tables}
 use Rattle.bench_queue.specs.Inbox.{next_in}
 use Rattle.bench_shard.proofs.LegalLemmas.{becomes-logged}
@@ -21,9 +19,8 @@ use Rattle.bench_shard.specs.View.{ShardView}
 use Rattle.bench_shard.specs.Works.{AreEffects, BecomesIn, Fits}
 use Rattle.bench_shard.specs.declared.task.Task.{Task}
 use Rattle.bench_shard.specs.declared.work.Effects.{Effects}
-use Rattle.bench_spec.specs.Items.{InOrder, IsFront, arrived, worked}
+use Rattle.bench_spec.specs.Items.{IsFront, arrived, worked}
 use Rattle.bench_spec.specs.Legal.{IsWorked, MayFollow}
-use Rattle.bench_spec.specs.Machines.{machine_item}
 use Rattle.bench_spec.specs.Settings.{Settings}
 use Rattle.bench_spec.specs.Taken.{Replays}
 use Rattle.bench_undo.specs.declared.undo.Undo.{Undo}

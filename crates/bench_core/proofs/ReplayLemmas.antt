@@ -1,6 +1,6 @@
 -- What an entry carries that may follow a log: its step says it, but of work.
-use Rattle.std.proofs.Common.{◌≡◌, ◌+◌, arith, drop, ℕ, zero, suc, List, [], ◌∷◌, ◌++◌, length, Bool, true, false, Option, Some, None, refl, sym, ◌∙◌, ap, subst}
-use Rattle.std.specs.Prelude.{◌==◌, ◌-◌, ◌<◌, flat_map, is_some, option_map, option_to_list, slice_get, if◌then◌else◌, IsTrue}
+use Rattle.std.proofs.Common.{◌≡◌, ◌+◌, arith, ℕ, zero, suc, List, [], ◌∷◌, ◌++◌, length, Bool, true, false, Option, Some, None, refl, sym, ◌∙◌, ap, subst}
+use Rattle.std.specs.Prelude.{◌==◌, ◌-◌, option_to_list, slice_get, if◌then◌else◌}
 use Rattle.std.specs.Option.{option_and_then}
 use Rattle.std.proofs.lemmas.Bool.Decides.{nat_tests}
 use Rattle.std.proofs.lemmas.List.{append-nil, length-append}
@@ -15,11 +15,9 @@ use Rattle.bench_item.specs.Steps.{is_same_source}
 use Rattle.bench_spec.specs.Items.{InOrder, IsFront, dropped, lifted, posts}
 use Rattle.bench_spec.specs.Legal.{HasParts, MayFollow}
 use Rattle.bench_spec.specs.Settings.{Settings}
-use Rattle.bench_spec.specs.Taken.{GoesBackTo, Replays, Run, Takes, with_log}
+use Rattle.bench_spec.specs.Taken.{Run, Takes}
 use Rattle.bench_spec.proofs.BookLemmas.{entry_of}
 use Rattle.bench_core.specs.Replaying.{IsCarried, IsSingle, last_item}
-use Rattle.bench_spec.specs.Refusal.{refusal}
-use Rattle.bench_views.specs.Carried.{drops, lifts}
 use Rattle.bench_views.specs.Looks.{hand_of, next_of}
 use Rattle.bench_views.specs.Stored.{IsTied, Stored}
 use Rattle.bench_views.proofs.Each.{some-same}
@@ -175,75 +173,13 @@ last-more log e = ap (slice_get (log ++ e ∷ [])) (ap (λ n. n - 1) (length-app
     count : (n : ℕ) → (n + 1) - 1 ≡ n
     count n = omega arith
 
-pub last_item-more : (log : List Entry) (e : Entry) → last_item (log ++ e ∷ []) ≡ e.item
+last_item-more : (log : List Entry) (e : Entry) → last_item (log ++ e ∷ []) ≡ e.item
 last_item-more log e = ap (option_and_then (λ e. e.item)) (last-more log e)
 
-pub some-entry : (log : List Entry) (e : Entry) → 0 < length (log ++ e ∷ [])
-some-entry log e = let count = length-append log (e ∷ []) in omega (arith, count)
-
--- a step that was taken and carried this item replays its entry
-pub takes-replays : (old new : Run) (step : Step) (item : Option Item) → IsCarried step → Takes old new step → item ≡ last_item new.log
-    → Replays old new (entry_of step item None)
-takes-replays old new step item carried taken same =
-    let logged : new.log ≡ old.log ++ taken.entry ∷ [] = ap (λ (r : Run). r.log) taken.grown in
-    let carries : taken.entry.item ≡ item = sym (same ∙ ap last_item logged ∙ last_item-more old.log taken.entry) in
-    let is : taken.entry ≡ entry_of step item None =
-    entry-is old.settings old.log step taken.entry taken.of_step carried taken.follows ∙ ap (λ i. entry_of step i None) carries in
-    record {
-      follows = subst (MayFollow old.settings old.log) is taken.follows;
-      grown = taken.grown ∙ ap (λ e. with_log old (old.log ++ e ∷ [])) is;
-    }
-
--- one that carried another item leaves no entry with this one that may follow
+-- a step that was taken and carried another item leaves no entry with this one that may follow
 pub takes-other : (old new : Run) (step : Step) (item : Option Item) → IsSingle old.settings old.log step → Takes old new step
     → MayFollow old.settings old.log (entry_of step item None) → item ≡ last_item new.log
 takes-other old new step item single taken follows =
     let logged : new.log ≡ old.log ++ taken.entry ∷ [] = ap (λ (r : Run). r.log) taken.grown in
     ap (λ (e : Entry). e.item) (single (entry_of step item None) taken.entry refl taken.of_step follows taken.follows)
     ∙ sym (ap last_item logged ∙ last_item-more old.log taken.entry)
-
--- after a step there is an entry
-pub takes-some : (old new : Run) (step : Step) → Takes old new step → 0 < length new.log
-takes-some old new step taken =
-    subst (λ log. 0 < length log) (sym (ap (λ (r : Run). r.log) taken.grown)) (some-entry old.log taken.entry)
-
--- and taken back it is as if there was none
-same-front : (xs ys : List Entry) (x y : Entry) → xs ++ x ∷ [] ≡ ys ++ y ∷ [] → xs ≡ ys
-same-front [] [] x y same = refl
-same-front [] (b ∷ ys) x y same = absurd (few b ys y (ap (drop 1) same))
-  where
-    few : (b : Entry) (ys : List Entry) (y : Entry) → [] ≡ ys ++ y ∷ [] → ⊥
-    few b [] y same = absurd cc
-    few b (c ∷ ys) y same = absurd cc
-same-front (a ∷ xs) [] x y same = absurd (few xs x (ap (drop 1) same))
-  where
-    few : (xs : List Entry) (x : Entry) → xs ++ x ∷ [] ≡ [] → ⊥
-    few [] x same = absurd cc
-    few (c ∷ xs) x same = absurd cc
-same-front (a ∷ xs) (b ∷ ys) x y same =
-    let first : a ≡ b = cc in
-    let rest : xs ++ x ∷ [] ≡ ys ++ y ∷ [] = ap (drop 1) same in
-    ap (λ z. z ∷ xs) first ∙ ap (λ zs. b ∷ zs) (same-front xs ys x y rest)
-
-pub takes-back : (old mid new : Run) (step : Step) → Takes old mid step → GoesBackTo mid new → new ≡ old
-takes-back old mid new step taken back =
-    let one : with_log old (old.log ++ taken.entry ∷ []) ≡ with_log new (new.log ++ back.entry ∷ []) = sym taken.grown ∙ back.grown in
-    let log : old.log ≡ new.log = same-front old.log new.log taken.entry back.entry (ap (λ (r : Run). r.log) one) in
-    let settings : old.settings ≡ new.settings = ap (λ (r : Run). r.settings) one in
-    let paused : old.paused ≡ new.paused = ap (λ (r : Run). r.paused) one in
-    ap (λ st. record { settings = st; log = new.log; paused = new.paused }) (sym settings)
-    ∙ ap (λ l. record { settings = old.settings; log = l; paused = new.paused }) (sym log)
-    ∙ ap (λ ps. record { settings = old.settings; log = old.log; paused = ps }) (sym paused)
-
--- a step that works no shard and may follow is not refused, whatever is paused
-pub carried-could : (settings : Settings) (log : List Entry) (paused : List Bool) (step : Step) → IsCarried step → refusal settings log [] step ≡ None
-    → refusal settings log paused step ≡ None
-carried-could settings log paused Joined carried could = could
-carried-could settings log paused (Dialled line) carried could = could
-carried-could settings log paused (Came line piece) carried could = could
-carried-could settings log paused (Lost line) carried could = could
-carried-could settings log paused (Told desk key event) carried could = could
-carried-could settings log paused (Fired machine generation) carried could = could
-carried-could settings log paused (Lift source) carried could = could
-carried-could settings log paused (Drop source) carried could = could
-carried-could settings log paused (Work shard) carried could = absurd carried

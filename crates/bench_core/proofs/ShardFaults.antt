@@ -1,5 +1,5 @@
 -- Why a shard does not work: by the shards that a world keeps as by its log.
-use Rattle.std.proofs.Common.{◌≡◌, ◌<◌, ◌≤◌, ℕ, zero, suc, List, [], ◌∷◌, length, drop, Bool, true, false, Option, Some, None, refl, sym, ◌∙◌, ap, arith}
+use Rattle.std.proofs.Common.{◌≡◌, ◌≤◌, ℕ, zero, suc, List, [], ◌∷◌, length, Bool, true, false, Option, Some, None, refl, sym, ◌∙◌, ap, arith}
 use Rattle.std.specs.Prelude.{◌+◌, ◌||◌, map, not, nat_lt, slice_get, unwrap_or}
 use Rattle.std.specs.Option.{option_map}
 use Rattle.std.proofs.lemmas.Bool.{le-ltb, lt-ltb}
@@ -12,17 +12,14 @@ use Rattle.bench_item.specs.declared.source.Source.TheVariants.{Shard}
 use Rattle.bench_item.specs.declared.step.Step.TheVariants.{Work}
 use Rattle.bench_item.specs.declared.step.StepFault.{StepFault}
 use Rattle.bench_item.specs.declared.step.StepFault.TheVariants.{Full, Nothing, Paused, Unknown}
-use Rattle.bench_queue.specs.Inbox.{InboxView, items_in}
-use Rattle.bench_queue.specs.Outbox.{OutboxView, items_out}
-use Rattle.bench_shard.specs.declared.fault.WorkFault.{WorkFault}
+use Rattle.bench_queue.specs.Inbox.{items_in}
+use Rattle.bench_queue.specs.Outbox.{items_out}
 use Rattle.bench_shard.specs.declared.fault.WorkFault.TheVariants as fault
 use Rattle.bench_shard.specs.Refusal as own
-use Rattle.bench_shard.specs.Stands.{Stands}
 use Rattle.bench_shard.specs.View.{ShardView}
 use Rattle.bench_spec.specs.Items.{inbox, outbox}
 use Rattle.bench_spec.specs.Refusal.{is_empty, is_log_full, is_paused, lacks_work_room, refusal}
 use Rattle.bench_spec.specs.Settings.{Settings}
-use Rattle.bench_views.specs.Shards.{inbox_at, outbox_at}
 use Rattle.bench_views.specs.Stored.{IsTied, Stored}
 use Rattle.bench_core.specs.Faults.{first_of, shard_fault, unpaused_shard_fault, work_fault_or}
 

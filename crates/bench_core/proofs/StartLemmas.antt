@@ -1,23 +1,20 @@
 -- The parts of a world at its start are what a log without entries says.
-use Rattle.std.proofs.Common.{◌≡◌, ◌+◌, ◌<◌, ℕ, suc, zero, Bool, false, List, [], ◌∷◌, ◌++◌, Option, Some, None, ap, arith, inl, inr, length, refl, replicate, subst, sym, ◌∙◌}
-use Rattle.std.specs.Prelude.{map, slice_get}
+use Rattle.std.proofs.Common.{◌≡◌, ◌+◌, ◌<◌, ℕ, suc, zero, Bool, false, List, [], ◌∷◌, ◌++◌, ap, arith, inl, inr, length, refl, replicate, subst, sym, ◌∙◌}
+use Rattle.std.specs.Prelude.{map}
 use Rattle.std.specs.FinMap as map
 use Rattle.std.specs.List.{range_with_len}
-use Rattle.std.specs.Ordering.{nat_cmp}
 use Rattle.std.proofs.lemmas.Bool.{cases_lt}
 use Rattle.std.proofs.lemmas.List.{length-map, length-replicate}
 use Rattle.std.proofs.lemmas.List.FromFn.{length-map-range_with_len, map-range_with_len_more}
 use Rattle.acct_book.specs.Book.{Opened}
 use Rattle.bench_item.specs.Keys.{Configured, peers_of}
-use Rattle.bench_line.specs.Lines.{StandFor}
 use Rattle.bench_queue.specs.Outbox.{OutboxState, OutboxView, nothing_out}
 use Rattle.bench_shard.specs.Stands.{Stands}
 use Rattle.bench_shard.specs.View.{ShardView, opened}
 use Rattle.bench_spec.specs.Settings.{Settings}
 use Rattle.bench_views.specs.Pages.{page_at}
 use Rattle.bench_views.specs.Shards.{outbox_at}
-use Rattle.bench_views.specs.Stored.{EachAt, IsShardAt, IsTied, Stored, meaning_of, source_at}
-use Rattle.bench_views.specs.Timers.{IsArmedSo}
+use Rattle.bench_views.specs.Stored.{EachAt, IsShardAt, IsTied, Stored, source_at}
 use Rattle.bench_views.proofs.Each.{some-same}
 use Rattle.bench_core.specs.Inside.{IsPageAt}
 use Rattle.bench_core.specs.Starting.{AreStanding, page_at_start, pages_at_start, shards_at_start}

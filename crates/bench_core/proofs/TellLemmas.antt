@@ -1,5 +1,5 @@
 -- A desk tells a machine an event: the entry may follow, the parts are what the log then says, and are taken back.
-use Rattle.std.proofs.Common.{◌≡◌, ◌+◌, ◌-◌, ◌<◌, ◌≤◌, ℕ, List, [], ◌∷◌, ◌++◌, Bool, true, false, Option, Some, None, refl, sym, ◌∙◌, ap, subst, arith, length, suc, zero}
+use Rattle.std.proofs.Common.{◌≡◌, ◌+◌, ◌<◌, ℕ, List, [], ◌∷◌, ◌++◌, Bool, true, false, Option, Some, None, refl, sym, ◌∙◌, ap, arith, length, suc, zero}
 use Rattle.std.specs.List.{slice_get}
 use Rattle.std.specs.Prelude.{◌==◌, ◌&&◌, find, get_or, if◌then◌else◌, map, nat_lt, not, option_map, slice_set}
 use Rattle.std.proofs.lemmas.Bool.Decides.{nat_tests}
@@ -7,14 +7,12 @@ use Rattle.std.proofs.lemmas.List.{length-map}
 use Rattle.std.proofs.lemmas.Option.{slice_get-map, slice_get_read}
 use Rattle.tab_step.specs.declared.machine.Event.{Event}
 use Rattle.bench_item.specs.declared.entry.Entry.{Entry}
-use Rattle.bench_item.specs.declared.item.Item.{Item}
 use Rattle.bench_item.specs.declared.key.Key.{Key}
 use Rattle.bench_item.specs.declared.source.Source.TheVariants.{Clock, Desk, Shard}
 use Rattle.bench_item.specs.declared.step.Step.TheVariants.{Told}
 use Rattle.bench_item.specs.declared.step.StepFault.{StepFault}
 use Rattle.bench_item.specs.declared.step.StepFault.TheVariants.{Full, Unknown}
 use Rattle.bench_queue.specs.Outbox.{OutboxState, OutboxView, put_out, without_out}
-use Rattle.bench_shard.specs.View.{ShardView}
 use Rattle.bench_spec.specs.Items.{InOrder, told_item}
 use Rattle.bench_spec.specs.Legal.{MayFollow}
 use Rattle.bench_spec.specs.Refusal.{is_log_full, may_tell, refusal}
@@ -24,11 +22,10 @@ use Rattle.bench_spec.proofs.PauseLemmas.{refusal-unpaused}
 use Rattle.bench_undo.specs.declared.undo.Undo.{Undo}
 use Rattle.bench_undo.specs.declared.undo.Undo.TheVariants as undo
 use Rattle.bench_views.specs.Behind.{changed_at, put_out_at}
-use Rattle.bench_views.specs.Carried.{carried_out, gives}
-use Rattle.bench_views.specs.Shards.{outbox_at}
-use Rattle.bench_views.specs.Stored.{IsShardAt, IsTied, Stored, source_at}
+use Rattle.bench_views.specs.Carried.{carried_out}
+use Rattle.bench_views.specs.Stored.{IsTied, Stored, source_at}
 use Rattle.bench_views.proofs.Acting.{acts-changed, acts-none}
-use Rattle.bench_views.proofs.Behind.{GoOn, carried_in-none, carried_out-none, carried_out-put, carried_shard-by, lines-kept, tied-behind}
+use Rattle.bench_views.proofs.Behind.{carried_in-none, carried_out-none, carried_out-put, carried_shard-by, lines-kept, tied-behind}
 use Rattle.bench_views.proofs.LinePasts.{pasts_of-told}
 use Rattle.bench_views.proofs.LineViews.{posts-go_on}
 use Rattle.bench_views.proofs.Order.{Carries, Handles, order-after}

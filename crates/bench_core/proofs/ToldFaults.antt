@@ -1,5 +1,5 @@
 -- Why a desk does not tell a machine an event: two reasons of one fault.
-use Rattle.std.proofs.Common.{◌≡◌, List, [], ◌∷◌, Bool, true, false, refl}
+use Rattle.std.proofs.Common.{◌≡◌, [], ◌∷◌, Bool, true, false, refl}
 use Rattle.std.specs.Prelude.{◌&&◌, not}
 use Rattle.bench_item.specs.declared.step.StepFault.TheVariants.{Full, Unknown}
 use Rattle.bench_core.specs.Faults.{first_of}

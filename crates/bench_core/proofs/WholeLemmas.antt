@@ -1,16 +1,11 @@
 -- A whole world with one more entry.
-use Rattle.std.proofs.Common.{◌≡◌, ◌+◌, ◌<◌, ℕ, List, [], ◌∷◌, ◌++◌, Option, Some, None, refl, sym, ◌∙◌, ap, subst, length, suc, zero, arith}
-use Rattle.std.specs.List.{slice_get}
-use Rattle.std.specs.Prelude.{map, slice_set}
+use Rattle.std.proofs.Common.{◌≡◌, List, [], ◌∷◌, ◌++◌, Option, Some, None, refl, subst}
 use Rattle.bench_item.specs.declared.entry.Entry.{Entry}
-use Rattle.bench_queue.specs.Outbox.{OutboxState, OutboxView}
 use Rattle.bench_spec.specs.Legal.{MayFollow}
 use Rattle.bench_spec.specs.Settings.{Settings}
 use Rattle.bench_spec.proofs.LegalLemmas.{IsLegal-snoc}
 use Rattle.bench_undo.specs.declared.undo.Undo.{Undo}
-use Rattle.bench_views.specs.Behind.{changed_at}
 use Rattle.bench_views.specs.Stored.{IsTied, Stored}
-use Rattle.bench_views.proofs.Each.{some-same}
 use Rattle.bench_carry.specs.Undone.{undone}
 use Rattle.bench_core.specs.Whole.{CanGoBack, IsWhole, MayUndo}
 

@@ -1,8 +1,8 @@
 -- A shard handles its oldest item: the entry may follow, the parts are what the log then says, and are taken back.
-use Rattle.std.proofs.Common.{◌≡◌, ◌+◌, ◌-◌, ◌<◌, ◌≤◌, ℕ, List, [], ◌∷◌, ◌++◌, Bool, true, false, Option, Some, None, refl, sym, ◌∙◌, ap, subst, arith, length, suc, zero, fold}
+use Rattle.std.proofs.Common.{◌≡◌, ℕ, List, [], ◌∷◌, ◌++◌, Bool, Some, None, refl, sym, ◌∙◌, ap, subst, arith, length, suc, zero}
 use Rattle.std.specs.List.{slice_get}
 use Rattle.std.specs.Prelude.{slice_set}
-use Rattle.acct_book.specs.Book.{Book, after}
+use Rattle.acct_book.specs.Book.{Book}
 use Rattle.bench_item.specs.declared.entry.Entry.{Entry}
 use Rattle.bench_item.specs.declared.entry.Handled.{Handled}
 use Rattle.bench_item.specs.declared.item.Item.{Item}

@@ -1,5 +1,5 @@
 -- What a world is, by what it keeps.
-use Rattle.std.specs.Prelude.{◌≡◌, ◌<◌, ◌≤◌, ◌+◌, ℕ, Bool, List, length, map}
+use Rattle.std.specs.Prelude.{◌≡◌, ◌<◌, ◌≤◌, ℕ, Bool, List, map}
 use Rattle.acct_book.specs.Book.{Paged}
 use Rattle.bench_item.specs.Keys.{node_of}
 use Rattle.bench_item.specs.declared.limit.TheConstants.{MAX_SHARDS}

@@ -7,3 +7,4 @@ pub mod Firings
 pub mod Carrying
 pub mod Starting
 pub mod Replaying
+pub mod Waiting

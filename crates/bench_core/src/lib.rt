@@ -3,7 +3,7 @@
 //! | File | What it has |
 //! |---|---|
 //! | `keeping` | all of a world but its callbacks |
-//! | `looks`, `queues` | what a world shows |
+//! | `looks`, `queues`, `waiting` | what a world shows |
 //! | `refusal`, `told`, `carry_faults` | why a step is refused |
 //! | `room`, `entries` | room for one more entry and its record; entries that carry nothing and move nothing |
 //! | `opening`, `parts` | a world is opened, and each of its parts |
@@ -38,6 +38,7 @@ mod room;
 mod step;
 mod tell;
 mod told;
+mod waiting;
 mod work;
 
 pub use keeping::Core;

@@ -3,7 +3,7 @@
 ghost use Rattle.std.specs.Prelude.{◌≡◌, ◌≤◌, ◌+◌, ◌-◌, ◌++◌, fold, filter, filter_map, length, max, replicate, IfOk, OnOk, OnErr, vec_len, vec_capacity};
 ghost use Rattle.acct_book.specs.Book.{after, with_book};
 ghost use Rattle.acct_totals.specs.declared.op.Outcome.TheVariants.{Refused};
-ghost use Rattle.server_book.specs.Deeds.{op_of};
+ghost use Rattle.charge_session.specs.Deeds.{op_of};
 ghost use Rattle.bench_spec.specs.Booked.{is_booking, ops_of, outcomes_for, outcomes_of};
 ghost use Rattle.bench_move.specs.Moves.{ops_for, without_last};
 
@@ -12,8 +12,7 @@ use acct_book::Page;
 use acct_totals::{Op, Outcome};
 use base_codes::DeedCode;
 use bench_item::{MachineItem, Moved, Series};
-use server_book::op_of;
-use server_wants::Want;
+use charge_session::{Want, op_of};
 use std::alloc::{AllocError, Global};
 use tab_law::Deed;
 

@@ -12,7 +12,7 @@ use crate::quoting::event_with_quote;
 use crate::roles::Roles;
 use acct_book::Page;
 use bench_item::{MachineItem, Moved, Role};
-use server_wants::Want;
+use charge_session::Want;
 use std::alloc::{AllocError, Global};
 use tab_law::{MAX_DEEDS, MAX_ROW_ACTIONS};
 use tab_step::{Event, MachineState, Stepped, is_step};

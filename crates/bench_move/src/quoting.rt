@@ -4,8 +4,7 @@ ghost use Rattle.std.specs.Prelude.{◌≡◌};
 ghost use Rattle.bench_spec.specs.Booked.{event_with_quote, quotes_for};
 
 use acct_book::Page;
-use server_book::{Quotes, fill_quotes};
-use server_wants::{Asked, Want};
+use charge_session::{Asked, Quotes, Want, fill_quotes};
 use tab_step::Event;
 
 /// What the book says to what is asked.

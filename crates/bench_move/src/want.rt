@@ -1,12 +1,12 @@
 //! What an item asks of the account book.
 
 ghost use Rattle.std.specs.Prelude.{◌≡◌, option_and_then};
-ghost use Rattle.server_wants.specs.Wants.{needs};
+ghost use Rattle.charge_session.specs.Wants.{needs};
 ghost use Rattle.bench_spec.specs.Booked.{as_server_event, want_of};
 
 use crate::roles::Roles;
 use bench_item::{MachineItem, Role};
-use server_wants::{Want, needs};
+use charge_session::{Want, needs};
 use tab_step::{Event, MachineState};
 
 impl Roles {

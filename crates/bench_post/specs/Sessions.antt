@@ -1,31 +1,21 @@
 -- What the events of credit control are called, and whose they are.
-use Rattle.std.specs.Prelude.{ℕ, List, codes}
+use Rattle.std.specs.Prelude.{ℕ, List}
 use Rattle.bench_item.specs.declared.key.Role.{Role}
-use Rattle.bench_item.specs.declared.key.Role.TheVariants.{Client, Server}
+use Rattle.bench_item.specs.declared.key.Role.TheVariants as role
+use Rattle.client_rules.specs.Kinds.{name_of as client_name_of}
+use Rattle.server_rules.specs.Kinds.{name_of as server_name_of}
 use Rattle.bench_post.specs.declared.session.SessionEvent.{SessionEvent}
-use Rattle.bench_post.specs.declared.session.SessionEvent.TheVariants.{Initial, Update, Terminate, Event}
-use Rattle.bench_post.specs.declared.session.SessionEvent.TheVariants.{CcaInitial, CcaUpdate, CcaTerminate}
-use Rattle.bench_post.specs.declared.session.SessionEvent.TheVariants.{CcaEvent, CcaFault}
+use Rattle.bench_post.specs.declared.session.SessionEvent.TheVariants.{Server, Client}
 
 -- whose event it is
 abbrev pub role_of : SessionEvent → Role
-role_of Initial = Server
-role_of Update = Server
-role_of Terminate = Server
-role_of Event = Server
-role_of other = Client
+role_of (Server kind) = role.Server
+role_of (Client kind) = role.Client
 
 -- the name of its kind
 abbrev pub name_of : SessionEvent → List ℕ
-name_of Initial = codes "Initial"
-name_of Update = codes "Update"
-name_of Terminate = codes "Terminate"
-name_of Event = codes "Event"
-name_of CcaInitial = codes "CCA-I"
-name_of CcaUpdate = codes "CCA-U"
-name_of CcaTerminate = codes "CCA-T"
-name_of CcaEvent = codes "CCA-E"
-name_of CcaFault = codes "CCA-Fault"
+name_of (Server kind) = server_name_of kind
+name_of (Client kind) = client_name_of kind
 
 -- both
 abbrev pub as_event : SessionEvent → Role × List ℕ

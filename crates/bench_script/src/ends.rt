@@ -60,8 +60,12 @@ fn put_state(out: &mut Vec<u8>, core: &Core, state: LineState) -> Result<(), All
     }
 }
 
-/// Puts where a line stands, if it is there.
-fn put_stands(out: &mut Vec<u8>, core: &Core, state: Option<LineState>) -> Result<(), AllocError>
+/// Puts where a line stands behind what `out` holds: ` open`, ` closed` or ` dialling HOST`; nothing where there is no line.
+pub fn put_stands(
+    out: &mut Vec<u8>,
+    core: &Core,
+    state: Option<LineState>,
+) -> Result<(), AllocError>
     ensures { OnOk result (out.new.items ≡ out.old.items ++ stands_text core.now state) }
 {
     match state {

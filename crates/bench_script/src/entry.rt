@@ -40,8 +40,13 @@ fn machines_for(alloc: Global, core: &Core, step: &Step) -> Result<Machines, All
     }
 }
 
-/// Puts an entry, with the names of a bench.
-fn put_taken(alloc: Global, core: &Core, entry: &Entry, out: &mut Vec<u8>) -> Result<(), AllocError>
+/// Puts an entry behind what `out` holds, with the names that a bench has for kinds, states and machines.
+pub fn put_taken(
+    alloc: Global,
+    core: &Core,
+    entry: &Entry,
+    out: &mut Vec<u8>,
+) -> Result<(), AllocError>
     ensures { OnOk result (out.new.items ≡ out.old.items ++ taken_text core.now entry.now) }
 {
     let machines = machines_for(alloc, core, &entry.step)?;

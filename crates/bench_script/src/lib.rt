@@ -15,5 +15,7 @@ mod next;
 mod script;
 mod steps;
 
-pub use ends::{put_lines, put_totals};
+pub use ends::{put_lines, put_stands, put_totals};
+pub use entry::put_taken;
+pub use next::line_count;
 pub use script::run_script;

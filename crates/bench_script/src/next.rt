@@ -109,8 +109,8 @@ fn first_work(core: &Core) -> Option<Step>
     None
 }
 
-/// How many lines were opened.
-pub(crate) fn line_count(core: &Core) -> u32
+/// How many lines were opened: they have the numbers from 1 on. Takes no memory.
+pub fn line_count(core: &Core) -> u32
     ensures count { result ≡ length (openings core.now.log) }
     ensures within { result ≤ MAX_ENTRIES }
 {

@@ -2,7 +2,7 @@
 use Rattle.std.proofs.Common.{◌≡◌, ℕ, Bool, List, Option, Some, sym, ap, subst, ◌∙◌, refl}
 use Rattle.std.specs.Prelude.{IsTrue, IsFalse, if◌then◌else◌}
 use Rattle.acct_book.specs.Book.{Book}
-use Rattle.server_wants.specs.declared.want.Want.{Want}
+use Rattle.charge_session.specs.declared.want.Want.{Want}
 use Rattle.tab_step.specs.declared.machine.MachineState.{MachineState}
 use Rattle.tab_text.specs.Contents.{Contents}
 use Rattle.bench_item.specs.declared.entry.Entry.{Entry}

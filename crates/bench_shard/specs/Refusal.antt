@@ -1,7 +1,7 @@
 -- Why a shard does not work.
 use Rattle.std.specs.Prelude.{ℕ, ◌+◌, ◌==◌, not, nat_lt, Bool, false, List, [], ◌∷◌, length, find, option_map, unwrap_or, Option}
 use Rattle.std.specs.Option.{option_map_or}
-use Rattle.server_wants.specs.declared.want.Want.{Want}
+use Rattle.charge_session.specs.declared.want.Want.{Want}
 use Rattle.bench_item.specs.declared.limit.TheConstants.{MAX_WAITING, WORK_ROOM}
 use Rattle.bench_queue.specs.Inbox.{items_in}
 use Rattle.bench_queue.specs.Outbox.{items_out}

@@ -1,6 +1,6 @@
 -- What a shard is to do next.
 use Rattle.std.specs.Prelude.{◌≡◌, ℕ, ◌%◌, Option, Some, None, option_map, if◌then◌else◌}
-use Rattle.server_wants.specs.declared.want.Want.{Want}
+use Rattle.charge_session.specs.declared.want.Want.{Want}
 use Rattle.tab_law.specs.Books.{Laws}
 use Rattle.bench_item.specs.declared.item.MachineItem.{MachineItem}
 use Rattle.bench_queue.specs.Inbox.{next_in}

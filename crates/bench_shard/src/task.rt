@@ -13,7 +13,7 @@ use crate::fault::WorkFault;
 use crate::open::{number_at, start};
 use crate::state::ShardState;
 use bench_item::{Condition, Key, MAX_MACHINES, MAX_WAITING, MachineItem, WORK_ROOM};
-use server_wants::Want;
+use charge_session::Want;
 use std::alloc::{AllocError, Global};
 use tab_law::PLACES;
 use tab_step::MachineState;

@@ -8,7 +8,7 @@ use Rattle.acct_book.specs.Laws.{EachAfter}
 use Rattle.acct_totals.specs.declared.op.Booked.{Booked}
 use Rattle.acct_totals.specs.declared.op.Op.{Op}
 use Rattle.acct_totals.specs.declared.op.Outcome.{Outcome}
-use Rattle.server_wants.specs.declared.want.Want.{Want}
+use Rattle.charge_session.specs.declared.want.Want.{Want}
 use Rattle.tab_law.specs.declared.scene.Deed.{Deed}
 use Rattle.bench_item.specs.declared.entry.Entry.{Entry}
 use Rattle.bench_item.specs.declared.entry.Handled.{Handled}

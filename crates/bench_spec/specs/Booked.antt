@@ -11,15 +11,15 @@ use Rattle.acct_totals.specs.declared.op.Outcome.TheVariants.{Refused}
 use Rattle.base_codes.specs.DeedCodes.{number_of}
 use Rattle.base_codes.specs.declared.deed_code.DeedCode.TheVariants.{Reserve, Debit, Release, Charge, Refund}
 use Rattle.base_list.specs.Named.{place_of}
-use Rattle.server_book.specs.Deeds.{op_of}
-use Rattle.server_book.specs.Quotes.{quoted}
-use Rattle.server_book.specs.declared.quote.Quotes.{Quotes}
-use Rattle.server_book.specs.declared.quote.Quotes.TheVariants as quotes
+use Rattle.charge_session.specs.Deeds.{op_of}
+use Rattle.charge_session.specs.Quotes.{quoted}
+use Rattle.charge_session.specs.declared.quote.Quotes.{Quotes}
+use Rattle.charge_session.specs.declared.quote.Quotes.TheVariants as quotes
 use Rattle.server_rules.specs.Kinds.{kinds}
-use Rattle.server_wants.specs.Wants.{needs}
-use Rattle.server_wants.specs.declared.want.Asked.{Asked}
-use Rattle.server_wants.specs.declared.want.Asked.TheVariants.{One, Several}
-use Rattle.server_wants.specs.declared.want.Want.{Want}
+use Rattle.charge_session.specs.Wants.{needs}
+use Rattle.charge_session.specs.declared.want.Asked.{Asked}
+use Rattle.charge_session.specs.declared.want.Asked.TheVariants.{One, Several}
+use Rattle.charge_session.specs.declared.want.Want.{Want}
 use Rattle.tab_law.specs.Books.{Laws}
 use Rattle.tab_law.specs.declared.scene.Deed.{Deed}
 use Rattle.tab_step.specs.declared.machine.Event.{Event}

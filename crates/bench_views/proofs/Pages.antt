@@ -17,13 +17,13 @@ use Rattle.acct_totals.specs.declared.op.Outcome.{Outcome}
 use Rattle.base_codes.specs.DeedCodes.{coded}
 use Rattle.base_codes.specs.declared.deed_code.DeedCode.{DeedCode}
 use Rattle.base_codes.specs.declared.deed_code.DeedCode.TheVariants as deeds
-use Rattle.server_book.specs.Deeds.{op_by, op_of}
-use Rattle.server_book.specs.declared.quote.Quotes.{Quotes}
-use Rattle.server_book.specs.declared.quote.Quotes.TheVariants as quotes
-use Rattle.server_book.specs.Quotes.{quoted}
-use Rattle.server_wants.specs.declared.want.Asked.{Asked}
-use Rattle.server_wants.specs.declared.want.Asked.TheVariants.{One, Several}
-use Rattle.server_wants.specs.declared.want.Want.{Want}
+use Rattle.charge_session.specs.Deeds.{op_by, op_of}
+use Rattle.charge_session.specs.declared.quote.Quotes.{Quotes}
+use Rattle.charge_session.specs.declared.quote.Quotes.TheVariants as quotes
+use Rattle.charge_session.specs.Quotes.{quoted}
+use Rattle.charge_session.specs.declared.want.Asked.{Asked}
+use Rattle.charge_session.specs.declared.want.Asked.TheVariants.{One, Several}
+use Rattle.charge_session.specs.declared.want.Want.{Want}
 use Rattle.tab_law.specs.declared.scene.Deed.{Deed}
 use Rattle.tab_step.specs.declared.machine.Event.{Event}
 use Rattle.bench_item.specs.declared.entry.Entry.{Entry}

@@ -4,7 +4,7 @@ use Rattle.std.specs.Prelude.{slice_set, ◌≢◌, if◌then◌else◌, option_
 use Rattle.std.specs.List.{slice_get}
 use Rattle.std.proofs.lemmas.List.{append-nil, length-set}
 use Rattle.acct_book.specs.Book.{Book}
-use Rattle.server_wants.specs.declared.want.Want.{Want}
+use Rattle.charge_session.specs.declared.want.Want.{Want}
 use Rattle.bench_item.specs.declared.entry.Entry.{Entry}
 use Rattle.bench_item.specs.declared.entry.Handled.{Handled}
 use Rattle.bench_item.specs.declared.entry.Handled.TheVariants.{Move, Stale, TooBusy}

@@ -6,7 +6,7 @@ use Rattle.acct_totals.specs.Amounts.{account_of}
 use Rattle.acct_totals.specs.declared.op.Booked.{Booked}
 use Rattle.acct_totals.specs.declared.op.Op.{Op}
 use Rattle.acct_totals.specs.declared.op.Outcome.{Outcome}
-use Rattle.server_wants.specs.declared.want.Want.{Want}
+use Rattle.charge_session.specs.declared.want.Want.{Want}
 use Rattle.bench_item.specs.declared.entry.Entry.{Entry}
 use Rattle.bench_spec.specs.Booked.{book_at}
 use Rattle.bench_spec.specs.Settings.{Settings}

@@ -78,10 +78,10 @@ fn read_file<I: FileSource, O: ByteSink>(
     ensures refused { result ≡ Status.Refused → I.reads source.old < I.reads source.new }
     ensures words { result ≢ Status.Usage }
 {
-    if source.open(name).is_ok() {
-        return read_messages(alloc, glossary, style, by_line, source, sink);
+    match source.open(name) {
+        Ok(()) => read_messages(alloc, glossary, style, by_line, source, sink),
+        Err(why) => tell_not_opened(alloc, name, why, sink),
     }
-    tell_not_opened(alloc, name, sink)
 }
 
 // Reads messages of a file, or of what the source gives now.

@@ -4,9 +4,10 @@ ghost use Rattle.base_device.specs.Devices.{IsRun};
 ghost use Rattle.cmd_read.specs.Reads.{TellsNoMemory};
 ghost use Rattle.cmd_run.specs.Runs.{AssemblesTable};
 
-use crate::unread::tell_not_whole;
 use crate::walk::tell_no_memory;
-use base_device::{ByteSink, FileSource, MAX_IDLE_WRITES, MAX_READS, Status, read_input};
+use base_device::{
+    ByteSink, FileSource, MAX_IDLE_WRITES, MAX_READS, Status, read_input, tell_unread,
+};
 use image_text::assemble_on;
 use role_tables::all_laws;
 use std::alloc::Global;
@@ -32,7 +33,7 @@ pub(crate) fn assemble<I: FileSource, O: ByteSink>(
 {
     let text = match read_input(alloc, table, source) {
         Ok(text) => text,
-        Err(why) => return tell_not_whole(alloc, table, why, sink),
+        Err(why) => return tell_unread(alloc, table, why, sink),
     };
     match all_laws(alloc) {
         Ok(laws) => assemble_on(alloc, &text, &laws, sink),

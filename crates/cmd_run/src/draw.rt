@@ -4,8 +4,9 @@ ghost use Rattle.base_device.specs.Devices.{IsRun};
 ghost use Rattle.cmd_read.specs.Reads.{TellsNoMemory};
 ghost use Rattle.cmd_run.specs.Runs.{DrawsTable};
 
-use crate::unread::tell_not_whole;
-use base_device::{ByteSink, FileSource, MAX_IDLE_WRITES, MAX_READS, Status, read_input};
+use base_device::{
+    ByteSink, FileSource, MAX_IDLE_WRITES, MAX_READS, Status, read_input, tell_unread,
+};
 use std::alloc::Global;
 use tab_draw::draw_on;
 
@@ -30,6 +31,6 @@ pub(crate) fn draw<I: FileSource, O: ByteSink>(
 {
     match read_input(alloc, table, source) {
         Ok(text) => draw_on(alloc, &text, sink),
-        Err(why) => tell_not_whole(alloc, table, why, sink),
+        Err(why) => tell_unread(alloc, table, why, sink),
     }
 }

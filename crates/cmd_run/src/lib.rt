@@ -7,14 +7,12 @@
 //! | `draw` | the runs of `draw` |
 //! | `asm` | the runs of `asm` |
 //! | `list` | the runs of `list` |
-//! | `unread` | what is told of an input that isn't read whole |
 #![tactic(auto)]
 
 mod asm;
 mod draw;
 mod list;
 mod run;
-mod unread;
 mod walk;
 
 pub use run::{main_on, tell_no_words};

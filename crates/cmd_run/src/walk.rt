@@ -8,8 +8,9 @@ ghost use Rattle.role_tables.specs.Roles.{all_laws, table_named};
 ghost use Rattle.tab_walk.specs.Starts.{from_of};
 ghost use Rattle.tab_walk.specs.Walks.{IsWalkedOn};
 
-use crate::unread::tell_not_whole;
-use base_device::{ByteSink, FileSource, MAX_IDLE_WRITES, MAX_READS, Status, read_input, tell};
+use base_device::{
+    ByteSink, FileSource, MAX_IDLE_WRITES, MAX_READS, Status, read_input, tell, tell_unread,
+};
 use law_text::put_book;
 use role_tables::{all_laws, table_named};
 use std::alloc::{AllocError, Global};
@@ -127,11 +128,11 @@ pub(crate) fn walk<I: FileSource, O: ByteSink>(
 {
     let table_text = match read_input(alloc, Some(table), source) {
         Ok(text) => text,
-        Err(why) => return tell_not_whole(alloc, Some(table), why, sink),
+        Err(why) => return tell_unread(alloc, Some(table), why, sink),
     };
     let event_text = match read_input(alloc, events, source) {
         Ok(text) => text,
-        Err(why) => return tell_not_whole(alloc, events, why, sink),
+        Err(why) => return tell_unread(alloc, events, why, sink),
     };
     walk_all(alloc, manner_of(why, from), &table_text, &event_text, sink)
 }

@@ -38,14 +38,26 @@ asm_app = with_rule (new_app (codes "asm")) (new_rule (codes "TABLE"))
 abbrev pub list_app : App
 list_app = with_rule (new_app (codes "list")) (new_rule (codes "FILE"))
 
+-- `run`, with CONFIG and SCRIPT
+abbrev pub run_values : App
+run_values = with_rule (with_rule (new_app (codes "run")) (new_rule (codes "CONFIG"))) (new_rule (codes "SCRIPT"))
+
+-- and `--quiet`, `--sent` and `--totals`, or `--sample`
+abbrev pub run_app : App
+run_app = with_rule (with_rule (with_rule (with_rule run_values (flag_rule (codes "quiet"))) (flag_rule (codes "sent"))) (flag_rule (codes "totals"))) (flag_rule (codes "sample"))
+
 -- `dbench`, with a version, of which a command is required: `read` and `walk`
 abbrev pub walking_app : App
 walking_app =
     with_subcommand (with_subcommand (on_top (λ s. record s { has_version = true; subcommand_required = true }) (new_app (codes "dbench"))) read_app.top) walk_app.top
 
 -- the same, and what else is done with a table and with its image: `draw`, `asm` and `list`
+abbrev pub table_app : App
+table_app = with_subcommand (with_subcommand (with_subcommand walking_app draw_app.top) asm_app.top) list_app.top
+
+-- the same, and what is done with a node: `run`
 abbrev pub dbench_app : App
-dbench_app = with_subcommand (with_subcommand (with_subcommand walking_app draw_app.top) asm_app.top) list_app.top
+dbench_app = with_subcommand table_app run_app.top
 
 -- what is wrong with the words, or which text they ask for; nothing where they are a command
 unfoldable pub word_faults : List Text → Kinds
@@ -53,7 +65,8 @@ word_faults words = fault_of dbench_app words
 
 -- what a command asks for: messages in a style, each line by itself or not, by the dictionary of a file or without one, of this file or of standard input; a walk, which says why or doesn't,
 -- from where it is told or from the start, of a table over events of a file or of standard input; the names that tables may use; the table of a role; the graph or the image of a table
--- of a file or of standard input; what such an image holds, in words; or not one thing
+-- of a file or of standard input; what such an image holds, in words; a run, which is quiet or not, and tells what was sent and the
+-- totals or not, of a node over a script of a file or of standard input; a small CONFIG; or not one thing
 pub data Wanted : Type 0 where
   Read : Style → Bool → (dictionary file : Option Text) → Wanted
   Walk : (why : Bool) → (from : Option Text) → (table : Text) → (events : Option Text) → Wanted
@@ -62,6 +75,8 @@ pub data Wanted : Type 0 where
   Draw : Option Text → Wanted
   Assemble : Option Text → Wanted
   ListImage : Option Text → Wanted
+  Run : (quiet sent totals : Bool) → (config : Text) → (script : Option Text) → Wanted
+  Sample : Wanted
   Nothing : Wanted
 
 -- what `walk` asks for: by its flags `names` and `why`, NAME, FROM, TABLE and EVENTS
@@ -70,6 +85,12 @@ walk_wanted true false None None None None = Names
 walk_wanted false false (Some role) None None None = Table role
 walk_wanted false why None from (Some table) events = Walk why from table events
 walk_wanted names why role from table events = Nothing
+
+-- what `run` asks for: by its flags, CONFIG and SCRIPT
+abbrev pub run_wanted : (sample quiet sent totals : Bool) → (config script : Option Text) → Wanted
+run_wanted true false false false None None = Sample
+run_wanted false quiet sent totals (Some config) script = Run quiet sent totals config script
+run_wanted sample quiet sent totals config script = Nothing
 
 -- a flag that was given has this value
 abbrev pub is_given : Option Text → Bool
@@ -82,6 +103,14 @@ read_wanted true false by_line dictionary file = Read Explained by_line dictiona
 read_wanted false true by_line dictionary file = Read Json by_line dictionary file
 read_wanted true true by_line dictionary file = Nothing
 
+-- what `run` asks for, by what stands behind it
+abbrev pub run_in : List Row → Wanted
+run_in rows =
+    run_wanted (is_given (first_of (codes "sample") rows)) (is_given (first_of (codes "quiet") rows)) (is_given (first_of (codes "sent") rows))
+    (is_given (first_of (codes "totals") rows))
+    (first_of (codes "CONFIG") rows)
+    (first_of (codes "SCRIPT") rows)
+
 -- what a command asks for, by its name and what stands behind it
 abbrev pub wanted_of : Option (Text × List Row) → Wanted
 wanted_of None = Read Plain false None None
@@ -89,6 +118,7 @@ wanted_of (Some used) =
     if bytes_eq used.0 (codes "draw") then Draw (first_of (codes "TABLE") used.1)
     else if bytes_eq used.0 (codes "asm") then Assemble (first_of (codes "TABLE") used.1)
     else if bytes_eq used.0 (codes "list") then ListImage (first_of (codes "FILE") used.1)
+    else if bytes_eq used.0 (codes "run") then run_in used.1
     else if bytes_eq used.0 (codes "walk")
     then walk_wanted (is_given (first_of (codes "names") used.1)) (is_given (first_of (codes "why") used.1)) (first_of (codes "NAME") used.1) (first_of (codes "FROM") used.1) (first_of (codes "TABLE") used.1) (first_of (codes "EVENTS") used.1)
     else read_wanted (is_given (first_of (codes "explain") used.1)) (is_given (first_of (codes "json") used.1)) (is_given (first_of (codes "lines") used.1)) (first_of (codes "DICT") used.1) (first_of (codes "FILE") used.1)

@@ -3,11 +3,11 @@ ghost use Rattle.std.specs.Prelude.{◌≡◌, IfOk, codes, false, true};
 ghost use Rattle.clap.specs.Simple.{on_top};
 ghost use Rattle.clap.specs.Words.{app_of, new_app, new_rule, rule_of, with_rule, with_subcommand};
 ghost use Rattle.clap.specs.declared.builder.command.Command.TheViews.{out-Command};
-ghost use Rattle.cmd_words.specs.Words.{dbench_app, flag_rule, option_rule, read_app, walk_app, walking_app};
+ghost use Rattle.cmd_words.specs.Words.{dbench_app, flag_rule, option_rule, read_app, run_app, run_values, table_app, walk_app, walking_app};
 
 use crate::texts::{
     ABOUT, ASM_ABOUT, ASM_LONG_ABOUT, DRAW_ABOUT, DRAW_LONG_ABOUT, LIST_ABOUT, LIST_LONG_ABOUT,
-    READ_ABOUT, READ_LONG_ABOUT, STATUSES, WALK_ABOUT, WALK_LONG_ABOUT,
+    READ_ABOUT, READ_LONG_ABOUT, RUN_ABOUT, RUN_LONG_ABOUT, STATUSES, WALK_ABOUT, WALK_LONG_ABOUT,
 };
 use clap::{Arg, ArgAction, Command};
 use std::alloc::{AllocError, Global};
@@ -184,6 +184,46 @@ fn walk_command<'a>(alloc: Global) -> Result<Command<'a>, AllocError>
     )
 }
 
+/// `run`, with its values.
+fn run_values<'a>(alloc: Global) -> Result<Command<'a>, AllocError>
+    ensures app { IfOk result (λ c. app_of c ≡ run_values) }
+    ensures local { IfOk result (λ c. (out-Command c).has_globals ≡ false) }
+{
+    let command = with_value(
+        alloc,
+        bare(alloc, "run", RUN_ABOUT, RUN_LONG_ABOUT),
+        "CONFIG",
+        "The file of the nodes, whose first is run",
+    )?;
+    with_value(
+        alloc,
+        command,
+        "SCRIPT",
+        "The file of the script; without it, standard input",
+    )
+}
+
+fn run_command<'a>(alloc: Global) -> Result<Command<'a>, AllocError>
+    ensures app { IfOk result (λ c. app_of c ≡ run_app) }
+    ensures local { IfOk result (λ c. (out-Command c).has_globals ≡ false) }
+{
+    let command = run_values(alloc)?;
+    let command = with_flag(alloc, command, "quiet", "Print no steps")?;
+    let command = with_flag(
+        alloc,
+        command,
+        "sent",
+        "Print at the end where each connection stands, and all that it sent",
+    )?;
+    let command = with_flag(
+        alloc,
+        command,
+        "totals",
+        "Print at the end what stands on each account",
+    )?;
+    with_flag(alloc, command, "sample", "Print a small CONFIG")
+}
+
 /// The program's command, with none below it.
 fn top<'a>(alloc: Global) -> Command<'a>
     ensures { app_of result ≡ on_top (λ s. record s { has_version = true; subcommand_required = true }) (new_app (codes "dbench")) }
@@ -229,9 +269,9 @@ fn walking_command<'a>(alloc: Global) -> Result<Command<'a>, AllocError>
     with_command(command, walk)
 }
 
-/// The program's command.
-pub(crate) fn command<'a>(alloc: Global) -> Result<Command<'a>, AllocError>
-    ensures { IfOk result (λ c. app_of c ≡ dbench_app) }
+/// The program's command, with those of messages and tables below it.
+fn table_command<'a>(alloc: Global) -> Result<Command<'a>, AllocError>
+    ensures { IfOk result (λ c. app_of c ≡ table_app) }
 {
     let command = walking_command(alloc)?;
     let command = with_file_command(
@@ -255,4 +295,13 @@ pub(crate) fn command<'a>(alloc: Global) -> Result<Command<'a>, AllocError>
         (LIST_ABOUT, LIST_LONG_ABOUT),
         ("FILE", "The file of the image; without it, standard input"),
     )
+}
+
+/// The program's command.
+pub(crate) fn command<'a>(alloc: Global) -> Result<Command<'a>, AllocError>
+    ensures { IfOk result (λ c. app_of c ≡ dbench_app) }
+{
+    let command = table_command(alloc)?;
+    let run = run_command(alloc)?;
+    with_command(command, run)
 }

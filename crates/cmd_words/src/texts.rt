@@ -19,8 +19,8 @@ which octet; `bad hex` and `frame fault` with the character or octet of the inpu
 
 With --json it says the same as objects of JSON, one in a line; docs/JSON.md lists the keys.
 
-With --lines each line is read by itself, as an input of its own, so that a bad one doesn't end the rest; its first
-message has the number of the line. `line 3: bad hex` tells the line, counted from 1.
+With --lines each line is read by itself, as an input of its own, so that a bad one doesn't end the rest. With --explain and
+--json each message then tells its line, counted from 1, apart from its own number. `line 3: bad hex` tells a bad line.
 
 With --dict the AVPs of a dictionary are read and named too. It is a text, a line an AVP: CODE[/VENDOR] NAME KIND
 [VALUE=NAME ..], where KIND is Unsigned32, Unsigned64, Enumerated, UTF8String, DiameterIdentity, Address, Grouped, Time or
@@ -58,7 +58,7 @@ the one taken its first guard that says no, with the first test of its law that 
 
 Nothing is stepped where something is wrong. `line N fault C` is the first fault of the table, `unbound NAME` a name
 of the table that `--names` doesn't list, `bad start` a --from of another form, `bad line N` the first line of events that
-is none, from 1; the lines below say what was wanted. `bad hex` and `at N fault C` are what is wrong with an image; `list --help` says more. TABLE is an
+is none, from 1; the lines below say where, what was wanted, what is wrong, and which name is near. `bad hex` and `at N fault C` are what is wrong with an image; `list --help` says more. TABLE is an
 image where its first character that is no blank is a hexadecimal digit.";
 
 pub(crate) const DRAW_ABOUT: &str = "Draw a state table as a graph, for Graphviz";
@@ -67,13 +67,13 @@ pub(crate) const DRAW_LONG_ABOUT: &str = "\
 Draw a state table as a graph, for Graphviz.
 
 Reads TABLE, whose columns are State, Event, Action and Next. Each state is a box, the first is that in which a machine
-starts. Each row that leaves its state is an arrow with the row's number (from 0), its kind of events and its guards; the
-rows that stay in a state stand in its box, and have one arrow together.
+starts. From a state to another one goes one arrow, with a line for each of its rows: the row's number (from 0), its kind of
+events and its guards. The rows that stay in a state stand in its box, and have one arrow together.
 
   dbench draw peer.tbl | dot -Tsvg > peer.svg
   dbench walk --table server | dbench draw | dot -Grankdir=LR -Tsvg > server.svg
 
-`line N fault C` is the first fault of the table; the line below says what was wanted.";
+`line N fault C` is the first fault of the table; the lines below say what was wanted, and what stands there.";
 
 pub(crate) const ASM_ABOUT: &str = "Assemble a state table to an image";
 
@@ -87,7 +87,7 @@ the code of its rows alone, so a step costs the rows of one state and kind and n
   dbench walk --table client | dbench asm
 
 `line N fault C` is the first fault of the table, `unbound NAME` a name of the table that `walk --names` doesn't list; the
-line below says what was wanted.";
+lines below say in which row it stands, what was wanted, what is wrong, and which name is near.";
 
 pub(crate) const LIST_ABOUT: &str = "List the image of a state table in words";
 
@@ -111,6 +111,41 @@ which the part begins that is wrong. C is 1: no image, 2: the image is cut off, 
 4: a name is misspelled or stands there twice, 5: `walk --names` doesn't list the name, 6: no row begins at the offset and no
 code ends there, 7: a guard leads back, 8: no instruction, 9: the code doesn't end, 10: octets stand behind the code.";
 
+pub(crate) const RUN_ABOUT: &str = "Run a script of steps on a node and print each step";
+
+pub(crate) const RUN_LONG_ABOUT: &str = "\
+Run a script of steps on a node and print each step.
+
+Reads CONFIG, an object of JSON (docs/CONFIG.md), whose first node is opened, and then SCRIPT to its end. A line of SCRIPT is a step:
+
+  join               a connection was accepted; connections (lines) count from 1
+  dialled L          the connection that line L dials is open
+  came L HEX         octets came on line L
+  lost L             line L is lost
+  told D KEY KIND N=V ..   desk D tells a machine an event, as `walk --names` lists them, with facts
+  fired KEY GEN      the timer of a machine fires, as it was armed with that generation
+  lift SRC           the oldest item that SRC put out goes into its hand
+  drop SRC           what is in the hand of SRC goes where it is for
+  work S             shard S handles the oldest item that waits there
+  settle             all of the last three, until nothing waits
+
+SRC is `line L`, `shard S`, `desk D` or `clock`; KEY is p: and a host, c: or s: and a Session-Id. Empty lines, and lines that begin
+with a blank, are skipped, so that what a run prints is a script again.
+
+Each step that is taken prints its line, and under `work` the machine, the event, both states and the row, and each deed. A step
+that can't be taken prints `refused C` and is passed over; C is 1: nothing is there, 2: no such line, machine or kind, 3: the line is
+closed, 4: no room, 6: the shard is paused.
+
+With --sent a line `line N STATE HEX` is printed at the end for each connection: where it stands, and all that it sent. With --totals
+one for each account, `account ID given G reserved R debited D unpaid U`. With --quiet these alone are printed. --sample prints a small CONFIG.
+
+  dbench run --sample > node.json
+  dbench run examples/runs/server.json examples/runs/session.script
+  dbench run --quiet --sent node.json script | grep '^line 1' | cut -d' ' -f4 | dbench read --explain
+
+Nothing is run where something is wrong: `bad line N` is the first line of SCRIPT that has another form, from 1; CONFIG, its tables
+and its dictionary are told with what was wanted.";
+
 /// What is told where `read` asks for two styles.
 pub(crate) const READ_USAGE: &str = "\
 wanted at most one of: --explain, --json
@@ -127,6 +162,16 @@ wanted one of: a TABLE, --names, --table NAME
 Usage: dbench walk [--why] [--from 'STATE rN=V ..'] TABLE [EVENTS]
        dbench walk --names
        dbench walk --table NAME
+
+For more information, try '--help'.
+";
+
+/// What is told where `run` asks for not one thing.
+pub(crate) const RUN_USAGE: &str = "\
+wanted one of: a CONFIG, --sample
+
+Usage: dbench run [--quiet] [--sent] [--totals] CONFIG [SCRIPT]
+       dbench run --sample
 
 For more information, try '--help'.
 ";

@@ -2,11 +2,11 @@
 ghost use Rattle.std.specs.Prelude.{◌≡◌, Some, map, option_map};
 ghost use Rattle.clap.specs.Words.{first_of, found_of, kind_of, rows_of};
 ghost use Rattle.cmd_words.specs.declared.words.WordsError.TheVariants.{NoMemory};
-ghost use Rattle.cmd_words.specs.Words.{is_given, read_wanted, walk_wanted, wanted_of};
+ghost use Rattle.cmd_words.specs.Words.{is_given, read_wanted, run_in, run_wanted, walk_wanted, wanted_of};
 ghost use Rattle.cmd_words.specs.Asked.{IsAsked, IsRefusal, meaning};
 
 use crate::commands::command;
-use crate::texts::{READ_USAGE, WALK_USAGE};
+use crate::texts::{READ_USAGE, RUN_USAGE, WALK_USAGE};
 use clap::error::ErrorKind;
 use clap::{ArgMatches, Error};
 use msg_input::Style;
@@ -60,6 +60,11 @@ pub enum Task<'a> {
     Assemble(Option<&'a str>),
     /// `list`, of the image of this file or of standard input.
     ListImage(Option<&'a str>),
+    /// `run`, quiet or not, telling what was sent and the totals or not, of the first node of this file, over the script of this
+    /// file or of standard input.
+    Run(bool, bool, bool, &'a str, Option<&'a str>),
+    /// A small CONFIG.
+    Sample,
     /// Not one thing: what is told then.
     Nothing(&'static str),
 }
@@ -156,11 +161,48 @@ fn walk_task<'a>(
     }
 }
 
+/// What `run` asks for, by its flags, CONFIG and SCRIPT.
+fn run_task<'a>(
+    sample: bool,
+    quiet: bool,
+    sent: bool,
+    totals: bool,
+    config: Option<&'a str>,
+    script: Option<&'a str>,
+) -> Task<'a>
+    ensures { meaning result ≡ run_wanted sample quiet sent totals (option_map (λ text. text.now) config.entry) (option_map (λ text. text.now) script.entry) }
+{
+    match (sample, quiet, sent, totals, config, script) {
+        (true, false, false, false, None, None) => Task::Sample,
+        (false, _, _, _, Some(config), _) => Task::Run(quiet, sent, totals, config, script),
+        _ => Task::Nothing(RUN_USAGE),
+    }
+}
+
 /// The value of an argument, if it has one.
 fn value_of<'a>(found: &ArgMatches<'a>, id: &str) -> Option<&'a str>
     ensures { option_map (λ text. text.now) result ≡ first_of id.now (rows_of (found_of found.now)) }
 {
     found.get_str(id)
+}
+
+/// What `run` asks for.
+fn run_task_of<'a>(found: &ArgMatches<'a>) -> Task<'a>
+    ensures { meaning result ≡ run_in (rows_of (found_of found.now)) }
+{
+    let sample = is_given(value_of(found, "sample"));
+    let quiet = is_given(value_of(found, "quiet"));
+    let sent = is_given(value_of(found, "sent"));
+    let totals = is_given(value_of(found, "totals"));
+    let config = value_of(found, "CONFIG");
+    run_task(
+        sample,
+        quiet,
+        sent,
+        totals,
+        config,
+        value_of(found, "SCRIPT"),
+    )
 }
 
 /// What a command asks for, by its name and what stands behind it.
@@ -175,6 +217,9 @@ fn task_of<'a>(name: &str, found: &ArgMatches<'a>) -> Task<'a>
     }
     if name == "list" {
         return Task::ListImage(value_of(found, "FILE"));
+    }
+    if name == "run" {
+        return run_task_of(found);
     }
     if name == "walk" {
         let names = is_given(value_of(found, "names"));

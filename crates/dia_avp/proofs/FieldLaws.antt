@@ -1,8 +1,11 @@
 -- Data of a type, against the tests that say whether data are of it.
-use Rattle.std.proofs.Common.{◌≡◌, ◌≢◌, ℕ, ◌-◌, ◌<◌, ◌≤◌, Bool, true, false, List, ◌++◌, length, take, drop, refl, sym, ap, ◌∙◌, arith}
-use Rattle.std.specs.Str.{IsUtf8, is_utf8}
+use Rattle.std.proofs.Common.{◌≡◌, ◌≢◌, ℕ, ◌-◌, ◌<◌, ◌≤◌, Bool, true, false, List, [], ◌∷◌, ◌++◌, zero, suc, All, get_or, length, take, drop, refl, sym, ap, ◌∙◌, arith}
+use Rattle.std.specs.Prelude.{Any, MatchBool}
+use Rattle.std.specs.Str.{IsUtf8, is_utf8, IsAscii, IsNotAscii}
 use Rattle.std.proofs.lemmas.Str.{IsUtf8-from_is_utf8}
 use Rattle.std.proofs.lemmas.Bool.{le-ltb, lt-ltb, ne_eqb}
+use Rattle.std.proofs.lemmas.Grind.{get_or_default_zero}
+use Rattle.std.proofs.lemmas.List.Elements.{All-from_get_or}
 use Rattle.std.proofs.lemmas.List.{take_all, take-append-drop, length-drop}
 use Rattle.byteorder.specs.Endian.{big_bytes, big_number}
 use Rattle.byteorder.specs.Numbers.{big_number-reads_back}
@@ -51,3 +54,17 @@ family_and octets family fits le e =
     let all : take (length octets - 2) (drop 2 octets) ≡ drop 2 octets = take_all (length octets - 2) (drop 2 octets) (omega (arith, length-drop 2 octets)) in
     let two : big_bytes 2 family ≡ take 2 octets = ap (big_bytes 2) e ∙ big_bytes_2 octets le fits in
     sym (take-append-drop 2 octets) ∙ cc
+
+-- what std's test of ASCII says of each octet
+within : (octets : List ℕ) (i : ℕ) → 128 ≤ get_or octets i 0 → i < length octets
+within [] i le = absurd (omega arith)
+within (o ∷ octets) zero le = omega arith
+within (o ∷ octets) (suc i) le = omega (arith, within octets i le)
+
+pub all_ascii : (b : Bool) (octets : List ℕ) → MatchBool b (IsAscii octets) (IsNotAscii octets) → b ≡ true → All (λ o. o < 128) octets
+all_ascii true octets h e = All-from_get_or (λ o. o < 128) octets 0 (λ i lt. h i)
+all_ascii false octets h e = absurd cc
+
+pub any_ascii : (b : Bool) (octets : List ℕ) → MatchBool b (IsAscii octets) (IsNotAscii octets) → b ≡ false → Any (λ o. 128 ≤ o) octets
+any_ascii true octets h e = absurd cc
+any_ascii false octets h e = let lt = within octets h.0 h.1 in (h.0, get_or octets h.0 0, lt, get_or_default_zero octets h.0 (get_or octets h.0 0) lt, h.1)

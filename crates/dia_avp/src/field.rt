@@ -1,6 +1,6 @@
 //! The data of an AVP as a value of its type (RFC 6733 sections 4.2 and 4.3.1).
 
-ghost use Rattle.std.specs.Prelude.{◌≡◌, ◌≢◌, ◌≤◌, ◌<◌, length, All, Any, IfOk, IfErr};
+ghost use Rattle.std.specs.Prelude.{◌≡◌, ◌≢◌, ◌≤◌, ◌<◌, true, false, length, All, Any, IfOk, IfErr};
 ghost use Rattle.std.specs.Str.{IsUtf8};
 ghost use Rattle.dia_avp.specs.Field.{IsUnsigned32, IsUnsigned64};
 
@@ -26,6 +26,14 @@ fn unsigned64(octets: &[u8]) -> Result<u64, FieldFault>
         return Err(FieldFault::BadLength);
     }
     Ok(BigEndian::read_u64(octets))
+}
+
+// Whether no octet is over 0x7f: eight are looked at in one step.
+fn is_ascii(octets: &[u8]) -> bool
+    ensures all { result ≡ true → All (λ o. o < 128) octets.now }
+    ensures any { result ≡ false → Any (λ o. 128 ≤ o) octets.now }
+{
+    octets.is_ascii()
 }
 
 impl<'a> AvpView<'a> {
@@ -61,7 +69,7 @@ impl<'a> AvpView<'a> {
         ensures value { IfOk result (λ x. (x.now ≡ self.now.octets.now) × All (λ o. o < 128) x.now) }
         ensures refused { IfErr result (λ f. (f ≡ FieldFault.BadValue) × Any (λ o. 128 ≤ o) self.now.octets.now) }
     {
-        if self.octets.iter().any(|o| *o > 0x7f) {
+        if !is_ascii(self.octets) {
             return Err(FieldFault::BadValue);
         }
         Ok(self.octets)

@@ -48,6 +48,7 @@ fn put(out: &mut Vec<u8>, octets: &[u8])
     out.extend_from_slice(octets).unwrap();
 }
 
+#[inline(always)]
 fn put_vendor(out: &mut Vec<u8>, vendor: Option<u32>)
     requires { vec_len out.old + length (vendor_id vendor) ≤ vec_capacity out.old }
     ensures items { out.new.items ≡ out.old.items ++ vendor_id vendor }
@@ -64,6 +65,7 @@ fn put_vendor(out: &mut Vec<u8>, vendor: Option<u32>)
     }
 }
 
+#[inline(always)]
 fn put_padding(out: &mut Vec<u8>, count: usize)
     requires small { count ≤ 3 }
     requires room { vec_len out.old + count ≤ vec_capacity out.old }
@@ -80,6 +82,7 @@ fn put_padding(out: &mut Vec<u8>, count: usize)
 
 /// Appends the canonical encoding of an AVP (RFC 6733 section 4.1) to octets that have room for it. Takes no memory.
 #[tactic(auto, unfolding(crate::specs::Encoding::encoded))]
+#[inline(always)]
 pub fn put_avp(avp: &AvpView<'_>, out: &mut Vec<u8>)
     requires short { length_of (seen avp.now) < 2 ^ 24 }
     requires room { vec_len out.old + length (encoded (seen avp.now)) ≤ vec_capacity out.old }

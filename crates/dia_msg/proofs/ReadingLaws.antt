@@ -32,7 +32,10 @@ use Rattle.dia_msg.specs.Taken.{missing, groups, untaken}
 use Rattle.dia_msg.specs.Faults.{header_faults, is_credit, is_event, has_failed, answer_as, read_as, kind_read, format_read, has_services, instances, has_twice, missing_faults, services_faults, HasFaults}
 use Rattle.dia_msg.specs.Reading.{AreFields, Means, IsReading, IsOnlyReading, UnlessNoMemory, MayNeedMemory}
 use Rattle.dia_msg.specs.Source.{IsBuilt}
-use Rattle.dia_msg.specs.Walk.{whole_avps, groups_in, later_faults, faults, IsErrorOf, IsOutcome}
+use Rattle.dia_msg.specs.Walk.{whole_avps, groups_in, later_faults, faults, IsErrorOf, IsDecided, IsOutcome}
+use Rattle.dia_msg.specs.declared.sorting.Sorted.{Sorted}
+use Rattle.dia_tree.specs.declared.fault.FaultView.{FaultView}
+use Rattle.dia_tree.specs.View.{seen_fault}
 use Rattle.dia_msg.proofs.SpreadLemmas.{untaken-All}
 use Rattle.dia_command.proofs.SameLaws.{same}
 use Rattle.dia_msg.proofs.FieldLaws.{same_fields}
@@ -288,3 +291,21 @@ outcome_made added header list k (Err e) none kind built wanting = rw wanting (o
 pub ran_out : (r : Result Command MsgError) → IsErrOf r msg_errors.NoMemory → r ≡ Err msg_errors.NoMemory
 ran_out (Ok c) h = absurd cc
 ran_out (Err e) h = let is : e ≡ msg_errors.NoMemory = cc in rw is refl
+
+-- no fault was found up to here
+pub sound_as : (d : List Definition) (octets : List ℕ) (fs : List MsgFault) (first : Option FaultView) → header_faults octets ≡ [] → HasMessageFaults d (is_credit (header_in octets)) (drop 20 octets) fs
+    → option_map seen_fault first ≡ slice_get fs 0 → first ≡ None → Sound d octets
+sound_as d octets fs first header h is none = record {
+  header = header;
+  inner = inner_none d octets fs h (ap (λ (o : Option FaultView). option_map seen_fault o) (sym none) ∙ is);
+}
+
+-- the command that is made of AVPs that were sorted
+pub decided_made : (added : List Definition) (header : Header) (list : List Avp) (s : Sorted) (event : Bool) (kind : CommandKind) (c : Command) → event ≡ is_event header list → IsDecided (known added) header list s kind
+    → IsBuilt added (format_of kind event) list kind header c → IsOutcome added header list (Ok c)
+decided_made added header list s event kind c e decided built = (
+  decided.clean,
+  kind,
+  decided.kind,
+  subst (λ (fs : List AvpFormat). IsBuilt added fs list kind header c) (sym (format_known header list kind decided.kind)) (subst (λ (b : Bool). IsBuilt added (format_of kind b) list kind header c) e built),
+)

@@ -13,8 +13,12 @@ use Rattle.dia_command.specs.declared.kind.CommandKind.{CommandKind}
 use Rattle.dia_command.specs.Header.{header_in}
 use Rattle.dia_msg.specs.declared.fault.MsgError.{MsgError}
 use Rattle.dia_msg.specs.declared.fault.MsgError.TheVariants as msg_errors
+use Rattle.dia_command.specs.Format.{format_of}
+use Rattle.dia_msg.specs.Taken.{missing}
 use Rattle.dia_msg.specs.Faults.{header_faults, is_event, first_number, kind_read, format_read, instances, missing_faults, services_faults}
+use Rattle.dia_msg.specs.Sorting.{IsSorted}
 use Rattle.dia_msg.specs.Source.{IsBuilt}
+use Rattle.dia_msg.specs.declared.sorting.Sorted.{Sorted}
 
 -- the whole AVPs of a message, behind its header
 abbrev pub whole_avps : List ℕ → List Avp
@@ -52,3 +56,10 @@ IsOutcome added header list (Ok c) =
     (later_faults (known added) header list ≡ []) × (kind : CommandKind) × (kind_read header list ≡ Some kind) × IsBuilt added (format_read header list) list kind header c
 IsOutcome added header list (Err msg_errors.NoMemory) = (f : MsgFault) → slice_get (later_faults (known added) header list) 0 ≡ Some f → HasLongData f.failed
 IsOutcome added header list (Err (msg_errors.Fault f)) = slice_get (later_faults (known added) header list) 0 ≡ Some f
+
+-- the AVPs of a message have none of the other faults; they are read as a kind, and sorted by its format, of which none is missing
+pub record IsDecided (definitions : List Definition) (header : Header) (list : List Avp) (s : Sorted) (k : CommandKind) : Type 0 where
+  pub kind : kind_read header list ≡ Some k
+  pub clean : later_faults definitions header list ≡ []
+  pub sorted : IsSorted (format_of k (is_event header list)) list s
+  pub complete : missing (format_of k (is_event header list)) list ≡ []

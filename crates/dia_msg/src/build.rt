@@ -1,12 +1,11 @@
 //! From the AVPs of a message, sorted by the format of its command, to the command: each field is made of the AVPs that its
 //! entry takes, and the rest of those that no entry takes. The numbers are the places of the fields in the format.
 
-ghost use Rattle.std.specs.Prelude.{◌≡◌, IfOk, IfErr, false};
+ghost use Rattle.std.specs.Prelude.{◌≡◌, false};
 ghost use Rattle.dia_command.specs.Format.{format_of};
 ghost use Rattle.dia_msg.specs.Sorting.{seen_all};
 ghost use Rattle.dia_msg.specs.Source.{IsReady, IsBuilt};
 
-use crate::fault::MsgError;
 use crate::source::Source;
 use dia_command::{
     CapabilitiesExchangeAnswer, CapabilitiesExchangeRequest, Command, CommandKind,
@@ -15,6 +14,7 @@ use dia_command::{
 };
 
 impl Source<'_> {
+    #[inline(never)]
     fn capabilities_exchange_request(&self, header: Header, wanting: &mut bool) -> Command
         requires ready { IsReady self.now.dictionary.now self.now.format.now (seen_all self.now.avps.now) self.now.sorted.now }
         requires format { self.now.format.now ≡ format_of CommandKind.CapabilitiesExchangeRequest false }
@@ -32,6 +32,7 @@ impl Source<'_> {
         })
     }
 
+    #[inline(never)]
     fn capabilities_exchange_answer(&self, header: Header, wanting: &mut bool) -> Command
         requires ready { IsReady self.now.dictionary.now self.now.format.now (seen_all self.now.avps.now) self.now.sorted.now }
         requires format { self.now.format.now ≡ format_of CommandKind.CapabilitiesExchangeAnswer false }
@@ -50,6 +51,7 @@ impl Source<'_> {
         })
     }
 
+    #[inline(never)]
     fn device_watchdog_request(&self, header: Header, wanting: &mut bool) -> Command
         requires ready { IsReady self.now.dictionary.now self.now.format.now (seen_all self.now.avps.now) self.now.sorted.now }
         requires format { self.now.format.now ≡ format_of CommandKind.DeviceWatchdogRequest false }
@@ -63,6 +65,7 @@ impl Source<'_> {
         })
     }
 
+    #[inline(never)]
     fn device_watchdog_answer(&self, header: Header, wanting: &mut bool) -> Command
         requires ready { IsReady self.now.dictionary.now self.now.format.now (seen_all self.now.avps.now) self.now.sorted.now }
         requires format { self.now.format.now ≡ format_of CommandKind.DeviceWatchdogAnswer false }
@@ -77,6 +80,7 @@ impl Source<'_> {
         })
     }
 
+    #[inline(never)]
     fn disconnect_peer_request(&self, header: Header, wanting: &mut bool) -> Command
         requires ready { IsReady self.now.dictionary.now self.now.format.now (seen_all self.now.avps.now) self.now.sorted.now }
         requires format { self.now.format.now ≡ format_of CommandKind.DisconnectPeerRequest false }
@@ -91,6 +95,7 @@ impl Source<'_> {
         })
     }
 
+    #[inline(never)]
     fn disconnect_peer_answer(&self, header: Header, wanting: &mut bool) -> Command
         requires ready { IsReady self.now.dictionary.now self.now.format.now (seen_all self.now.avps.now) self.now.sorted.now }
         requires format { self.now.format.now ≡ format_of CommandKind.DisconnectPeerAnswer false }
@@ -105,6 +110,7 @@ impl Source<'_> {
         })
     }
 
+    #[inline(never)]
     fn re_auth_request(&self, header: Header, wanting: &mut bool) -> Command
         requires ready { IsReady self.now.dictionary.now self.now.format.now (seen_all self.now.avps.now) self.now.sorted.now }
         requires format { self.now.format.now ≡ format_of CommandKind.ReAuthRequest false }
@@ -123,6 +129,7 @@ impl Source<'_> {
         })
     }
 
+    #[inline(never)]
     fn re_auth_answer(&self, header: Header, wanting: &mut bool) -> Command
         requires ready { IsReady self.now.dictionary.now self.now.format.now (seen_all self.now.avps.now) self.now.sorted.now }
         requires format { self.now.format.now ≡ format_of CommandKind.ReAuthAnswer false }
@@ -138,6 +145,7 @@ impl Source<'_> {
         })
     }
 
+    #[inline(never)]
     fn credit_control_request(&self, header: Header, event: bool, wanting: &mut bool) -> Command
         requires ready { IsReady self.now.dictionary.now self.now.format.now (seen_all self.now.avps.now) self.now.sorted.now }
         requires format { self.now.format.now ≡ format_of CommandKind.CreditControlRequest event }
@@ -163,6 +171,7 @@ impl Source<'_> {
         })
     }
 
+    #[inline(never)]
     fn credit_control_answer(&self, header: Header, wanting: &mut bool) -> Command
         requires ready { IsReady self.now.dictionary.now self.now.format.now (seen_all self.now.avps.now) self.now.sorted.now }
         requires format { self.now.format.now ≡ format_of CommandKind.CreditControlAnswer false }
@@ -185,6 +194,7 @@ impl Source<'_> {
         })
     }
 
+    #[inline(never)]
     fn error_answer(&self, header: Header, wanting: &mut bool) -> Command
         requires ready { IsReady self.now.dictionary.now self.now.format.now (seen_all self.now.avps.now) self.now.sorted.now }
         requires format { self.now.format.now ≡ format_of CommandKind.ErrorAnswer false }
@@ -201,7 +211,14 @@ impl Source<'_> {
         })
     }
 
-    fn made(&self, kind: CommandKind, event: bool, header: Header, wanting: &mut bool) -> Command
+    /// The command of a kind with a header; `event` where the message is an EVENT request.
+    pub fn command(
+        &self,
+        kind: CommandKind,
+        event: bool,
+        header: Header,
+        wanting: &mut bool,
+    ) -> Command
         requires ready { IsReady self.now.dictionary.now self.now.format.now (seen_all self.now.avps.now) self.now.sorted.now }
         requires format { self.now.format.now ≡ format_of kind event }
         ensures { wanting.new ≡ false → (wanting.old ≡ false) × IsBuilt self.now.dictionary.now (format_of kind event) (seen_all self.now.avps.now) kind header result }
@@ -225,25 +242,5 @@ impl Source<'_> {
             CommandKind::CreditControlAnswer => self.credit_control_answer(header, wanting),
             CommandKind::ErrorAnswer => self.error_answer(header, wanting),
         }
-    }
-
-    /// The command of a kind with a header; `event` where the message is an EVENT request.
-    pub fn command(
-        &self,
-        kind: CommandKind,
-        event: bool,
-        header: Header,
-    ) -> Result<Command, MsgError>
-        requires ready { IsReady self.now.dictionary.now self.now.format.now (seen_all self.now.avps.now) self.now.sorted.now }
-        requires format { self.now.format.now ≡ format_of kind event }
-        ensures ok { IfOk result (IsBuilt self.now.dictionary.now (format_of kind event) (seen_all self.now.avps.now) kind header) }
-        ensures err { IfErr result (λ e. e ≡ MsgError.NoMemory) }
-    {
-        let mut wanting = false;
-        let command = self.made(kind, event, header, &mut wanting);
-        if wanting {
-            return Err(MsgError::NoMemory);
-        }
-        Ok(command)
     }
 }

@@ -14,7 +14,7 @@ ghost use Rattle.dia_command.specs.Format.{kind_coded, format_of as format_by};
 ghost use Rattle.dia_msg.specs.Faults.{header_faults, kind_in, is_credit as is_credit_by, is_event as is_event_by, has_failed as has_failed_by, answer_as, read_as};
 ghost use Rattle.dia_msg.specs.Sorting.{seen_all, IsSorted};
 ghost use Rattle.dia_msg.specs.Reading.{IsReading, IsOnlyReading, IsReadAgain, UnlessNoMemory, MayNeedMemory};
-ghost use Rattle.dia_msg.specs.Walk.{IsErrorOf, IsOutcome};
+ghost use Rattle.dia_msg.specs.Walk.{IsErrorOf, IsDecided, IsOutcome};
 
 use crate::check::{checked_header, is_credit};
 use crate::fault::{MsgError, error_of};
@@ -62,71 +62,72 @@ fn fault_of(code: ResultCode) -> MsgError
     })
 }
 
-// The kind as which the AVPs of an answer are read, and the AVPs sorted by its format.
-fn answer_sorted(command: CommandKind, error: bool, avps: &[AvpView<'_>]) -> (CommandKind, Sorted)
+// The kind as which the AVPs of an answer are read; they are sorted by its format.
+fn sort_answer(
+    command: CommandKind,
+    error: bool,
+    avps: &[AvpView<'_>],
+    sorted: &mut Sorted,
+) -> CommandKind
     requires { length avps.now ≤ 128 }
-    ensures kind { result.0 ≡ answer_as command error (seen_all avps.now) }
-    ensures sorted { IsSorted (format_by result.0 false) (seen_all avps.now) result.1 }
+    ensures kind { result ≡ answer_as command error (seen_all avps.now) }
+    ensures sorted { IsSorted (format_by result false) (seen_all avps.now) sorted.new }
 {
     let format = format_of(command, false);
-    let sorted = sort(format, avps);
+    sort(format, avps, sorted);
     if error || has_failed(avps) && sorted.missing(format).is_some() {
         let kind = CommandKind::ErrorAnswer;
-        return (kind, sort(format_of(kind, false), avps));
+        sort(format_of(kind, false), avps, sorted);
+        return kind;
     }
-    (command, sorted)
+    command
 }
 
-// The kind as which AVPs are read, and the AVPs sorted by its format.
+// The kind as which AVPs are read; they are sorted by its format.
 fn sort_as(
     command: CommandKind,
     header: &Header,
     event: bool,
     avps: &[AvpView<'_>],
-) -> (CommandKind, Sorted)
+    sorted: &mut Sorted,
+) -> CommandKind
     requires few { length avps.now ≤ 128 }
     requires event { event ≡ is_event_by header.now (seen_all avps.now) }
-    ensures kind { result.0 ≡ read_as command header.now.flags (seen_all avps.now) }
-    ensures sorted { IsSorted (format_by result.0 event) (seen_all avps.now) result.1 }
+    ensures kind { result ≡ read_as command header.now.flags (seen_all avps.now) }
+    ensures sorted { IsSorted (format_by result event) (seen_all avps.now) sorted.new }
 {
     if header.flags.request {
-        return (command, sort(format_of(command, event), avps));
+        sort(format_of(command, event), avps, sorted);
+        return command;
     }
-    answer_sorted(command, header.flags.error, avps)
+    sort_answer(command, header.flags.error, avps, sorted)
 }
 
-// What is made of the AVPs of a message where its header and they have no fault: the first of the other faults, or the
-// command. Memory is asked for by a fault's copy and by the command alone.
-fn outcome(
+// The kind as which AVPs are read where the header and they have no fault, or the first of the other faults; the AVPs are
+// sorted by its format.
+fn kind_of(
     alloc: Global,
     dictionary: &Dictionary,
     header: &Header,
     command: CommandKind,
+    event: bool,
     avps: &[AvpView<'_>],
-) -> Result<Command, MsgError>
+    sorted: &mut Sorted,
+) -> Result<CommandKind, MsgError>
     requires known { kind_coded header.now.command header.now.flags.request ≡ Some command }
     requires few { length avps.now ≤ 128 }
-    requires good { All (IsGood (known dictionary.now) (is_event_by header.now (seen_all avps.now)) 4) (seen_all avps.now) }
-    requires short { All (λ a. length_of a < 2 ^ 24) (seen_all avps.now) }
-    ensures { IsOutcome dictionary.now header.now (seen_all avps.now) result }
+    requires event { event ≡ is_event_by header.now (seen_all avps.now) }
+    ensures ok { IfOk result (λ kind. IsDecided (known dictionary.now) header.now (seen_all avps.now) sorted.new kind) }
+    ensures err { IfErr result (λ e. IsOutcome dictionary.now header.now (seen_all avps.now) (Err e)) }
 {
-    let event = is_event(header, avps);
-    let (kind, sorted) = sort_as(command, header, event, avps);
-    let format = format_of(kind, event);
-    if let Some(entry) = sorted.missing(format) {
+    let kind = sort_as(command, header, event, avps, sorted);
+    if let Some(entry) = sorted.missing(format_of(kind, event)) {
         return Err(error_of(alloc, &missing_fault(dictionary, entry.code)));
     }
     if has_services(kind) && are_faulty(event, avps) {
         return Err(fault_of(ResultCode::UnableToComply));
     }
-    let source = Source {
-        alloc,
-        dictionary,
-        format,
-        avps,
-        sorted: &sorted,
-    };
-    source.command(kind, event, *header)
+    Ok(kind)
 }
 
 // Nothing where AVPs have no fault, and else the error for their first.
@@ -160,7 +161,31 @@ fn concluded(
     ensures memory { IsErrOf result MsgError.NoMemory → MayNeedMemory (known dictionary.now) octets.now }
 {
     without_fault(alloc, first)?;
-    outcome(alloc, dictionary, &header_of(octets), command, avps)
+    let header = header_of(octets);
+    let event = is_event(&header, avps);
+    let mut sorted = Sorted::new();
+    let kind = kind_of(
+        alloc,
+        dictionary,
+        &header,
+        command,
+        event,
+        avps,
+        &mut sorted,
+    )?;
+    let source = Source {
+        alloc,
+        dictionary,
+        format: format_of(kind, event),
+        avps,
+        sorted: &sorted,
+    };
+    let mut wanting = false;
+    let command = source.command(kind, event, header, &mut wanting);
+    if wanting {
+        return Err(MsgError::NoMemory);
+    }
+    Ok(command)
 }
 
 // A message of any number of AVPs, whose header has no fault.
@@ -186,27 +211,6 @@ fn reading_of_many(
     }
 }
 
-// Most messages have few AVPs; the room for 128 is large, and made only where it is needed.
-fn reading_of(alloc: Global, dictionary: &Dictionary, octets: &[u8]) -> Result<Command, MsgError>
-    ensures reading { UnlessNoMemory result (IsReading (known dictionary.now) octets.now) }
-    ensures memory { IsErrOf result MsgError.NoMemory → MayNeedMemory (known dictionary.now) octets.now }
-{
-    let (header, command) = match checked_header(octets) {
-        Ok(known) => known,
-        Err(result) => return Err(fault_of(result)),
-    };
-    let mut avps = FixedList::<AvpView<'_>, FEW_AVPS>::new();
-    match survey(
-        dictionary,
-        is_credit(&header),
-        &octets[HEADER_LEN..],
-        &mut avps,
-    ) {
-        Ok(first) => concluded(alloc, dictionary, octets, command, &first, avps.as_slice()),
-        Err(NoRoom) => reading_of_many(alloc, dictionary, octets, command),
-    }
-}
-
 /// The command that the octets of one message mean (RFC 6733 sections 3 and 4), or its first fault.
 pub fn read_message(
     alloc: Global,
@@ -223,5 +227,20 @@ pub fn read_message(
     // The encoding of what was read is read as the same.
     ensures again { IfOk result (IsReadAgain (known dictionary.now)) }
 {
-    reading_of(alloc, dictionary, octets)
+    let (header, command) = match checked_header(octets) {
+        Ok(known) => known,
+        Err(result) => return Err(fault_of(result)),
+    };
+    // Most messages have few AVPs; the room for 128 is large, and made only where it is needed.
+    let mut avps = FixedList::<AvpView<'_>, FEW_AVPS>::new();
+    let first = match survey(
+        dictionary,
+        is_credit(&header),
+        &octets[HEADER_LEN..],
+        &mut avps,
+    ) {
+        Ok(first) => first,
+        Err(NoRoom) => return reading_of_many(alloc, dictionary, octets, command),
+    };
+    concluded(alloc, dictionary, octets, command, &first, avps.as_slice())
 }

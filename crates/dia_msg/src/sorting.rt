@@ -1,6 +1,6 @@
 //! The AVPs of a message sorted by a command's format, in one pass and without memory.
 
-ghost use Rattle.std.specs.Prelude.{◌≡◌, ◌≤◌, ◌<◌, All, IfSome, None, Some, length, true, false, slice_get, get_or, List};
+ghost use Rattle.std.specs.Prelude.{◌≡◌, ◌≤◌, ◌<◌, All, IfSome, None, Some, length, true, false, slice_get, get_or, replicate, [], List};
 ghost use Rattle.std.specs.Option.{option_map};
 ghost use Rattle.dia_avp.specs.View.{seen};
 ghost use Rattle.dia_avp.specs.declared.avp.Avp.{Avp};
@@ -50,17 +50,14 @@ fn entry_of(format: &[AvpFormat], next: usize, avp: &AvpView<'_>) -> Option<usiz
     }
 }
 
-/// The AVPs of a message sorted by a format.
-pub(crate) fn sort(format: &[AvpFormat], avps: &[AvpView<'_>]) -> Sorted
+/// Sorts the AVPs of a message by a format.
+pub(crate) fn sort(format: &[AvpFormat], avps: &[AvpView<'_>], sorted: &mut Sorted)
     requires distinct { is_distinct format.now ≡ true }
     requires short { length format.now ≤ 16 }
     requires few { length avps.now ≤ 128 }
-    ensures { IsSorted format.now (seen_all avps.now) result }
+    ensures { IsSorted format.now (seen_all avps.now) sorted.new }
 {
-    let mut sorted = Sorted {
-        firsts: [None; 16],
-        rest: ArrayVec::new(),
-    };
+    sorted.clear();
     let mut next = 0;
     for (place, avp) in avps.iter().enumerate() {
         let entry = entry_of(format, next, avp);
@@ -76,10 +73,26 @@ pub(crate) fn sort(format: &[AvpFormat], avps: &[AvpView<'_>]) -> Sorted
             }
         }
     }
-    sorted
 }
 
 impl Sorted {
+    /// No AVPs.
+    pub fn new() -> Sorted {
+        Sorted {
+            firsts: [None; 16],
+            rest: ArrayVec::new(),
+        }
+    }
+
+    // Takes all AVPs out.
+    fn clear(&mut self)
+        ensures firsts { self.new.firsts ≡ replicate 16 None }
+        ensures rest { self.new.rest.items ≡ [] }
+    {
+        self.firsts = [None; 16];
+        self.rest.clear();
+    }
+
     /// The first AVP of an entry.
     pub fn first<'a>(&self, place: usize, avps: &[AvpView<'a>]) -> Option<AvpView<'a>>
         ensures { option_map seen result ≡ placed (seen_all avps.now) (get_or self.now.firsts place None) }

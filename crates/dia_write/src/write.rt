@@ -300,22 +300,156 @@ fn error_answer_fields(c: &ErrorAnswer) -> [Values<'_>; 5]
     ]
 }
 
+// A command of each kind, written by a function of its own: the room of a list of values is made, and cleared, only where it is
+// used.
+#[inline(never)]
+fn write_capabilities_exchange_request(
+    command: &Command,
+    c: &CapabilitiesExchangeRequest,
+    out: &mut Vec<u8>,
+) -> Result<(), WriteError>
+    requires { command.now ≡ Command.Cer c.now }
+    ensures { Writes command.now result out.old.items out.new.items (vec_len out.old) (vec_capacity out.old) (vec_capacity out.new) }
+{
+    write_fields(command, &capabilities_exchange_request_fields(c), out)
+}
+
+#[inline(never)]
+fn write_capabilities_exchange_answer(
+    command: &Command,
+    c: &CapabilitiesExchangeAnswer,
+    out: &mut Vec<u8>,
+) -> Result<(), WriteError>
+    requires { command.now ≡ Command.Cea c.now }
+    ensures { Writes command.now result out.old.items out.new.items (vec_len out.old) (vec_capacity out.old) (vec_capacity out.new) }
+{
+    write_fields(command, &capabilities_exchange_answer_fields(c), out)
+}
+
+#[inline(never)]
+fn write_device_watchdog_request(
+    command: &Command,
+    c: &DeviceWatchdogRequest,
+    out: &mut Vec<u8>,
+) -> Result<(), WriteError>
+    requires { command.now ≡ Command.Dwr c.now }
+    ensures { Writes command.now result out.old.items out.new.items (vec_len out.old) (vec_capacity out.old) (vec_capacity out.new) }
+{
+    write_fields(command, &device_watchdog_request_fields(c), out)
+}
+
+#[inline(never)]
+fn write_device_watchdog_answer(
+    command: &Command,
+    c: &DeviceWatchdogAnswer,
+    out: &mut Vec<u8>,
+) -> Result<(), WriteError>
+    requires { command.now ≡ Command.Dwa c.now }
+    ensures { Writes command.now result out.old.items out.new.items (vec_len out.old) (vec_capacity out.old) (vec_capacity out.new) }
+{
+    write_fields(command, &device_watchdog_answer_fields(c), out)
+}
+
+#[inline(never)]
+fn write_disconnect_peer_request(
+    command: &Command,
+    c: &DisconnectPeerRequest,
+    out: &mut Vec<u8>,
+) -> Result<(), WriteError>
+    requires { command.now ≡ Command.Dpr c.now }
+    ensures { Writes command.now result out.old.items out.new.items (vec_len out.old) (vec_capacity out.old) (vec_capacity out.new) }
+{
+    write_fields(command, &disconnect_peer_request_fields(c), out)
+}
+
+#[inline(never)]
+fn write_disconnect_peer_answer(
+    command: &Command,
+    c: &DisconnectPeerAnswer,
+    out: &mut Vec<u8>,
+) -> Result<(), WriteError>
+    requires { command.now ≡ Command.Dpa c.now }
+    ensures { Writes command.now result out.old.items out.new.items (vec_len out.old) (vec_capacity out.old) (vec_capacity out.new) }
+{
+    write_fields(command, &disconnect_peer_answer_fields(c), out)
+}
+
+#[inline(never)]
+fn write_re_auth_request(
+    command: &Command,
+    c: &ReAuthRequest,
+    out: &mut Vec<u8>,
+) -> Result<(), WriteError>
+    requires { command.now ≡ Command.Rar c.now }
+    ensures { Writes command.now result out.old.items out.new.items (vec_len out.old) (vec_capacity out.old) (vec_capacity out.new) }
+{
+    write_fields(command, &re_auth_request_fields(c), out)
+}
+
+#[inline(never)]
+fn write_re_auth_answer(
+    command: &Command,
+    c: &ReAuthAnswer,
+    out: &mut Vec<u8>,
+) -> Result<(), WriteError>
+    requires { command.now ≡ Command.Raa c.now }
+    ensures { Writes command.now result out.old.items out.new.items (vec_len out.old) (vec_capacity out.old) (vec_capacity out.new) }
+{
+    write_fields(command, &re_auth_answer_fields(c), out)
+}
+
+#[inline(never)]
+fn write_credit_control_request(
+    command: &Command,
+    c: &CreditControlRequest,
+    out: &mut Vec<u8>,
+) -> Result<(), WriteError>
+    requires { command.now ≡ Command.Ccr c.now }
+    ensures { Writes command.now result out.old.items out.new.items (vec_len out.old) (vec_capacity out.old) (vec_capacity out.new) }
+{
+    write_fields(command, &credit_control_request_fields(c), out)
+}
+
+#[inline(never)]
+fn write_credit_control_answer(
+    command: &Command,
+    c: &CreditControlAnswer,
+    out: &mut Vec<u8>,
+) -> Result<(), WriteError>
+    requires { command.now ≡ Command.Cca c.now }
+    ensures { Writes command.now result out.old.items out.new.items (vec_len out.old) (vec_capacity out.old) (vec_capacity out.new) }
+{
+    write_fields(command, &credit_control_answer_fields(c), out)
+}
+
+#[inline(never)]
+fn write_error_answer(
+    command: &Command,
+    c: &ErrorAnswer,
+    out: &mut Vec<u8>,
+) -> Result<(), WriteError>
+    requires { command.now ≡ Command.ErrorAnswer c.now }
+    ensures { Writes command.now result out.old.items out.new.items (vec_len out.old) (vec_capacity out.old) (vec_capacity out.new) }
+{
+    write_fields(command, &error_answer_fields(c), out)
+}
+
 // Appends a command, its fields in the order of its format.
 fn write_command(command: &Command, out: &mut Vec<u8>) -> Result<(), WriteError>
     ensures { Writes command.now result out.old.items out.new.items (vec_len out.old) (vec_capacity out.old) (vec_capacity out.new) }
 {
     match command {
-        Command::Cer(c) => write_fields(command, &capabilities_exchange_request_fields(c), out),
-        Command::Cea(c) => write_fields(command, &capabilities_exchange_answer_fields(c), out),
-        Command::Dwr(c) => write_fields(command, &device_watchdog_request_fields(c), out),
-        Command::Dwa(c) => write_fields(command, &device_watchdog_answer_fields(c), out),
-        Command::Dpr(c) => write_fields(command, &disconnect_peer_request_fields(c), out),
-        Command::Dpa(c) => write_fields(command, &disconnect_peer_answer_fields(c), out),
-        Command::Rar(c) => write_fields(command, &re_auth_request_fields(c), out),
-        Command::Raa(c) => write_fields(command, &re_auth_answer_fields(c), out),
-        Command::Ccr(c) => write_fields(command, &credit_control_request_fields(c), out),
-        Command::Cca(c) => write_fields(command, &credit_control_answer_fields(c), out),
-        Command::ErrorAnswer(c) => write_fields(command, &error_answer_fields(c), out),
+        Command::Cer(c) => write_capabilities_exchange_request(command, c, out),
+        Command::Cea(c) => write_capabilities_exchange_answer(command, c, out),
+        Command::Dwr(c) => write_device_watchdog_request(command, c, out),
+        Command::Dwa(c) => write_device_watchdog_answer(command, c, out),
+        Command::Dpr(c) => write_disconnect_peer_request(command, c, out),
+        Command::Dpa(c) => write_disconnect_peer_answer(command, c, out),
+        Command::Rar(c) => write_re_auth_request(command, c, out),
+        Command::Raa(c) => write_re_auth_answer(command, c, out),
+        Command::Ccr(c) => write_credit_control_request(command, c, out),
+        Command::Cca(c) => write_credit_control_answer(command, c, out),
+        Command::ErrorAnswer(c) => write_error_answer(command, c, out),
     }
 }
 

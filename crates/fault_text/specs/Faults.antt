@@ -1,9 +1,13 @@
 -- What is told of a table, or of lines of events, that is refused.
-use Rattle.std.specs.Prelude.{ℕ, Bool, List, [], ◌++◌, Option, Some, None, ◌&&◌, codes, decimal, length, nat_le, if◌then◌else◌}
+use Rattle.std.specs.Prelude.{ℕ, Bool, List, [], ◌++◌, Option, Some, None, codes, decimal, if◌then◌else◌}
+use Rattle.std.specs.Option.{option_map_or}
 use Rattle.tab_law.specs.Books.{Laws}
-use Rattle.text_parts.specs.Lines.{Line, is_plain}
+use Rattle.text_parts.specs.Lines.{Line, lines}
 use Rattle.event_text.specs.Wrong.{wrong_of}
 use Rattle.fault_text.specs.Nearest.{nearest_line}
+use Rattle.fault_text.specs.Spots.{from_line, odd_at, place_line, wrong_line}
+use Rattle.fault_text.specs.Words.{shown}
+use Rattle.fault_text.specs.declared.spots.RowPlace.{RowPlace}
 use Rattle.tab_text.specs.Codes.{number_of}
 use Rattle.tab_text.specs.declared.fault.TextCode.{TextCode}
 use Rattle.tab_text.specs.declared.fault.TextCode.TheVariants.{NoHeader, BadByte, EmptyCell, NoRowToContinue, BadName, TooManyRows, TooManyNames, TooManyInRow, TooLong}
@@ -25,29 +29,36 @@ wanted_of TooLong = codes "at most 1048576 bytes"
 abbrev pub wanted_line : List ℕ → List ℕ
 wanted_line what = codes "  wanted: " ++ what ++ codes "\n"
 
--- `line 1 fault 1`: the first fault of a table's text
-abbrev pub table_fault : TextFault → List ℕ
-table_fault fault =
-    codes "line " ++ decimal fault.line ++ codes " fault " ++ decimal (number_of fault.code) ++ codes "\n" ++ wanted_line (wanted_of fault.code)
-
 -- the kind, the guard and the action that are near a name, where they are
 abbrev pub near_names : Laws → List ℕ → List ℕ
 near_names laws name = nearest_line name laws.kinds ++ nearest_line name laws.guards ++ nearest_line name laws.acts
 
--- `unbound Strat`: the first name of a table that isn't registered, and what is near it
-abbrev pub unbound_text : Laws → List ℕ → List ℕ
-unbound_text laws name =
-    codes "unbound " ++ name ++ codes "\n" ++ wanted_line (codes "a kind, a guard or an action that is registered")
+-- `line 1 fault 1`: the first fault of a table's text, and what stands there
+abbrev pub table_fault : (text : List ℕ) → TextFault → List ℕ
+table_fault text fault =
+    codes "line " ++ decimal fault.line ++ codes " fault " ++ decimal (number_of fault.code) ++ codes "\n"
+    ++ wanted_line (wanted_of fault.code)
+    ++ wrong_line fault.code (from_line fault.line (lines text))
+
+-- what is near the first word of a row that is no name, where the row isn't made of names
+abbrev pub near_odd : Laws → TextCode → List Line → List ℕ
+near_odd laws code from = option_map_or (near_names laws) (odd_at code from) []
+
+-- the same, and what is near the word that is wrong
+abbrev pub known_fault : Laws → (text : List ℕ) → TextFault → List ℕ
+known_fault laws text fault =
+    table_fault text fault ++ near_odd laws fault.code (from_line fault.line (lines text))
+
+-- `unbound Strat`: the first name of a table that isn't registered, the row where it stands, and what is near it
+abbrev pub unbound_text : Laws → Option RowPlace → List ℕ → List ℕ
+unbound_text laws place name =
+    codes "unbound " ++ name ++ codes "\n" ++ place_line place
+    ++ wanted_line (codes "a kind, a guard or an action that is registered")
     ++ near_names laws name
 
 -- what a line of events is
 unfoldable pub event_form : List ℕ
 event_form = codes "KIND N=V ..: a kind that is registered, then facts, each once, N at most 63 and V below 2^64"
-
--- a word as it is shown, where it is printable and has at most 80 octets
-abbrev pub shown : List ℕ → List ℕ
-shown word =
-    if is_plain word && nat_le (length word) 80 then word else codes "a word that is long, or not printable ASCII"
 
 -- the kind that is near a word, where one is
 abbrev pub near_kind : Laws → (Bool × List ℕ) → List ℕ

@@ -1,2 +1,4 @@
 pub mod Nearest
+pub mod Words
+pub mod Spots
 pub mod Faults

@@ -3,18 +3,23 @@
 
 ghost use Rattle.std.specs.Prelude.{◌≡◌, ◌++◌, IfOk, OnOk, codes};
 ghost use Rattle.event_text.specs.Wrong.{wrong_of};
-ghost use Rattle.fault_text.specs.Faults.{bad_text, event_form, near_names, shown, table_fault, unbound_text, wanted_of, wrong_text};
+ghost use Rattle.fault_text.specs.Faults.{bad_text, event_form, known_fault, near_names, near_odd, table_fault, unbound_text, wanted_of, wrong_text};
+ghost use Rattle.fault_text.specs.Spots.{from_line};
 ghost use Rattle.text_parts.specs.Left.{line_of};
+ghost use Rattle.text_parts.specs.Lines.{lines};
 
 mod nearest;
+mod spots;
 
 use crate::nearest::put_nearest;
+use crate::spots::{odd_at, put_place, put_wrong_line, shown};
 use base_text::put_number;
 use event_text::wrong_word;
+pub use spots::{RowPlace, unbound_place};
 use std::alloc::{AllocError, Global};
 use tab_law::LawBook;
 use tab_text::{TextCode, TextFault};
-use text_parts::{TextLine, is_plain};
+use text_parts::TextLine;
 
 /// What was wanted where a table's text has a fault.
 #[tactic(auto, unfolding(crate::specs::Faults::wanted_of))]
@@ -59,18 +64,6 @@ fn put_wanted(out: &mut Vec<u8>, what: &[u8]) -> Result<(), AllocError>
     out.extend_from_slice(b"\n")
 }
 
-/// `line N fault C`: the first fault of a table's text, and what was wanted there.
-pub fn table_fault(alloc: Global, fault: &TextFault) -> Result<Vec<u8>, AllocError>
-    ensures { IfOk result (λ text. text.items ≡ table_fault fault.now) }
-{
-    let mut text = Vec::new(alloc);
-    put_number(&mut text, b"line ", fault.line as u64)?;
-    put_number(&mut text, b" fault ", u64::from(fault.code.number()))?;
-    text.extend_from_slice(b"\n")?;
-    put_wanted(&mut text, wanted(fault.code))?;
-    Ok(text)
-}
-
 /// Puts the kind, the guard and the action that are near a name, where they are.
 fn put_near_names(
     alloc: Global,
@@ -85,31 +78,77 @@ fn put_near_names(
     put_nearest(alloc, out, name, book.acts())
 }
 
-/// `unbound NAME`: the first name of a table that isn't registered, and what is near it.
-pub fn unbound_text(alloc: Global, book: &LawBook, name: &[u8]) -> Result<Vec<u8>, AllocError>
-    ensures { IfOk result (λ text. text.items ≡ unbound_text book.now name.now) }
+/// Puts the first fault of a table's text, what was wanted there, and what stands there.
+fn put_fault(out: &mut Vec<u8>, text: &[u8], fault: &TextFault) -> Result<(), AllocError>
+    ensures { OnOk result (out.new.items ≡ out.old.items ++ table_fault text.now fault.now) }
+{
+    put_number(out, b"line ", fault.line as u64)?;
+    put_number(out, b" fault ", u64::from(fault.code.number()))?;
+    out.extend_from_slice(b"\n")?;
+    put_wanted(out, wanted(fault.code))?;
+    put_wrong_line(out, text, fault)
+}
+
+/// `line N fault C`: the first fault of a table's text, what was wanted there, and what stands there.
+pub fn table_fault(alloc: Global, text: &[u8], fault: &TextFault) -> Result<Vec<u8>, AllocError>
+    ensures { IfOk result (λ told. told.items ≡ table_fault text.now fault.now) }
+{
+    let mut told = Vec::new(alloc);
+    put_fault(&mut told, text, fault)?;
+    Ok(told)
+}
+
+/// Puts what is near the first word of a row that is no name, where the row isn't made of names.
+fn put_near_odd(
+    alloc: Global,
+    out: &mut Vec<u8>,
+    book: &LawBook,
+    text: &[u8],
+    fault: &TextFault,
+) -> Result<(), AllocError>
+    ensures { OnOk result (out.new.items ≡ out.old.items ++ near_odd book.now fault.now.code (from_line fault.now.line (lines text.now))) }
+{
+    match odd_at(text, fault) {
+        None => Ok(()),
+        Some(word) => put_near_names(alloc, out, book, word),
+    }
+}
+
+/// The same as [`table_fault`], and the registered names that are near a word that is no name.
+pub fn known_fault(
+    alloc: Global,
+    book: &LawBook,
+    text: &[u8],
+    fault: &TextFault,
+) -> Result<Vec<u8>, AllocError>
+    ensures { IfOk result (λ told. told.items ≡ known_fault book.now text.now fault.now) }
+{
+    let mut told = Vec::new(alloc);
+    put_fault(&mut told, text, fault)?;
+    put_near_odd(alloc, &mut told, book, text, fault)?;
+    Ok(told)
+}
+
+/// `unbound NAME`: the first name of a table that isn't registered, the row where it stands, and what is near it.
+pub fn unbound_text(
+    alloc: Global,
+    book: &LawBook,
+    place: Option<RowPlace>,
+    name: &[u8],
+) -> Result<Vec<u8>, AllocError>
+    ensures { IfOk result (λ text. text.items ≡ unbound_text book.now place name.now) }
 {
     let mut text = Vec::new(alloc);
     text.extend_from_slice(b"unbound ")?;
     text.extend_from_slice(name)?;
     text.extend_from_slice(b"\n")?;
+    put_place(&mut text, place)?;
     put_wanted(
         &mut text,
         b"a kind, a guard or an action that is registered",
     )?;
     put_near_names(alloc, &mut text, book, name)?;
     Ok(text)
-}
-
-/// A word as it is shown, where it is printable and has at most 80 octets.
-fn shown(word: &[u8]) -> &[u8]
-    ensures { result.now ≡ shown word.now }
-{
-    if is_plain(word) && word.len() <= 80 {
-        word
-    } else {
-        b"a word that is long, or not printable ASCII"
-    }
 }
 
 /// Puts which word of a line is wrong, and the kind that is near it.

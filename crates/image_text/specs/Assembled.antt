@@ -6,7 +6,8 @@ use Rattle.hex.specs.Hex.{encode_lower}
 use Rattle.base_device.specs.Devices.{Tells}
 use Rattle.base_device.specs.declared.status.Status.{Status}
 use Rattle.base_device.specs.declared.status.Status.TheVariants as statuses
-use Rattle.fault_text.specs.Faults.{table_fault, unbound_text}
+use Rattle.fault_text.specs.Faults.{known_fault, unbound_text}
+use Rattle.fault_text.specs.Spots.{unbound_place}
 use Rattle.tab_asm.specs.Assembled.{image_of}
 use Rattle.tab_asm.specs.Formats.{format_2}
 use Rattle.tab_asm.specs.Images.{image_octets}
@@ -24,8 +25,8 @@ image_text table = encode_lower (image_octets format_2 (image_of table)) ++ code
 -- what is refused first: the table's text, or a name that the book lacks
 unfoldable pub refusal_of : Laws → List ℕ → Option (List ℕ)
 refusal_of laws table =
-    option_or (option_map table_fault (first_fault table))
-    (option_map (unbound_text laws) (slice_get (missing laws (table_of table)) 0))
+    option_or (option_map (known_fault laws table) (first_fault table))
+    (option_map (unbound_text laws (unbound_place laws (table_of table))) (slice_get (missing laws (table_of table)) 0))
 
 -- what is told, and whether it is a refusal
 abbrev pub IsTold : Laws → (table text : List ℕ) → Bool → Type 0

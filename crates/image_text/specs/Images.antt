@@ -63,5 +63,5 @@ fault_text fault =
 -- what is told of a text that gives no program, if memory wasn't what lacked
 abbrev pub refusal_text : ImageError → Option (List ℕ)
 refusal_text NoMemory = None
-refusal_text BadHex = Some (codes "bad hex\n")
+refusal_text BadHex = Some (codes "bad hex\n  wanted: hexadecimal digits, two for each octet; blanks between them don't count\n")
 refusal_text (Refused fault) = Some (fault_text fault)

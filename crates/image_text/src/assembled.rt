@@ -2,13 +2,12 @@
 ghost use Rattle.std.specs.Prelude.{◌≡◌, ◌≢◌, ◌<◌, ◌≤◌, ◌-◌, ◌^◌, max, if◌then◌else◌, Some, None, IfOk};
 ghost use Rattle.std.specs.List.{slice_get};
 ghost use Rattle.base_device.specs.Devices.{HasWriteCause};
-ghost use Rattle.fault_text.specs.Faults.{table_fault};
 ghost use Rattle.image_text.specs.Assembled.{IsAssembledOn, IsTold, image_text};
 
 use crate::told::{Told, told_status};
 use base_device::{ByteSink, MAX_IDLE_WRITES, Status, tell};
 use base_text::put_hex;
-use fault_text::{table_fault, unbound_text};
+use fault_text::{known_fault, unbound_place, unbound_text};
 use std::alloc::{AllocError, Global};
 use tab_asm::assemble;
 use tab_law::LawBook;
@@ -27,19 +26,20 @@ fn image_text(alloc: Global, bound: &Bound) -> Result<Vec<u8>, AllocError>
 }
 
 /// The image of a table's text, or its first refusal.
-fn text_of(alloc: Global, table: &[u8], book: &LawBook) -> Result<Told, AllocError>
-    ensures { IfOk result (λ told. IsTold book.now table.now told.text.items told.refused) }
+fn text_of(alloc: Global, text: &[u8], book: &LawBook) -> Result<Told, AllocError>
+    ensures { IfOk result (λ told. IsTold book.now text.now told.text.items told.refused) }
 {
-    let table = match parse(alloc, table) {
+    let table = match parse(alloc, text) {
         Ok(table) => table,
         Err(ParseError::NoMemory) => return Err(AllocError),
         Err(ParseError::Fault(fault)) => {
             return Ok(Told {
-                text: table_fault(alloc, &fault)?,
+                text: known_fault(alloc, book, text, &fault)?,
                 refused: true,
             });
         }
     };
+    let place = unbound_place(book, &table);
     match bind(alloc, table, book) {
         Ok(bound) => Ok(Told {
             text: image_text(alloc, &bound)?,
@@ -47,7 +47,7 @@ fn text_of(alloc: Global, table: &[u8], book: &LawBook) -> Result<Told, AllocErr
         }),
         Err(Unbound::NoMemory) => Err(AllocError),
         Err(Unbound::Missing(name)) => Ok(Told {
-            text: unbound_text(alloc, book, name.as_slice())?,
+            text: unbound_text(alloc, book, place, name.as_slice())?,
             refused: true,
         }),
     }

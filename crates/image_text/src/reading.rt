@@ -105,10 +105,12 @@ fn fault_text(alloc: Global, fault: LoadFault) -> Result<Vec<u8>, AllocError>
 
 /// `bad hex`: the text isn't digits.
 fn bad_hex_text(alloc: Global) -> Result<Vec<u8>, AllocError>
-    ensures { IfOk result (λ text. text.items ≡ codes "bad hex\n") }
+    ensures { IfOk result (λ text. text.items ≡ codes "bad hex\n  wanted: hexadecimal digits, two for each octet; blanks between them don't count\n") }
 {
     let mut text = Vec::new(alloc);
-    text.extend_from_slice(b"bad hex\n")?;
+    text.extend_from_slice(
+        b"bad hex\n  wanted: hexadecimal digits, two for each octet; blanks between them don't count\n",
+    )?;
     Ok(text)
 }
 

@@ -96,10 +96,10 @@ unfoldable pub fault_name : ResultCode → List ℕ
 fault_name code = codes "fault " ++ decimal (number_of code) ++ codes " " ++ name_of code
 
 -- ` in message 2 at octet 56: `
-unfoldable pub message_place : ℕ → ℕ → List ℕ
-message_place number offset = codes " in " ++ numbered number offset
+unfoldable pub message_place : Option ℕ → ℕ → ℕ → List ℕ
+message_place line number offset = codes " in " ++ numbered line number offset
 
 -- the line of a message's fault
-unfoldable pub fault_line : List Definition → ℕ → ℕ → List Piece → MsgFault → List ℕ
-fault_line definitions number offset pieces f =
-    fault_name f.result ++ message_place number offset ++ reason f.result ++ failed_text definitions f.result f.failed pieces ++ codes "\n"
+unfoldable pub fault_line : List Definition → Option ℕ → ℕ → ℕ → List Piece → MsgFault → List ℕ
+fault_line definitions line number offset pieces f =
+    fault_name f.result ++ message_place line number offset ++ reason f.result ++ failed_text definitions f.result f.failed pieces ++ codes "\n"

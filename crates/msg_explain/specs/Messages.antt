@@ -30,9 +30,15 @@ abbrev pub session_text : Option (List ℕ) → List ℕ
 session_text None = []
 session_text (Some name) = codes ", session " ++ quoted name
 
--- `message 1 at octet 0: `
-unfoldable pub numbered : ℕ → ℕ → List ℕ
-numbered number offset = codes "message " ++ decimal number ++ codes " at octet " ++ decimal offset ++ codes ": "
+-- ` of line 5`, where each line is read by itself
+abbrev pub of_line : Option ℕ → List ℕ
+of_line None = []
+of_line (Some line) = codes " of line " ++ decimal line
+
+-- `message 1 at octet 0: `, and `message 6 at octet 0 of line 5: `
+unfoldable pub numbered : Option ℕ → ℕ → ℕ → List ℕ
+numbered line number offset =
+    codes "message " ++ decimal number ++ codes " at octet " ++ decimal offset ++ of_line line ++ codes ": "
 
 -- `CCR Credit-Control-Request RP--`
 unfoldable pub command_line : List ℕ → List ℕ
@@ -70,5 +76,5 @@ abbrev pub header_text : List ℕ → List ℕ
 header_text octets = if nat_lt (length octets) 20 then short_text octets else whole_text octets
 
 -- the first line of a message
-unfoldable pub message_line : ℕ → ℕ → List ℕ → List ℕ
-message_line number offset octets = numbered number offset ++ header_text octets ++ codes "\n"
+unfoldable pub message_line : Option ℕ → ℕ → ℕ → List ℕ → List ℕ
+message_line line number offset octets = numbered line number offset ++ header_text octets ++ codes "\n"

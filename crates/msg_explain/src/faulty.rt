@@ -172,11 +172,16 @@ fn put_fault_name(out: &mut Vec<u8>, code: ResultCode) -> Result<(), AllocError>
 }
 
 #[tactic(auto, unfolding(crate::specs::Faulty::message_place))]
-fn put_message_place(out: &mut Vec<u8>, number: u64, offset: u64) -> Result<(), AllocError>
-    ensures { OnOk result (out.new.items ≡ out.old.items ++ message_place number offset) }
+fn put_message_place(
+    out: &mut Vec<u8>,
+    line: Option<u64>,
+    number: u64,
+    offset: u64,
+) -> Result<(), AllocError>
+    ensures { OnOk result (out.new.items ≡ out.old.items ++ message_place line number offset) }
 {
     out.extend_from_slice(b" in ")?;
-    put_numbered(out, number, offset)
+    put_numbered(out, line, number, offset)
 }
 
 /// Puts the line of the fault of a message, the `number`th of an input, which begins at `offset` in it.
@@ -184,15 +189,16 @@ fn put_message_place(out: &mut Vec<u8>, number: u64, offset: u64) -> Result<(), 
 pub(crate) fn put_fault_line(
     out: &mut Vec<u8>,
     dictionary: &Dictionary,
+    line: Option<u64>,
     number: u64,
     offset: u64,
     parts: &[Part<'_>],
     fault: &MsgFault,
 ) -> Result<(), AllocError>
-    ensures { OnOk result (out.new.items ≡ out.old.items ++ fault_line (known dictionary.now) number offset (map seen_part parts.now) fault.now) }
+    ensures { OnOk result (out.new.items ≡ out.old.items ++ fault_line (known dictionary.now) line number offset (map seen_part parts.now) fault.now) }
 {
     put_fault_name(out, fault.result)?;
-    put_message_place(out, number, offset)?;
+    put_message_place(out, line, number, offset)?;
     out.extend_from_slice(reason(fault.result))?;
     put_failed(out, dictionary, fault.result, &fault.failed, parts)?;
     out.extend_from_slice(b"\n")

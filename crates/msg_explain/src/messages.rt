@@ -1,7 +1,7 @@
 //! The line of a message.
 ghost use Rattle.std.specs.Prelude.{◌≡◌, ◌≤◌, ◌++◌, OnOk, length};
 ghost use Rattle.dia_command.specs.Header.{header_in};
-ghost use Rattle.msg_explain.specs.Messages.{header_letters, session_in, session_text, numbered, command_line, front_fields, application_text, identifiers, fields_text, short_text, whole_text, header_text, message_line, bytes_of};
+ghost use Rattle.msg_explain.specs.Messages.{header_letters, session_in, session_text, numbered, of_line, command_line, front_fields, application_text, identifiers, fields_text, short_text, whole_text, header_text, message_line, bytes_of};
 
 use crate::lines::flag_letter;
 use base_codes::{HEADER_LEN, avp_code};
@@ -49,13 +49,28 @@ fn put_session(out: &mut Vec<u8>, session: Option<&[u8]>) -> Result<(), AllocErr
     }
 }
 
+fn put_of_line(out: &mut Vec<u8>, line: Option<u64>) -> Result<(), AllocError>
+    ensures { OnOk result (out.new.items ≡ out.old.items ++ of_line line) }
+{
+    match line {
+        None => Ok(()),
+        Some(line) => put_number(out, b" of line ", line),
+    }
+}
+
 /// Puts the number of a message, and where it begins.
 #[tactic(auto, unfolding(crate::specs::Messages::numbered))]
-pub(crate) fn put_numbered(out: &mut Vec<u8>, number: u64, offset: u64) -> Result<(), AllocError>
-    ensures { OnOk result (out.new.items ≡ out.old.items ++ numbered number offset) }
+pub(crate) fn put_numbered(
+    out: &mut Vec<u8>,
+    line: Option<u64>,
+    number: u64,
+    offset: u64,
+) -> Result<(), AllocError>
+    ensures { OnOk result (out.new.items ≡ out.old.items ++ numbered line number offset) }
 {
     put_number(out, b"message ", number)?;
     put_number(out, b" at octet ", offset)?;
+    put_of_line(out, line)?;
     out.extend_from_slice(b": ")
 }
 
@@ -136,13 +151,14 @@ fn put_header(out: &mut Vec<u8>, octets: &[u8]) -> Result<(), AllocError>
 #[tactic(auto, unfolding(crate::specs::Messages::message_line))]
 pub(crate) fn put_message_line(
     out: &mut Vec<u8>,
+    line: Option<u64>,
     number: u64,
     offset: u64,
     octets: &[u8],
 ) -> Result<(), AllocError>
-    ensures { OnOk result (out.new.items ≡ out.old.items ++ message_line number offset octets.now) }
+    ensures { OnOk result (out.new.items ≡ out.old.items ++ message_line line number offset octets.now) }
 {
-    put_numbered(out, number, offset)?;
+    put_numbered(out, line, number, offset)?;
     put_header(out, octets)?;
     out.extend_from_slice(b"\n")
 }

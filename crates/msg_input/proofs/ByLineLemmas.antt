@@ -4,7 +4,7 @@ use Rattle.std.specs.Prelude.{◌||◌, IfOk, OnOk, OnErr, is_some}
 use Rattle.std.proofs.lemmas.List.{append-nil, length-append}
 use Rattle.std.proofs.lemmas.List.Elements.{All-append, All-cons, All-nil}
 use Rattle.std.proofs.lemmas.Grind.{flat_map-append}
-use Rattle.msg_input.specs.ByLine.{AllLines, AreLinesOf, FrontLines, HaltedLines, IsJudged, IsLine, PrintsLine, PrintsLines, ended}
+use Rattle.msg_input.specs.ByLine.{AllLines, AreLinesOf, FrontLines, HaltedLines, IsJudged, IsLine, LineSaying, PrintsLine, PrintsLines, ended}
 use Rattle.msg_input.specs.ByLineSoFar.{AreFinished, Ended, IsAlong, IsStopped, KeepsTexts, LinesSoFar, MayStop, TakesLines, end_of}
 use Rattle.msg_input.specs.Ends.{IsLast}
 use Rattle.msg_input.specs.Inputs.{IsPrintedOf}
@@ -21,21 +21,24 @@ use Rattle.base_text.proofs.Meaning.{cut_at, front_more}
 use Rattle.msg_input.proofs.ReadLemmas.{FrontText-so_far, or_assoc, or_false}
 
 -- one line behind others
-pub PrintsLines-more : (says : Saying) (e : ℕ → End → Place → List ℕ) (n k : ℕ) (lines : List (List ℕ)) (line t u : List ℕ) (r s : Bool)
-    → k ≡ n + length lines → PrintsLines says e n lines t r → PrintsLine says e k line u s → PrintsLines says e n (lines ++ line ∷ []) (t ++ u) (r || s)
-PrintsLines-more says e n k [] line t u r s count p one =
+pub PrintsLines-more : (says : LineSaying) (e : ℕ → End → Place → List ℕ) (n first k : ℕ) (lines : List (List ℕ)) (line t u : List ℕ) (r s : Bool) (between last : ℕ)
+    → k ≡ n + length lines → PrintsLines says e n first lines t r between → PrintsLine says e k between line u s last
+    → PrintsLines says e n first (lines ++ line ∷ []) (t ++ u) (r || s) last
+PrintsLines-more says e n first k [] line t u r s between last count p one =
     let same : k ≡ n = omega arith in
-    rw (p.0, p.1) (u, s, [], false, (rw same at one), (refl, refl), sym (append-nil u), sym (or_false s))
-PrintsLines-more says e n k (l ∷ lines) line t u r s count p one =
+    let here : between ≡ first = p.2 in
+    rw (p.0, p.1) (u, s, [], false, last, (rw (same, here) at one), (refl, refl, refl), sym (append-nil u), sym (or_false s))
+PrintsLines-more says e n first k (l ∷ lines) line t u r s between last count p one =
     let counted : k ≡ (n + 1) + length lines = omega arith in (
       p.0,
       p.1,
       p.2 ++ u,
       p.3 || s,
       p.4,
-      PrintsLines-more says e (n + 1) k lines line p.2 u p.3 s counted p.5 one,
-      rw (p.6, append_assoc) refl,
-      rw (p.7, or_assoc) refl,
+      p.5,
+      PrintsLines-more says e (n + 1) p.4 k lines line p.2 u p.3 s between last counted p.6 one,
+      rw (p.7, append_assoc) refl,
+      rw (p.8, or_assoc) refl,
     )
 
 -- one line behind others, with its newline
@@ -94,9 +97,9 @@ IsPrintedOf-stopped says first reading line (refusals.Frame fault) s = s
 IsPrintedOf-stopped says first reading line refusals.NoMemory s = absurd s
 
 -- more of the last line
-pub LinesSoFar-part : (says : Saying) (e : ℕ → End → Place → List ℕ) {M : Type 0} (old new : ByLine M) (text part written : List ℕ)
+pub LinesSoFar-part : (says : LineSaying) (e : ℕ → End → Place → List ℕ) {M : Type 0} (old new : ByLine M) (text part written : List ℕ)
     → LinesSoFar says e old text written → KeepsTexts old new → IsLine part
-    → ((first : ℕ) (line : List ℕ) → IsAlong says first old.reading line old.stopped → IsAlong says first new.reading (line ++ part) new.stopped)
+    → ((first : ℕ) (line : List ℕ) → IsAlong (says (old.before + 1)) first old.reading line old.stopped → IsAlong (says (old.before + 1)) first new.reading (line ++ part) new.stopped)
     → LinesSoFar says e new (text ++ part) written
 LinesSoFar-part says e old new text part written s kept is_line along = record {
   lines = s.lines;
@@ -104,22 +107,22 @@ LinesSoFar-part says e old new text part written s kept is_line along = record {
   joined = rw (s.joined, append_assoc) refl;
   each = s.each;
   no_newline = All-append (λ c. c ≢ 10) s.last part s.no_newline is_line;
-  texts = rw (kept.out, kept.marked) s.texts;
+  texts = rw (kept.out, kept.marked, kept.messages) s.texts;
   count = kept.before ∙ s.count;
-  along = rw kept.before (along old.before s.last s.along);
+  along = rw (kept.before, kept.messages) (along old.messages s.last s.along);
 }
 
 -- the text with its last line's
-ended_texts : (says : Saying) (e : ℕ → End → Place → List ℕ) {M : Type 0} (old new : ByLine M) (text written : List ℕ)
+ended_texts : (says : LineSaying) (e : ℕ → End → Place → List ℕ) {M : Type 0} (old new : ByLine M) (text written : List ℕ)
     → (s : LinesSoFar says e old text written) → Ended says e old new s.last
-    → PrintsLines says e 0 (s.lines ++ s.last ∷ []) (written ++ new.out.items) new.refused
+    → PrintsLines says e 0 0 (s.lines ++ s.last ∷ []) (written ++ new.out.items) new.refused new.messages
 ended_texts says e old new text written s end =
     let count : old.before ≡ 0 + length s.lines = let same = s.count in omega arith in
-    let all = PrintsLines-more says e 0 old.before s.lines s.last _ end.text _ end.refused count s.texts end.printed in
+    let all = PrintsLines-more says e 0 0 old.before s.lines s.last _ end.text _ end.refused old.messages new.messages count s.texts end.printed in
     rw (end.out, end.marked, ← append_assoc) all
 
 -- the newline that ends a line
-pub LinesSoFar-ended : (says : Saying) (e : ℕ → End → Place → List ℕ) {M : Type 0} (old new : ByLine M) (text written : List ℕ)
+pub LinesSoFar-ended : (says : LineSaying) (e : ℕ → End → Place → List ℕ) {M : Type 0} (old new : ByLine M) (text written : List ℕ)
     → (s : LinesSoFar says e old text written) → Ended says e old new s.last → LinesSoFar says e new (text ++ 10 ∷ []) written
 LinesSoFar-ended says e old new text written s end = record {
   lines = s.lines ++ s.last ∷ [];
@@ -133,7 +136,7 @@ LinesSoFar-ended says e old new text written s end = record {
 }
 
 -- memory ran out behind the lines before the last
-pub FrontLines-kept : (says : Saying) (e : ℕ → End → Place → List ℕ) {M : Type 0} (old new : ByLine M) (text written : List ℕ)
+pub FrontLines-kept : (says : LineSaying) (e : ℕ → End → Place → List ℕ) {M : Type 0} (old new : ByLine M) (text written : List ℕ)
     → LinesSoFar says e old text written → KeepsTexts old new → FrontLines says e text (written ++ new.out.items) new.refused
 FrontLines-kept says e old new text written s kept = record {
   lines = s.lines;
@@ -141,11 +144,12 @@ FrontLines-kept says e old new text written s kept = record {
   joined = s.joined;
   each = s.each;
   no_newline = s.no_newline;
+  count = old.messages;
   texts = rw (kept.out, kept.marked) s.texts;
 }
 
 -- the last line ended
-pub AllLines-ended : (says : Saying) (e : ℕ → End → Place → List ℕ) {M : Type 0} (old new : ByLine M) (text written : List ℕ)
+pub AllLines-ended : (says : LineSaying) (e : ℕ → End → Place → List ℕ) {M : Type 0} (old new : ByLine M) (text written : List ℕ)
     → (s : LinesSoFar says e old text written) → Ended says e old new s.last → AllLines says e text (written ++ new.out.items) new.refused
 AllLines-ended says e old new text written s end = record {
   lines = s.lines;
@@ -153,6 +157,7 @@ AllLines-ended says e old new text written s end = record {
   joined = s.joined;
   each = s.each;
   no_newline = s.no_newline;
+  count = new.messages;
   texts = ended_texts says e old new text written s end;
 }
 
@@ -162,7 +167,7 @@ IsLast-end_of (Ok done) end is = rw is tt
 IsLast-end_of (Err error) end is = rw is tt
 
 -- the end of the input was found, and with it the last line ended or memory ran out
-pub AreLinesOf-at_end : (says : Saying) (e : ℕ → End → Place → List ℕ) {M E : Type 0} (P : Type 0) (new : ByLine M) (text written : List ℕ) (answer : Result (Unit {0}) E) (end : End) (place : Place)
+pub AreLinesOf-at_end : (says : LineSaying) (e : ℕ → End → Place → List ℕ) {M E : Type 0} (P : Type 0) (new : ByLine M) (text written : List ℕ) (answer : Result (Unit {0}) E) (end : End) (place : Place)
     → P → end ≡ end_of answer → AreFinished says e answer new text written → AreLinesOf says e P text (written ++ new.out.items) end new.refused place
 AreLinesOf-at_end says e P new text written (Ok done) end place at_end is finished = rw is (at_end, finished)
 AreLinesOf-at_end says e P new text written (Err error) end place at_end is finished =
@@ -171,7 +176,7 @@ AreLinesOf-at_end says e P new text written (Err error) end place at_end is fini
     rw is halted
 
 -- memory ran out while a text was taken
-pub AreLinesOf-taken : (says : Saying) (e : ℕ → End → Place → List ℕ) {M : Type 0} (P : Type 0) (new : ByLine M) (before text written : List ℕ) (place : Place) → length text ≤ 65536
+pub AreLinesOf-taken : (says : LineSaying) (e : ℕ → End → Place → List ℕ) {M : Type 0} (P : Type 0) (new : ByLine M) (before text written : List ℕ) (place : Place) → length text ≤ 65536
     → ((front : List ℕ) × (back : List ℕ) × (text ≡ front ++ back) × FrontLines says e (before ++ front) (written ++ new.out.items) new.refused)
     → AreLinesOf says e P (before ++ text) (written ++ new.out.items) (Refused refusals.NoMemory) new.refused place
 AreLinesOf-taken says e P new before text written place few taken = record {
@@ -183,28 +188,28 @@ AreLinesOf-taken says e P new before text written place few taken = record {
 }
 
 -- nothing is printed of no line
-pub HaltedLines-none : (says : Saying) (e : ℕ → End → Place → List ℕ) → HaltedLines says e [] [] false
+pub HaltedLines-none : (says : LineSaying) (e : ℕ → End → Place → List ℕ) → HaltedLines says e [] [] false
 HaltedLines-none says e = record {
   front = [];
   back = [];
   joined = refl;
   near = omega arith;
-  before = record { lines = []; last = []; joined = refl; each = All-nil IsLine; no_newline = All-nil (λ c. c ≢ 10); texts = (refl, refl) };
+  before = record { lines = []; last = []; joined = refl; each = All-nil IsLine; no_newline = All-nil (λ c. c ≢ 10); count = 0; texts = (refl, refl, refl) };
 }
 
 -- the text of a line was made
-pub PrintsLine-made : (says : Saying) (e : ℕ → End → Place → List ℕ) {E : Type 0} (A : List ℕ → Type 0) (n : ℕ) (lines text : List ℕ) (end : End) (faulty : Bool) (place : Place) (r : Result Bool E)
-    → ((line : List ℕ) → A line → IsPrintedOf says n (Unit {0}) line lines end faulty place)
-    → text ≡ lines ++ e (n + 1) end place → IfOk r (λ refused. IsJudged end faulty refused)
-    → IfOk r (λ refused. (line : List ℕ) → A line → PrintsLine says e n line text refused)
-PrintsLine-made says e A n lines text end faulty place (Ok refused) printed is judged = λ line along.
-    record { lines = lines; end = end; faulty = faulty; place = place; by_itself = printed line along; judged = judged; is_text = is }
-PrintsLine-made says e A n lines text end faulty place (Err error) printed is judged = tt
+pub PrintsLine-made : (says : LineSaying) (e : ℕ → End → Place → List ℕ) {E : Type 0} (A : ℕ → List ℕ → Type 0) (n : ℕ) (lines text : List ℕ) (end : End) (faulty : Bool) (place : Place) (last : ℕ) (r : Result Bool E)
+    → ((first : ℕ) (line : List ℕ) → A first line → IsPrintedOf (says (n + 1)) first (Unit {0}) line lines end faulty place)
+    → text ≡ lines ++ e (n + 1) end place → last ≡ place.messages → IfOk r (λ refused. IsJudged end faulty refused)
+    → IfOk r (λ refused. (first : ℕ) (line : List ℕ) → A first line → PrintsLine says e n first line text refused last)
+PrintsLine-made says e A n lines text end faulty place last (Ok refused) printed is counted judged = λ first line along.
+    record { lines = lines; end = end; faulty = faulty; place = place; by_itself = printed first line along; judged = judged; is_text = is; counted = counted }
+PrintsLine-made says e A n lines text end faulty place last (Err error) printed is counted judged = tt
 
 -- the last line ended, or memory ran out
-pub AreFinished-ended : (says : Saying) (e : ℕ → End → Place → List ℕ) {M E : Type 0} (old new : ByLine M) (text written : List ℕ) (answer : Result (Unit {0}) E)
+pub AreFinished-ended : (says : LineSaying) (e : ℕ → End → Place → List ℕ) {M E : Type 0} (old new : ByLine M) (text written : List ℕ) (answer : Result (Unit {0}) E)
     → LinesSoFar says e old text written
-    → OnOk answer ((line : List ℕ) → IsAlong says old.before old.reading line old.stopped → Ended says e old new line)
+    → OnOk answer ((line : List ℕ) → IsAlong (says (old.before + 1)) old.messages old.reading line old.stopped → Ended says e old new line)
     → OnErr answer (KeepsTexts old new) → AreFinished says e answer new text written
 AreFinished-ended says e old new text written (Ok done) s ended kept = AllLines-ended says e old new text written s (ended s.last s.along)
 AreFinished-ended says e old new text written (Err error) s ended kept = FrontLines-kept says e old new text written s kept
@@ -212,7 +217,7 @@ AreFinished-ended says e old new text written (Err error) s ended kept = FrontLi
 -- nothing changed but the line that is read
 pub KeepsTexts-both : {M : Type 0} (a b c : ByLine M) → KeepsTexts a b → KeepsTexts b c → KeepsTexts a c
 KeepsTexts-both a b c first second =
-    record { before = second.before ∙ first.before; out = second.out ∙ first.out; marked = second.marked ∙ first.marked }
+    record { before = second.before ∙ first.before; messages = second.messages ∙ first.messages; out = second.out ∙ first.out; marked = second.marked ∙ first.marked }
 
 -- a line was refused, and is read no further
 pub IsAlong-stopped : (says : Saying) {M E : Type 0} (old taken new : Reading M) (before stopped : Option Refusal) (part : List ℕ) (why : Refusal) (r : Result (Unit {0}) E)
@@ -226,24 +231,24 @@ IsAlong-stopped says old taken new (Some x) stopped part why (Ok done) none same
 IsAlong-stopped says old taken new before stopped part why (Err error) none same takes s = tt
 
 -- memory ran out behind what is used of a text
-pub TakesLines-halted : (says : Saying) (e : ℕ → End → Place → List ℕ) {M E : Type 0} (old new : ByLine M) (before used rest text written : List ℕ) (answer : Result (Unit {0}) E) (error : E)
+pub TakesLines-halted : (says : LineSaying) (e : ℕ → End → Place → List ℕ) {M E : Type 0} (old new : ByLine M) (before used rest text written : List ℕ) (answer : Result (Unit {0}) E) (error : E)
     → answer ≡ Err error → text ≡ used ++ rest → LinesSoFar says e old (before ++ used) written → KeepsTexts old new → TakesLines says e answer new before text written
 TakesLines-halted says e old new before used rest text written answer error is joined s kept =
     rw is (used, rest, joined, FrontLines-kept says e old new (before ++ used) written s kept)
 
 -- the rest of a text is part of a line
-pub LinesSoFar-rest : (says : Saying) (e : ℕ → End → Place → List ℕ) {M : Type 0} (old new : ByLine M) (before used part text written : List ℕ)
+pub LinesSoFar-rest : (says : LineSaying) (e : ℕ → End → Place → List ℕ) {M : Type 0} (old new : ByLine M) (before used part text written : List ℕ)
     → text ≡ used ++ part → LinesSoFar says e old (before ++ used) written → KeepsTexts old new → IsLine part
-    → ((first : ℕ) (line : List ℕ) → IsAlong says first old.reading line old.stopped → IsAlong says first new.reading (line ++ part) new.stopped)
+    → ((first : ℕ) (line : List ℕ) → IsAlong (says (old.before + 1)) first old.reading line old.stopped → IsAlong (says (old.before + 1)) first new.reading (line ++ part) new.stopped)
     → LinesSoFar says e new (before ++ text) written
 LinesSoFar-rest says e old new before used part text written joined s kept is_line along =
     rw (joined, ← append_assoc) (LinesSoFar-part says e old new (before ++ used) part written s kept is_line along)
 
 -- a line and its newline more
-pub LinesSoFar-line : (says : Saying) (e : ℕ → End → Place → List ℕ) {M : Type 0} (old between new : ByLine M) (before used part written : List ℕ)
+pub LinesSoFar-line : (says : LineSaying) (e : ℕ → End → Place → List ℕ) {M : Type 0} (old between new : ByLine M) (before used part written : List ℕ)
     → LinesSoFar says e old (before ++ used) written → KeepsTexts old between → IsLine part
-    → ((first : ℕ) (line : List ℕ) → IsAlong says first old.reading line old.stopped → IsAlong says first between.reading (line ++ part) between.stopped)
-    → ((line : List ℕ) → IsAlong says between.before between.reading line between.stopped → Ended says e between new line)
+    → ((first : ℕ) (line : List ℕ) → IsAlong (says (old.before + 1)) first old.reading line old.stopped → IsAlong (says (old.before + 1)) first between.reading (line ++ part) between.stopped)
+    → ((line : List ℕ) → IsAlong (says (between.before + 1)) between.messages between.reading line between.stopped → Ended says e between new line)
     → LinesSoFar says e new (before ++ (used ++ (part ++ 10 ∷ []))) written
 LinesSoFar-line says e old between new before used part written s kept is_line along ended =
     let taken = LinesSoFar-part says e old between (before ++ used) part written s kept is_line along in

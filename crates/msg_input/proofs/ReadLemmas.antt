@@ -339,11 +339,11 @@ none_of None none = refl
 none_of (Some x) none = absurd (cc)
 
 -- the rest is printed as one message more
-pub WholeText-left : (says : Saying) (first : ℕ) {M : Type 0} (old : Reading M) (report : Report M) (text written lines : List ℕ) (fault : Bool)
+pub WholeText-left : (says : Saying) (first : ℕ) {M : Type 0} (old : Reading M) (report : Report M) (place : Place) (text written lines : List ℕ) (fault : Bool)
     → SoFar says first old text written None → is_some old.half ≡ false → (length old.framer.rest == 0) ≡ false
     → says (old.report.messages + 1) old.report.octets old.framer.rest lines fault → Gains old.report report (old.framer.rest ∷ []) lines fault
-    → WholeText says first text (written ++ report.out.items) report.refused
-WholeText-left says first old report text written lines fault so_far even some printed gained =
+    → place.messages ≡ report.messages → WholeText says first text (written ++ report.out.items) report.refused place
+WholeText-left says first old report place text written lines fault so_far even some printed gained here =
     let s = so_far.stands in
     let last = PrintsAll-one says old.report.messages old.report.octets old.framer.rest lines fault printed in
     let all = Stands-all says first old.framer old.report report so_far.octets written s (old.framer.rest ∷ []) lines fault last gained in
@@ -355,6 +355,9 @@ WholeText-left says first old report text written lines fault so_far even some p
       frames = rw (s.none_waits, append-nil, ← s.frames.rest) at s.frames.frames;
       no_fault = rw (← s.frames.rest) at s.frames.shown;
       printed = rw (left_over-some old.framer.rest some) all;
+      counted =
+          let a = s.counted in let b = gained.messages in let c = length-append s.messages (old.framer.rest ∷ []) in
+          rw (left_over-some old.framer.rest some) (omega arith);
     }
 
 -- what is known of a text so far is what is printed of its front
@@ -371,6 +374,7 @@ FrontText-so_far says first reading text written fault so_far =
       frames = Stands-frames says first reading.framer reading.report so_far.octets written fault s;
       shown = s.frames.shown;
       printed = s.printed;
+      messages_before = s.counted;
       octets_before = s.placed;
       characters_before = so_far.passed;
     }

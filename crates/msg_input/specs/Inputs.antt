@@ -1,5 +1,5 @@
 -- What is printed of an input: its messages in order, and then how reading it ended.
-use Rattle.std.specs.Prelude.{◌≡◌, ◌⊎◌, ◌≤◌, ℕ, Bool, false, List, [], ◌∷◌, ◌++◌, length, Option, Some, None}
+use Rattle.std.specs.Prelude.{◌≡◌, ◌⊎◌, ◌≤◌, ℕ, ◌+◌, Bool, false, List, [], ◌∷◌, ◌++◌, length, Option, Some, None}
 use Rattle.std.specs.Io.KnownBytes.{Appends, Consumes, IsAtEnd}
 use Rattle.dia_frame.specs.Frames.{Frames, fault_of, joined}
 use Rattle.dia_frame.specs.declared.fault.FrameFault.{FrameFault}
@@ -23,6 +23,7 @@ pub record FrontText (says : Saying) (first : ℕ) (text : List ℕ) (half : Opt
   pub frames : Frames octets 4096 messages rest
   pub shown : fault_of 4096 rest ≡ fault
   pub printed : PrintsAll says first 0 messages lines refused
+  pub messages_before : place.messages ≡ first + length messages
   pub octets_before : place.octets ≡ length (joined messages)
   pub characters_before : place.characters ≡ length text
 
@@ -32,7 +33,7 @@ left_over [] = []
 left_over (octet ∷ octets) = (octet ∷ octets) ∷ []
 
 -- The whole text means some octets, which show no fault; their messages are printed, and their rest as one message more.
-pub record WholeText (says : Saying) (first : ℕ) (text lines : List ℕ) (refused : Bool) : Type 0 where
+pub record WholeText (says : Saying) (first : ℕ) (text lines : List ℕ) (refused : Bool) (place : Place) : Type 0 where
   pub octets : List ℕ
   pub messages : List (List ℕ)
   pub rest : List ℕ
@@ -40,6 +41,7 @@ pub record WholeText (says : Saying) (first : ℕ) (text lines : List ℕ) (refu
   pub frames : Frames octets 4096 messages rest
   pub no_fault : fault_of 4096 rest ≡ None
   pub printed : PrintsAll says first 0 (messages ++ left_over rest) lines refused
+  pub counted : place.messages ≡ first + length (messages ++ left_over rest)
 
 -- The text leaves a digit over; the messages before it are printed.
 pub record OddText (says : Saying) (first : ℕ) (text lines : List ℕ) (place : Place) : Type 0 where
@@ -98,7 +100,7 @@ pub record HaltedText (says : Saying) (first : ℕ) (text lines : List ℕ) (ref
 -- the lines of a text's messages, by how reading it ended, whether one of them is a fault, and how far it was read where it was refused;
 -- `AtEnd` says that nothing is left to read
 abbrev pub IsPrintedOf : Saying → ℕ → Type 0 → List ℕ → List ℕ → End → Bool → Place → Type 0
-IsPrintedOf says first AtEnd text lines Whole refused place = AtEnd × WholeText says first text lines refused
+IsPrintedOf says first AtEnd text lines Whole refused place = AtEnd × WholeText says first text lines refused place
 IsPrintedOf says first AtEnd text lines (Refused refusals.BadHex) refused place = (AtEnd × OddText says first text lines place) ⊎ BadText says first text lines place
 IsPrintedOf says first AtEnd text lines (Refused (refusals.Frame fault)) refused place = FaultyText says first text lines fault place
 IsPrintedOf says first AtEnd text lines (Refused refusals.NoMemory) refused place = HaltedText says first text lines refused

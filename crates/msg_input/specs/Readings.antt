@@ -34,7 +34,7 @@ pub record SoFar (says : Saying) (first : ℕ) {M : Type 0} (reading : Reading M
 
 -- how far the input was read
 abbrev pub place_of : {M : Type 0} → Reading M → Place
-place_of reading = record { octets = reading.report.octets; characters = reading.characters }
+place_of reading = record { messages = reading.report.messages; octets = reading.report.octets; characters = reading.characters }
 
 -- The messages that waited were printed behind the others.
 pub record PrintsWaiting (says : Saying) {M : Type 0} (framer framer' : FramerState) (report report' : Report M) : Type 0 where
@@ -84,7 +84,7 @@ TakesText says first (Err refusals.NoMemory) new before text written =
 
 -- by what the end answered: the text is printed whole, or leaves a digit over, or memory ran out for its last message
 abbrev pub Finishes : Saying → ℕ → {M : Type 0} → Result (Unit {0}) Refusal → Reading M → (text written : List ℕ) → Type 0
-Finishes says first (Ok done) new text written = WholeText says first text (written ++ new.report.out.items) new.report.refused
+Finishes says first (Ok done) new text written = WholeText says first text (written ++ new.report.out.items) new.report.refused (place_of new)
 Finishes says first (Err refusals.BadHex) new text written = OddText says first text (written ++ new.report.out.items) (place_of new)
 Finishes says first (Err (refusals.Frame fault)) new text written = ⊥
 Finishes says first (Err refusals.NoMemory) new text written = ShortText says first text (written ++ new.report.out.items) new.report.refused

@@ -42,8 +42,9 @@ pub(crate) struct ByLine<M> {
     reading: Reading<M>,
     /// Why it is read no further.
     stopped: Option<Refusal>,
-    /// How many lines came before it.
+    /// How many lines came before it, and how many messages in them.
     before: u64,
+    messages: u64,
     /// The text of the line that ended last.
     text: Vec<u8>,
     /// What is to be written out.
@@ -53,7 +54,7 @@ pub(crate) struct ByLine<M> {
 }
 
 impl<M: Manner> ByLine<M> {
-    ghost use Rattle.msg_input.specs.ByLine.{PrintsLine};
+    ghost use Rattle.msg_input.specs.ByLine.{PrintsLine, says_by};
     ghost use Rattle.msg_input.specs.ByLineSoFar.{IsAlong, KeepsTexts, LinesSoFar, Ended, MayStop, TakesLines, AreFinished};
     ghost use Rattle.msg_input.specs.Inputs.{IsPrintedOf};
     ghost use Rattle.msg_input.specs.Readings.{place_of};
@@ -61,7 +62,7 @@ impl<M: Manner> ByLine<M> {
 
     /// Nothing is read yet.
     pub(crate) fn new(alloc: Global) -> Result<ByLine<M>, AllocError>
-        ensures start { IfOk result (λ lines. (g : Meanings) → LinesSoFar (M.Says g) M.line_text lines [] []) }
+        ensures start { IfOk result (λ lines. (g : Meanings) → LinesSoFar (says_by (M.Says g)) M.line_text lines [] []) }
         ensures begun { IfOk result (λ lines. lines.reading.characters ≡ 0) }
     {
         Ok(ByLine {
@@ -69,6 +70,7 @@ impl<M: Manner> ByLine<M> {
             reading: Reading::new(alloc)?,
             stopped: None,
             before: 0,
+            messages: 0,
             text: Vec::new(alloc),
             out: Vec::new(alloc),
             refused: false,
@@ -99,8 +101,8 @@ impl<M: Manner> ByLine<M> {
     /// Forgets what was written out.
     pub(crate) fn clear(&mut self)
         ensures characters { self.new.reading.characters ≡ self.old.reading.characters }
-        ensures so_far { (g : Meanings) (text written : List ℕ) → LinesSoFar (M.Says g) M.line_text self.old text written
-            → LinesSoFar (M.Says g) M.line_text self.new text (written ++ self.old.out.items) }
+        ensures so_far { (g : Meanings) (text written : List ℕ) → LinesSoFar (says_by (M.Says g)) M.line_text self.old text written
+            → LinesSoFar (says_by (M.Says g)) M.line_text self.new text (written ++ self.old.out.items) }
     {
         self.out.clear();
     }
@@ -125,39 +127,40 @@ impl<M: Manner> ByLine<M> {
         requires room { self.old.reading.characters + length part.now < 2 ^ 64 }
         ensures characters { self.new.reading.characters ≤ self.old.reading.characters + length part.now }
         ensures kept { KeepsTexts self.old self.new }
-        ensures along { OnOk result ((first : ℕ) (line : List ℕ) → IsAlong (M.Says glossary.now) first self.old.reading line self.old.stopped
-            → IsAlong (M.Says glossary.now) first self.new.reading (line ++ part.now) self.new.stopped) }
+        ensures along { OnOk result ((first : ℕ) (line : List ℕ) → IsAlong (M.Says glossary.now (Some (self.old.before + 1))) first self.old.reading line self.old.stopped
+            → IsAlong (M.Says glossary.now (Some (self.old.before + 1))) first self.new.reading (line ++ part.now) self.new.stopped) }
     {
         if self.stopped.is_some() {
             return Ok(());
         }
-        match self.reading.take_text(glossary, part) {
+        let line = counted(self.before, 1)?;
+        match self.reading.take_text(glossary, Some(line), part) {
             Ok(()) => Ok(()),
             Err(refusal) => self.stop(refusal),
         }
     }
 
-    // How the line ended.
-    fn end_of_line(&mut self, glossary: &Glossary) -> End
+    // How the line of this number ended.
+    fn end_of_line(&mut self, glossary: &Glossary, number: u64) -> End
         ensures last { IsLast result }
         ensures kept { KeepsTexts self.old self.new }
-        ensures printed { (first : ℕ) (line : List ℕ) → IsAlong (M.Says glossary.now) first self.old.reading line self.old.stopped
-            → IsPrintedOf (M.Says glossary.now) first (Unit {0}) line self.new.reading.report.out.items result self.new.reading.report.refused (place_of self.new.reading) }
+        ensures printed { (first : ℕ) (line : List ℕ) → IsAlong (M.Says glossary.now (Some number)) first self.old.reading line self.old.stopped
+            → IsPrintedOf (M.Says glossary.now (Some number)) first (Unit {0}) line self.new.reading.report.out.items result self.new.reading.report.refused (place_of self.new.reading) }
     {
         match self.stopped {
             Some(refusal) => End::Refused(refusal),
-            None => self.reading.end(glossary),
+            None => self.reading.end(glossary, Some(number)),
         }
     }
 
     // Makes the text of the line, and says whether it tells a fault.
     fn make_text(&mut self, glossary: &Glossary) -> Result<bool, AllocError>
         ensures kept { KeepsTexts self.old self.new }
-        ensures made { IfOk result (λ refused. (line : List ℕ) → IsAlong (M.Says glossary.now) self.old.before self.old.reading line self.old.stopped
-            → PrintsLine (M.Says glossary.now) M.line_text self.old.before line self.new.text.items refused) }
+        ensures made { IfOk result (λ refused. (first : ℕ) (line : List ℕ) → IsAlong (M.Says glossary.now (Some (self.old.before + 1))) first self.old.reading line self.old.stopped
+            → PrintsLine (says_by (M.Says glossary.now)) M.line_text self.old.before first line self.new.text.items refused self.new.reading.report.messages) }
     {
-        let end = self.end_of_line(glossary);
         let number = counted(self.before, 1)?;
+        let end = self.end_of_line(glossary, number);
         self.text.clear();
         self.text.extend_from_slice(self.reading.text())?;
         M::put_line_end(&mut self.text, number, end, self.reading.place())?;
@@ -166,18 +169,20 @@ impl<M: Manner> ByLine<M> {
 
     // Ends the line, and begins the next.
     fn end_line(&mut self, glossary: &Glossary) -> Result<(), AllocError>
-        ensures ended { OnOk result ((line : List ℕ) → IsAlong (M.Says glossary.now) self.old.before self.old.reading line self.old.stopped
-            → Ended (M.Says glossary.now) M.line_text self.old self.new line) }
+        ensures ended { OnOk result ((line : List ℕ) → IsAlong (M.Says glossary.now (Some (self.old.before + 1))) self.old.messages self.old.reading line self.old.stopped
+            → Ended (says_by (M.Says glossary.now)) M.line_text self.old self.new line) }
         ensures begun { OnOk result (self.new.reading.characters ≡ 0) }
         ensures err { OnErr result (KeepsTexts self.old self.new) }
     {
         let refused = self.make_text(glossary)?;
         let before = counted(self.before, 1)?;
+        let messages = self.reading.messages();
         self.out.extend_from_slice(&self.text)?;
         self.refused = self.refused | refused;
         self.before = before;
+        self.messages = messages;
         self.stopped = None;
-        self.reading.restart(self.alloc, before);
+        self.reading.restart(self.alloc, messages);
         Ok(())
     }
 
@@ -185,8 +190,8 @@ impl<M: Manner> ByLine<M> {
     pub(crate) fn take_text(&mut self, glossary: &Glossary, text: &[u8]) -> Result<(), AllocError>
         requires room { self.old.reading.characters + length text.now < 2 ^ 64 }
         ensures characters { OnOk result (self.new.reading.characters ≤ self.old.reading.characters + length text.now) }
-        ensures taken { (before written : List ℕ) → LinesSoFar (M.Says glossary.now) M.line_text self.old before written
-            → TakesLines (M.Says glossary.now) M.line_text result self.new before text.now written }
+        ensures taken { (before written : List ℕ) → LinesSoFar (says_by (M.Says glossary.now)) M.line_text self.old before written
+            → TakesLines (says_by (M.Says glossary.now)) M.line_text result self.new before text.now written }
     {
         let mut rest = text;
         'lines: while !rest.is_empty() {
@@ -203,8 +208,8 @@ impl<M: Manner> ByLine<M> {
 
     /// Ends with the input, and with it the last line.
     pub(crate) fn end(&mut self, glossary: &Glossary) -> Result<(), AllocError>
-        ensures { (text written : List ℕ) → LinesSoFar (M.Says glossary.now) M.line_text self.old text written
-            → AreFinished (M.Says glossary.now) M.line_text result self.new text written }
+        ensures { (text written : List ℕ) → LinesSoFar (says_by (M.Says glossary.now)) M.line_text self.old text written
+            → AreFinished (says_by (M.Says glossary.now)) M.line_text result self.new text written }
     {
         self.end_line(glossary)
     }

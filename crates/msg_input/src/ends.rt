@@ -50,6 +50,8 @@ pub enum End {
 /// How far an input was read.
 #[derive(Clone, Copy, PartialEq, Eq)]
 pub struct Place {
+    /// The number of the last message so far.
+    pub messages: u64,
     /// Octets of the whole messages so far: where the next one begins.
     pub octets: u64,
     /// Characters so far.

@@ -3,7 +3,7 @@ ghost use Rattle.std.specs.Prelude.{◌≡◌, ◌≢◌, ◌⊎◌, ◌<◌, �
 ghost use Rattle.std.specs.Io.KnownBytes.{IsAtEnd};
 ghost use Rattle.dia_show.specs.Glossary.{Meanings};
 ghost use Rattle.base_device.specs.Devices.{HasWriteCause, IsRun, Tells};
-ghost use Rattle.msg_input.specs.ByLine.{AreLinesOf};
+ghost use Rattle.msg_input.specs.ByLine.{AreLinesOf, says_by};
 ghost use Rattle.msg_input.specs.ByLineSoFar.{LinesSoFar, end_of};
 ghost use Rattle.msg_input.specs.Ends.{EndsBy, end_status};
 ghost use Rattle.msg_input.specs.Inputs.{IsReport};
@@ -40,13 +40,13 @@ fn pour_lines<M: Manner, I: ByteSource, O: ByteSink>(
     requires room { 0 < length text.old }
     requires few { length text.old ≤ TEXT }
     requires begun { lines.old.reading.characters ≡ 0 }
-    requires start { LinesSoFar (M.Says glossary.now) M.line_text lines.old [] [] }
+    requires start { LinesSoFar (says_by (M.Says glossary.now)) M.line_text lines.old [] [] }
     requires reads { I.reads source.old + MAX_READS < 2 ^ 64 }
     requires read_failures { I.failures source.old < 2 ^ 64 - 1 }
     requires idle { O.idle sink.old ≡ 0 }
     requires write_failures { O.failures sink.old < 2 ^ 64 - 1 }
     ensures end { IfOk result (EndsBy I.remaining I.reads I.failures source.old source.new) }
-    ensures report { IfOk result (IsPoured (AreLinesOf (M.Says glossary.now) M.line_text) I.remaining O.contents source.old source.new sink.old sink.new
+    ensures report { IfOk result (IsPoured (AreLinesOf (says_by (M.Says glossary.now)) M.line_text) I.remaining O.contents source.old source.new sink.old sink.new
         lines.new.out.items lines.new.refused (place_of lines.new.reading)) }
     ensures some { OnOk result (I.reads source.old < I.reads source.new) }
     ensures sound { OnOk result ((O.failures sink.new ≡ O.failures sink.old) × (O.idle sink.new ≡ 0)) }
@@ -85,7 +85,7 @@ fn close_lines<M: Manner, O: ByteSink>(lines: &ByLine<M>, end: End, sink: &mut O
 // What is known before the first read, and room for what is read at once.
 fn begun<M: Manner>(alloc: Global) -> Result<(ByLine<M>, Vec<u8>), AllocError>
     ensures begun { IfOk result (λ begun. begun.0.reading.characters ≡ 0) }
-    ensures start { IfOk result (λ begun. (g : Meanings) → LinesSoFar (M.Says g) M.line_text begun.0 [] []) }
+    ensures start { IfOk result (λ begun. (g : Meanings) → LinesSoFar (says_by (M.Says g)) M.line_text begun.0 [] []) }
     ensures room { IfOk result (λ begun. length begun.1.items ≡ TEXT) }
 {
     let lines = ByLine::new(alloc)?;
@@ -107,7 +107,7 @@ pub fn read_lines_in<M: Manner, I: ByteSource, O: ByteSink>(
     ensures reads { I.reads source.new ≤ I.reads source.old + MAX_READS }
     ensures row { O.most_idle sink.new ≤ max (O.most_idle sink.old) MAX_IDLE_WRITES }
     ensures run { IsRun I.reads I.failures O.failures O.idle source.old source.new sink.old sink.new result }
-    ensures report { IsReport (AreLinesOf (M.Says glossary.now) M.line_text) M.end_text I.remaining O.contents source.old source.new sink.old sink.new result
+    ensures report { IsReport (AreLinesOf (says_by (M.Says glossary.now)) M.line_text) M.end_text I.remaining O.contents source.old source.new sink.old sink.new result
         ⊎ (HasWriteCause O.failures O.idle sink.old sink.new × (result ≡ Status.Fault)) }
     ensures whole { result ≡ Status.Done → IsAtEnd (I.remaining source.new) }
     ensures refused { result ≡ Status.Refused → I.reads source.old < I.reads source.new }

@@ -1,5 +1,5 @@
 //! In which manner messages are printed.
-ghost use Rattle.std.specs.Prelude.{◌≡◌, ◌++◌, ℕ, List, Bool, IfOk, OnOk};
+ghost use Rattle.std.specs.Prelude.{◌≡◌, ◌++◌, ℕ, List, Bool, Option, IfOk, OnOk};
 ghost use Rattle.msg_input.specs.Ends.{words_of};
 
 use crate::ends::{End, EndWords, Place};
@@ -12,9 +12,9 @@ pub trait Manner: Drop {
     ghost use Rattle.msg_input.specs.declared.ends.Place.{Place};
     ghost use Rattle.dia_show.specs.Glossary.{Meanings};
 
-    /// What is printed of a message, by the glossary, its number from 1, the octet of the input at which it begins, and its octets: a text, and
-    /// whether it tells a fault.
-    ghost Says: { Meanings → ℕ → ℕ → List ℕ → List ℕ → Bool → Type 0 };
+    /// What is printed of a message, by the glossary, the line in which it stands where each line is read by itself, its number from 1, the
+    /// octet of the input or line at which it begins, and its octets: a text, and whether it tells a fault.
+    ghost Says: { Meanings → Option ℕ → ℕ → ℕ → List ℕ → List ℕ → Bool → Type 0 };
 
     /// What is printed of how reading ended, by how far the input was read then.
     ghost end_text: { End → Place → List ℕ };
@@ -29,12 +29,13 @@ pub trait Manner: Drop {
     fn put(
         &mut self,
         glossary: &Glossary,
+        line: Option<u64>,
         out: &mut Vec<u8>,
         number: u64,
         offset: u64,
         octets: &[u8],
     ) -> Result<bool, AllocError>
-        ensures { IfOk result (λ refused. (text : List ℕ) × Says glossary.now number offset octets.now text refused
+        ensures { IfOk result (λ refused. (text : List ℕ) × Says glossary.now line number offset octets.now text refused
             × (out.new.items ≡ out.old.items ++ text)) };
 
     /// What is printed of how reading ended.

@@ -29,13 +29,13 @@ fn pour<M: Manner, I: ByteSource, O: ByteSink>(
 ) -> Result<End, WriteFault>
     requires room { 0 < length text.old }
     requires few { length text.old ≤ TEXT }
-    requires start { SoFar (M.Says glossary.now) 0 reading.old [] [] None }
+    requires start { SoFar (M.Says glossary.now None) 0 reading.old [] [] None }
     requires reads { I.reads source.old + MAX_READS < 2 ^ 64 }
     requires read_failures { I.failures source.old < 2 ^ 64 - 1 }
     requires idle { O.idle sink.old ≡ 0 }
     requires write_failures { O.failures sink.old < 2 ^ 64 - 1 }
     ensures end { IfOk result (EndsBy I.remaining I.reads I.failures source.old source.new) }
-    ensures report { IfOk result (IsPoured (IsPrintedOf (M.Says glossary.now) 0) I.remaining O.contents source.old source.new sink.old sink.new
+    ensures report { IfOk result (IsPoured (IsPrintedOf (M.Says glossary.now None) 0) I.remaining O.contents source.old source.new sink.old sink.new
         reading.new.report.out.items reading.new.report.refused (place_of reading.new)) }
     ensures some { OnOk result (I.reads source.old < I.reads source.new) }
     ensures sound { OnOk result ((O.failures sink.new ≡ O.failures sink.old) × (O.idle sink.new ≡ 0)) }
@@ -48,10 +48,10 @@ fn pour<M: Manner, I: ByteSource, O: ByteSink>(
         let count = match source.read(text) {
             Err(_) => return Ok(End::ReadFailed),
             Ok(None) => continue,
-            Ok(Some(0)) => return Ok(reading.end(glossary)),
+            Ok(Some(0)) => return Ok(reading.end(glossary, None)),
             Ok(Some(count)) => count,
         };
-        if let Err(refusal) = reading.take_text(glossary, &text[..count]) {
+        if let Err(refusal) = reading.take_text(glossary, None, &text[..count]) {
             return Ok(End::Refused(refusal));
         }
         write_whole(sink, reading.text())?;
@@ -156,11 +156,12 @@ fn close<M: Manner, O: ByteSink>(reading: &Reading<M>, end: End, sink: &mut O) -
 pub(crate) fn tell_no_memory<M: Manner, O: ByteSink>(sink: &mut O) -> Status
     requires idle { O.idle sink.old ≡ 0 }
     requires write_failures { O.failures sink.old < 2 ^ 64 - 1 }
-    ensures told { Tells O.contents O.failures O.idle sink.old sink.new ([] ++ M.end_text (End.Refused Refusal.NoMemory) (record { octets = 0; characters = 0 }))
+    ensures told { Tells O.contents O.failures O.idle sink.old sink.new ([] ++ M.end_text (End.Refused Refusal.NoMemory) (record { messages = 0; octets = 0; characters = 0 }))
         Status.NoMemory result }
     ensures row { O.most_idle sink.new ≤ max (O.most_idle sink.old) MAX_IDLE_WRITES }
 {
     let start = Place {
+        messages: 0,
         octets: 0,
         characters: 0,
     };
@@ -169,7 +170,7 @@ pub(crate) fn tell_no_memory<M: Manner, O: ByteSink>(sink: &mut O) -> Status
 
 // What is known before the first read, and room for what is read at once.
 fn begun<M: Manner>(alloc: Global) -> Result<(Reading<M>, Vec<u8>), AllocError>
-    ensures start { IfOk result (λ begun. (g : Meanings) → SoFar (M.Says g) 0 begun.0 [] [] None) }
+    ensures start { IfOk result (λ begun. (g : Meanings) → SoFar (M.Says g None) 0 begun.0 [] [] None) }
     ensures room { IfOk result (λ begun. length begun.1.items ≡ TEXT) }
 {
     let reading = Reading::new(alloc)?;
@@ -190,7 +191,7 @@ pub fn read_in<M: Manner, I: ByteSource, O: ByteSink>(
     ensures reads { I.reads source.new ≤ I.reads source.old + MAX_READS }
     ensures row { O.most_idle sink.new ≤ max (O.most_idle sink.old) MAX_IDLE_WRITES }
     ensures run { IsRun I.reads I.failures O.failures O.idle source.old source.new sink.old sink.new result }
-    ensures report { IsReport (IsPrintedOf (M.Says glossary.now) 0) M.end_text I.remaining O.contents source.old source.new sink.old sink.new result
+    ensures report { IsReport (IsPrintedOf (M.Says glossary.now None) 0) M.end_text I.remaining O.contents source.old source.new sink.old sink.new result
         ⊎ (HasWriteCause O.failures O.idle sink.old sink.new × (result ≡ Status.Fault)) }
     ensures whole { result ≡ Status.Done → IsAtEnd (I.remaining source.new) }
     ensures refused { result ≡ Status.Refused → I.reads source.old < I.reads source.new }

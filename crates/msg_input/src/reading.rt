@@ -1,5 +1,5 @@
 //! What is known of an input while it is read: its octets, its messages, and what they print.
-ghost use Rattle.std.specs.Prelude.{◌≡◌, ◌≢◌, ◌++◌, ◌<◌, ◌≤◌, ◌+◌, ◌^◌, ℕ, List, length, [], None, IfOk, OnOk, OnErr};
+ghost use Rattle.std.specs.Prelude.{◌≡◌, ◌≢◌, ◌++◌, ◌<◌, ◌≤◌, ◌+◌, ◌^◌, ℕ, List, Option, length, [], None, IfOk, OnOk, OnErr};
 ghost use Rattle.std.specs.Option.{ForSome};
 ghost use Rattle.msg_input.specs.Ends.{IsLast};
 
@@ -33,7 +33,7 @@ impl<M: Manner> Reading<M> {
 
     /// Nothing is read yet.
     pub(crate) fn new(alloc: Global) -> Result<Reading<M>, AllocError>
-        ensures start { IfOk result (λ reading. (g : Meanings) → SoFar (M.Says g) 0 reading [] [] None) }
+        ensures start { IfOk result (λ reading. (g : Meanings) (line : Option ℕ) → SoFar (M.Says g line) 0 reading [] [] None) }
         ensures characters { IfOk result (λ reading. reading.characters ≡ 0) }
     {
         Ok(Reading {
@@ -46,7 +46,7 @@ impl<M: Manner> Reading<M> {
 
     /// Begins anew behind so many messages.
     pub(crate) fn restart(&mut self, alloc: Global, messages: u64)
-        ensures start { (g : Meanings) → SoFar (M.Says g) messages self.new [] [] None }
+        ensures start { (g : Meanings) (line : Option ℕ) → SoFar (M.Says g line) messages self.new [] [] None }
         ensures characters { self.new.characters ≡ 0 }
     {
         self.framer = Framer::new(alloc, PIECE);
@@ -69,11 +69,19 @@ impl<M: Manner> Reading<M> {
         self.report.has_refused()
     }
 
+    /// The number of the last message.
+    pub(crate) fn messages(&self) -> u64
+        ensures { result ≡ self.now.report.messages }
+    {
+        self.report.messages()
+    }
+
     /// How far the input was read.
     pub(crate) fn place(&self) -> Place
         ensures { result ≡ place_of self.now }
     {
         Place {
+            messages: self.report.messages(),
             octets: self.report.octets(),
             characters: self.characters,
         }
@@ -82,45 +90,55 @@ impl<M: Manner> Reading<M> {
     /// Forgets what was written out.
     pub(crate) fn clear(&mut self)
         ensures characters { self.new.characters ≡ self.old.characters }
-        ensures so_far { (g : Meanings) (first : ℕ) (text written : List ℕ) → SoFar (M.Says g) first self.old text written None
-            → SoFar (M.Says g) first self.new text (written ++ self.old.report.out.items) None }
+        ensures so_far { (g : Meanings) (line : Option ℕ) (first : ℕ) (text written : List ℕ) → SoFar (M.Says g line) first self.old text written None
+            → SoFar (M.Says g line) first self.new text (written ++ self.old.report.out.items) None }
     {
         self.report.clear();
     }
 
     // Prints the messages that wait, oldest first.
-    fn print_waiting(&mut self, glossary: &Glossary) -> Result<(), AllocError>
+    fn print_waiting(&mut self, glossary: &Glossary, line: Option<u64>) -> Result<(), AllocError>
         ensures kept { (self.new.half ≡ self.old.half) × (self.new.characters ≡ self.old.characters) }
-        ensures printed { OnOk result (PrintsWaiting (M.Says glossary.now) self.old.framer self.new.framer self.old.report self.new.report) }
-        ensures halted { OnErr result (PrintsFront (M.Says glossary.now) self.old.framer self.old.report self.new.report) }
+        ensures printed { OnOk result (PrintsWaiting (M.Says glossary.now line) self.old.framer self.new.framer self.old.report self.new.report) }
+        ensures halted { OnErr result (PrintsFront (M.Says glossary.now line) self.old.framer self.old.report self.new.report) }
     {
         while let Some(frame) = self.framer.next_frame() {
-            self.report.message(glossary, frame.as_slice())?;
+            self.report.message(glossary, line, frame.as_slice())?;
         }
         Ok(())
     }
 
     // The messages that a piece completes are printed, also where the octets behind them show a fault.
-    fn take_piece(&mut self, glossary: &Glossary, piece: &[u8]) -> Result<(), Refusal>
+    fn take_piece(
+        &mut self,
+        glossary: &Glossary,
+        line: Option<u64>,
+        piece: &[u8],
+    ) -> Result<(), Refusal>
         ensures kept { (self.new.half ≡ self.old.half) × (self.new.characters ≡ self.old.characters) }
-        ensures stands { (first : ℕ) (octets written : List ℕ) (before : Stands (M.Says glossary.now) first self.old.framer self.old.report octets written None)
-            → TakesPiece result (Stands (M.Says glossary.now) first self.new.framer self.new.report (octets ++ piece.now) written)
-            (Halts (M.Says glossary.now) first before.messages self.new.report (octets ++ piece.now) written) }
+        ensures stands { (first : ℕ) (octets written : List ℕ) (before : Stands (M.Says glossary.now line) first self.old.framer self.old.report octets written None)
+            → TakesPiece result (Stands (M.Says glossary.now line) first self.new.framer self.new.report (octets ++ piece.now) written)
+            (Halts (M.Says glossary.now line) first before.messages self.new.report (octets ++ piece.now) written) }
     {
         let fed = self.framer.feed(piece);
-        self.print_waiting(glossary)?;
+        self.print_waiting(glossary, line)?;
         match fed {
             Ok(_) => Ok(()),
             Err(error) => Err(Refusal::from(error)),
         }
     }
 
-    /// Takes the next characters, and prints the messages that they complete.
-    pub(crate) fn take_text(&mut self, glossary: &Glossary, text: &[u8]) -> Result<(), Refusal>
+    /// Takes the next characters, which are part of this line where lines are read, and prints the messages that they complete.
+    pub(crate) fn take_text(
+        &mut self,
+        glossary: &Glossary,
+        line: Option<u64>,
+        text: &[u8],
+    ) -> Result<(), Refusal>
         requires room { self.old.characters + length text.now < 2 ^ 64 }
         ensures characters { self.new.characters ≤ self.old.characters + length text.now }
-        ensures taken { (first : ℕ) (before written : List ℕ) → SoFar (M.Says glossary.now) first self.old before written None
-            → TakesText (M.Says glossary.now) first result self.new before text.now written }
+        ensures taken { (first : ℕ) (before written : List ℕ) → SoFar (M.Says glossary.now line) first self.old before written None
+            → TakesText (M.Says glossary.now line) first result self.new before text.now written }
     {
         let mut rest = text;
         'pieces: while !rest.is_empty() {
@@ -128,7 +146,7 @@ impl<M: Manner> Reading<M> {
             let decoded = decode(self.half, rest, &mut piece);
             self.half = decoded.half;
             self.characters += decoded.used as u64;
-            self.take_piece(glossary, &piece[..decoded.made])?;
+            self.take_piece(glossary, line, &piece[..decoded.made])?;
             if let Stop::BadCharacter = decoded.stop {
                 return Err(Refusal::BadHex);
             }
@@ -138,26 +156,26 @@ impl<M: Manner> Reading<M> {
     }
 
     /// Ends with the input: a digit that is left over is bad, and octets that are left over are a message.
-    pub(crate) fn end(&mut self, glossary: &Glossary) -> End
+    pub(crate) fn end(&mut self, glossary: &Glossary, line: Option<u64>) -> End
         ensures last { IsLast result }
-        ensures printed { (first : ℕ) (text written : List ℕ) → SoFar (M.Says glossary.now) first self.old text written None
-            → IsPrintedOf (M.Says glossary.now) first (Unit {0}) text (written ++ self.new.report.out.items) result self.new.report.refused (place_of self.new) }
+        ensures printed { (first : ℕ) (text written : List ℕ) → SoFar (M.Says glossary.now line) first self.old text written None
+            → IsPrintedOf (M.Says glossary.now line) first (Unit {0}) text (written ++ self.new.report.out.items) result self.new.report.refused (place_of self.new) }
     {
-        match self.finish(glossary) {
+        match self.finish(glossary, line) {
             Ok(()) => End::Whole,
             Err(refusal) => End::Refused(refusal),
         }
     }
 
-    fn finish(&mut self, glossary: &Glossary) -> Result<(), Refusal>
-        ensures { (first : ℕ) (text written : List ℕ) → SoFar (M.Says glossary.now) first self.old text written None → Finishes (M.Says glossary.now) first result self.new text written }
+    fn finish(&mut self, glossary: &Glossary, line: Option<u64>) -> Result<(), Refusal>
+        ensures { (first : ℕ) (text written : List ℕ) → SoFar (M.Says glossary.now line) first self.old text written None → Finishes (M.Says glossary.now line) first result self.new text written }
     {
         if self.half.is_some() {
             return Err(Refusal::BadHex);
         }
         let rest = self.framer.rest();
         if !rest.is_empty() {
-            self.report.message(glossary, rest)?;
+            self.report.message(glossary, line, rest)?;
         }
         Ok(())
     }

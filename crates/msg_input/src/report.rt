@@ -83,6 +83,13 @@ impl<M: Manner> Report<M> {
         self.refused
     }
 
+    /// How many messages there were.
+    pub(crate) fn messages(&self) -> u64
+        ensures { result ≡ self.now.messages }
+    {
+        self.messages
+    }
+
     /// How many octets the messages had.
     pub(crate) fn octets(&self) -> u64
         ensures { result ≡ self.now.octets }
@@ -90,19 +97,29 @@ impl<M: Manner> Report<M> {
         self.octets
     }
 
-    /// Reads the octets of the next message and keeps what is printed of it. Without memory nothing of it is kept.
-    pub fn message(&mut self, glossary: &Glossary, octets: &[u8]) -> Result<(), AllocError>
+    /// Reads the octets of the next message, which stands in this line where lines are read, and keeps what is printed of it. Without memory nothing of it is kept.
+    pub fn message(
+        &mut self,
+        glossary: &Glossary,
+        line: Option<u64>,
+        octets: &[u8],
+    ) -> Result<(), AllocError>
         ensures ok { OnOk result ((text : List ℕ) × (refused : Bool)
-            × M.Says glossary.now (self.old.messages + 1) self.old.octets octets.now text refused
+            × M.Says glossary.now line (self.old.messages + 1) self.old.octets octets.now text refused
             × Gains self.old self.new (octets.now ∷ []) text refused) }
         ensures err { OnErr result (Stays self.old self.new) }
     {
         let number = counted(self.messages, 1)?;
         let end = counted(self.octets, octets.len())?;
         self.lines.clear();
-        let refused = self
-            .manner
-            .put(glossary, &mut self.lines, number, self.octets, octets)?;
+        let refused = self.manner.put(
+            glossary,
+            line,
+            &mut self.lines,
+            number,
+            self.octets,
+            octets,
+        )?;
         self.out.extend_from_slice(&self.lines)?;
         self.refused = self.refused | refused;
         self.messages = number;

@@ -13,11 +13,12 @@ use msg_explain::{Part, parts_of};
 use serde::{Described, Serialize, Serializer};
 use std::alloc::{AllocError, Global};
 
-/// A message, the `number`th of an input, which begins at `offset` in it.
+/// A message, the `number`th of an input, which begins at `offset` in it, or in this line of it.
 #[derive(Clone, Copy)]
 struct Message<'a> {
     alloc: Global,
     glossary: &'a Glossary,
+    line: Option<u64>,
     number: u64,
     offset: u64,
     octets: &'a [u8],
@@ -31,6 +32,9 @@ impl Serialize for Message<'_> {
     fn serialize<S: Serializer>(&self, out: &mut S) -> Result<(), S::Error> {
         out.begin_map(None)?;
         put_number(out, "number", self.number)?;
+        if let Some(line) = self.line {
+            put_number(out, "line", line)?;
+        }
         put_number(out, "offset", self.offset)?;
         put_header(out, self.alloc, self.octets)?;
         put_avps(out, self.alloc, self.glossary, self.parts)?;
@@ -55,6 +59,7 @@ fn put_line(out: &mut Vec<u8>, message: &Message<'_>) -> Result<(), AllocError>
 fn put_message<'a>(
     out: &mut Vec<u8>,
     glossary: &'a Glossary,
+    line: Option<u64>,
     number: u64,
     offset: u64,
     octets: &'a [u8],
@@ -66,6 +71,7 @@ fn put_message<'a>(
     let message = Message {
         alloc: *out.allocator(),
         glossary,
+        line,
         number,
         offset,
         octets,
@@ -75,12 +81,13 @@ fn put_message<'a>(
     put_line(out, &message)
 }
 
-/// Puts what a message says, the `number`th of an input, which begins at `offset` in it, as one object of JSON and the end of its
+/// Puts what a message says, the `number`th of an input, which begins at `offset` in it or in this line of it, as one object of JSON and the end of its
 /// line: its header, its AVPs in the order of the octets, those of a group inside it, and its fault, or null. Says whether it has
 /// one.
 pub fn put_json(
     out: &mut Vec<u8>,
     glossary: &Glossary,
+    line: Option<u64>,
     number: u64,
     offset: u64,
     octets: &[u8],
@@ -94,12 +101,21 @@ pub fn put_json(
     let parts = parts_of(alloc, dictionary, octets)?;
     match read_message(alloc, dictionary, octets) {
         Ok(_) => {
-            put_message(out, glossary, number, offset, octets, &parts, None)?;
+            put_message(out, glossary, line, number, offset, octets, &parts, None)?;
             Ok(false)
         }
         Err(MsgError::NoMemory) => Err(AllocError),
         Err(MsgError::Fault(fault)) => {
-            put_message(out, glossary, number, offset, octets, &parts, Some(&fault))?;
+            put_message(
+                out,
+                glossary,
+                line,
+                number,
+                offset,
+                octets,
+                &parts,
+                Some(&fault),
+            )?;
             Ok(true)
         }
     }

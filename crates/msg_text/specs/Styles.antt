@@ -1,5 +1,5 @@
 -- In which styles messages are printed, and how reading them ended.
-use Rattle.std.specs.Prelude.{◌≡◌, ◌⊎◌, ◌≤◌, ◌^◌, ◌++◌, ℕ, Bool, List, [], length, drop, true, false, codes, decimal}
+use Rattle.std.specs.Prelude.{◌≡◌, ◌⊎◌, ◌≤◌, ◌^◌, ◌++◌, ℕ, Bool, List, [], length, drop, true, false, Option, None, codes, decimal}
 use Rattle.dia_dict.specs.Dictionary.{known}
 use Rattle.dia_show.specs.Glossary.{Meanings}
 use Rattle.dia_frame.specs.declared.fault.FrameFault.{FrameFault}
@@ -7,7 +7,7 @@ use Rattle.dia_frame.specs.declared.fault.FrameFault.TheVariants.{Version, Lengt
 use Rattle.msg_explain.specs.Explained.{Explains}
 use Rattle.msg_json.specs.Lines.{SaysInJson}
 use Rattle.msg_input.specs.Ends.{end_text}
-use Rattle.msg_input.specs.ByLine.{AreLinesOf}
+use Rattle.msg_input.specs.ByLine.{AreLinesOf, says_by}
 use Rattle.msg_input.specs.Inputs.{IsPrintedOf, Printing}
 use Rattle.msg_input.specs.Printed.{Saying}
 use Rattle.msg_text.specs.Printed.{Prints}
@@ -19,17 +19,17 @@ use Rattle.msg_input.specs.declared.style.Style.{Style}
 use Rattle.msg_input.specs.declared.style.Style.TheVariants.{Plain, Explained, Json}
 
 -- plainly: header, AVPs and encoding, or a fault, wherever the message stands
-abbrev pub IsPlain : Meanings → Saying
-IsPlain g number offset octets text refused = Prints g.definitions octets text refused
+abbrev pub IsPlain : Meanings → Option ℕ → Saying
+IsPlain g line number offset octets text refused = Prints g.definitions octets text refused
 
 -- and the end without its place
 abbrev pub plain_end : End → Place → List ℕ
 plain_end end place = end_text end
 
 -- in names; of octets that no length of an AVP or message could tell, only that they are too many
-abbrev pub IsExplained : Meanings → Saying
-IsExplained g number offset octets text refused =
-    Explains g.namings (known g.definitions) number offset octets text refused
+abbrev pub IsExplained : Meanings → Option ℕ → Saying
+IsExplained g line number offset octets text refused =
+    Explains g.namings (known g.definitions) line number offset octets text refused
     ⊎ ((2 ^ 32 ≤ length octets) × (text ≡ codes "too long\n") × (refused ≡ true))
 
 -- what a frame fault is, at an octet of the input (RFC 6733 section 3)
@@ -53,8 +53,8 @@ explained_end ReadFailed place = end_text ReadFailed
 explained_end TooManyReads place = end_text TooManyReads
 
 -- as an object of JSON; of octets that no length of an AVP or message could tell, only that they are too many
-abbrev pub IsJson : Meanings → Saying
-IsJson g number offset octets text refused =
+abbrev pub IsJson : Meanings → Option ℕ → Saying
+IsJson g line number offset octets text refused =
     SaysInJson (known g.definitions) octets text refused
     ⊎ ((2 ^ 32 ≤ length octets) × (text ≡ codes "{\"stop\":\"too long\"}\n") × (refused ≡ true))
 
@@ -103,8 +103,8 @@ json_line_end number TooManyReads object = []
 abbrev pub json_line : ℕ → End → Place → List ℕ
 json_line number end place = json_line_end number end (json_end end place)
 
--- what is printed of a message, by the style
-abbrev pub says_in : Style → Meanings → Saying
+-- what is printed of a message, by the style, and by the line in which it stands, where each is read by itself
+abbrev pub says_in : Style → Meanings → Option ℕ → Saying
 says_in Plain = IsPlain
 says_in Explained = IsExplained
 says_in Json = IsJson
@@ -123,5 +123,5 @@ line_in Json = json_line
 
 -- what is printed of a text, by the style, by whether each line is read by itself, and by what was added to the dictionary
 abbrev pub printed_in : Style → Bool → Meanings → Printing
-printed_in style false g = IsPrintedOf (says_in style g) 0
-printed_in style true g = AreLinesOf (says_in style g) (line_in style)
+printed_in style false g = IsPrintedOf (says_in style g None) 0
+printed_in style true g = AreLinesOf (says_by (says_in style g)) (line_in style)

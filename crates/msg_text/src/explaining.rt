@@ -51,6 +51,7 @@ impl Manner for Explaining {
     fn put(
         &mut self,
         glossary: &Glossary,
+        line: Option<u64>,
         out: &mut Vec<u8>,
         number: u64,
         offset: u64,
@@ -60,7 +61,7 @@ impl Manner for Explaining {
             out.extend_from_slice(b"too long\n")?;
             return Ok(true);
         }
-        explain(out, glossary, number, offset, octets)
+        explain(out, glossary, line, number, offset, octets)
     }
 
     fn end_words(end: End, place: Place) -> EndWords {

@@ -83,6 +83,7 @@ impl Manner for Json {
     fn put(
         &mut self,
         glossary: &Glossary,
+        line: Option<u64>,
         out: &mut Vec<u8>,
         number: u64,
         offset: u64,
@@ -92,7 +93,7 @@ impl Manner for Json {
             out.extend_from_slice(b"{\"stop\":\"too long\"}\n")?;
             return Ok(true);
         }
-        put_json(out, glossary, number, offset, octets)
+        put_json(out, glossary, line, number, offset, octets)
     }
 
     fn end_words(end: End, place: Place) -> EndWords {

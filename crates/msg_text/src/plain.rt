@@ -86,6 +86,7 @@ impl Manner for Plain {
     fn put(
         &mut self,
         glossary: &Glossary,
+        _line: Option<u64>,
         out: &mut Vec<u8>,
         _number: u64,
         _offset: u64,

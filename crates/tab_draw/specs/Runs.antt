@@ -12,7 +12,7 @@ use Rattle.tab_draw.specs.Drawing.{drawing}
 
 -- what is told of a table's text: its first fault, or its graph
 unfoldable pub graph_text : List ℕ → List ℕ
-graph_text table = option_map_or table_fault (first_fault table) (drawing (table_of table))
+graph_text table = option_map_or (table_fault table) (first_fault table) (drawing (table_of table))
 
 -- and with which status
 abbrev pub graph_status : Option TextFault → Status

@@ -2,137 +2,163 @@
 ghost use Rattle.std.specs.Prelude.{◌≡◌, ◌++◌, IfOk, OnOk};
 ghost use Rattle.std.specs.List.{enumerate_from, flat_map, list_any};
 ghost use Rattle.tab_text.specs.Contents.{IsRowOf};
-ghost use Rattle.tab_draw.specs.Drawing.{drawing, edge_text, head, loop_edge, state_text, stay_line, stays_in};
+ghost use Rattle.tab_draw.specs.Drawing.{arrow, arrow_label, arrows_from, box_text, drawing, goes, head, row_line};
 
-use crate::label::{name_of, put_label};
+use crate::label::put_label;
 use std::alloc::{AllocError, Global};
 use tab_text::{Row, Table};
 
 /// What stands before the states.
 const HEAD: &str = "\
 digraph table {
-  graph [ranksep=0.8, nodesep=0.2];
+  graph [ranksep=0.8, nodesep=0.4];
   node [shape=box, style=rounded, fontname=\"Helvetica\", fontsize=12];
   edge [fontname=\"Helvetica\", fontsize=10];
 ";
 
-/// Whether a row stays in a state.
-fn stays_in(row: &Row, state: usize) -> bool
-    ensures { result ≡ stays_in state row.now }
+/// Whether a row goes from a state to a state.
+fn goes(row: &Row, from: usize, to: usize) -> bool
+    ensures { result ≡ goes from to row.now }
 {
-    row.state as usize == state && row.next as usize == state
+    row.state as usize == from && row.next as usize == to
 }
 
-/// Puts a line for the row of that number, where it stays in a state.
-#[tactic(auto, unfolding(crate::specs::Drawing::stay_line))]
-fn put_stay(
+/// Puts a line for the row of that number, where it goes from a state to a state.
+#[tactic(auto, unfolding(crate::specs::Drawing::row_line))]
+fn put_row_line(
     out: &mut Vec<u8>,
     table: &Table,
-    state: usize,
+    from: usize,
+    to: usize,
     number: usize,
     row: &Row,
 ) -> Result<(), AllocError>
     requires { IsRowOf table.now row.now }
-    ensures { OnOk result (out.new.items ≡ out.old.items ++ stay_line table.now state (number, row.now)) }
+    ensures { OnOk result (out.new.items ≡ out.old.items ++ row_line table.now from to (number, row.now)) }
 {
-    if !stays_in(row, state) {
+    if !goes(row, from, to) {
         return Ok(());
     }
+    out.extend_from_slice(b" ")?;
     put_label(out, table, number, row)?;
     out.extend_from_slice(b"\\l")
 }
 
-/// Puts a line for each row that stays in a state.
-fn put_stays(out: &mut Vec<u8>, table: &Table, state: usize) -> Result<(), AllocError>
+/// Puts a line for each row that goes from a state to a state.
+fn put_row_lines(out: &mut Vec<u8>, table: &Table, from: usize, to: usize) -> Result<(), AllocError>
     ensures { OnOk result (out.new.items ≡ out.old.items
-        ++ flat_map (stay_line table.now state) (enumerate_from 0 table.now.rows)) }
+        ++ flat_map (row_line table.now from to) (enumerate_from 0 table.now.rows)) }
 {
     for (number, row) in table.rows().iter().enumerate() {
-        put_stay(out, table, state, number, row)?;
+        put_row_line(out, table, from, to, number, row)?;
     }
     Ok(())
 }
 
-/// Whether any row stays in a state.
-fn has_stay(table: &Table, state: usize) -> bool
-    ensures { result ≡ list_any (stays_in state) table.now.rows }
-{
-    table.rows().iter().any(|row| stays_in(row, state))
-}
-
-/// Puts a state's edge to itself, where rows stay in it.
-#[tactic(auto, unfolding(crate::specs::Drawing::loop_edge))]
-fn put_loop(out: &mut Vec<u8>, table: &Table, state: usize, name: &[u8]) -> Result<(), AllocError>
-    ensures { OnOk result (out.new.items ≡ out.old.items ++ loop_edge table.now state name.now) }
-{
-    if !has_stay(table, state) {
-        return Ok(());
-    }
-    out.extend_from_slice(b"  \"")?;
-    out.extend_from_slice(name)?;
-    out.extend_from_slice(b"\" -> \"")?;
-    out.extend_from_slice(name)?;
-    out.extend_from_slice(b"\";\n")
-}
-
-/// Puts a state, and its edge to itself.
-#[tactic(auto, unfolding(crate::specs::Drawing::state_text))]
-fn put_state(out: &mut Vec<u8>, table: &Table, state: usize, name: &[u8]) -> Result<(), AllocError>
-    ensures { OnOk result (out.new.items ≡ out.old.items ++ state_text table.now (state, name.now)) }
+/// Puts the box of a state: its name, and a line for each row that stays in it.
+#[tactic(auto, unfolding(crate::specs::Drawing::box_text))]
+fn put_box(out: &mut Vec<u8>, table: &Table, state: usize, name: &[u8]) -> Result<(), AllocError>
+    ensures { OnOk result (out.new.items ≡ out.old.items ++ box_text table.now (state, name.now)) }
 {
     out.extend_from_slice(b"  \"")?;
     out.extend_from_slice(name)?;
     out.extend_from_slice(b"\" [label=\"")?;
     out.extend_from_slice(name)?;
     out.extend_from_slice(b"\\n")?;
-    put_stays(out, table, state)?;
-    out.extend_from_slice(b"\"];\n")?;
-    put_loop(out, table, state, name)
-}
-
-/// Puts each state.
-fn put_states(out: &mut Vec<u8>, table: &Table) -> Result<(), AllocError>
-    ensures { OnOk result (out.new.items ≡ out.old.items
-        ++ flat_map (state_text table.now) (enumerate_from 0 table.now.states)) }
-{
-    for (state, name) in table.states().as_slice().iter().enumerate() {
-        put_state(out, table, state, name.as_slice())?;
-    }
-    Ok(())
-}
-
-/// Puts the edge of the row of that number, where it leaves its state.
-#[tactic(auto, unfolding(crate::specs::Drawing::edge_text))]
-fn put_edge(out: &mut Vec<u8>, table: &Table, number: usize, row: &Row) -> Result<(), AllocError>
-    requires { IsRowOf table.now row.now }
-    ensures { OnOk result (out.new.items ≡ out.old.items ++ edge_text table.now (number, row.now)) }
-{
-    if row.state == row.next {
-        return Ok(());
-    }
-    out.extend_from_slice(b"  \"")?;
-    out.extend_from_slice(name_of(table.states(), row.state))?;
-    out.extend_from_slice(b"\" -> \"")?;
-    out.extend_from_slice(name_of(table.states(), row.next))?;
-    out.extend_from_slice(b"\" [label=\"")?;
-    put_label(out, table, number, row)?;
+    put_row_lines(out, table, state, state)?;
     out.extend_from_slice(b"\"];\n")
 }
 
-/// Puts the edge of each row.
-fn put_edges(out: &mut Vec<u8>, table: &Table) -> Result<(), AllocError>
+/// Puts the box of each state.
+fn put_boxes(out: &mut Vec<u8>, table: &Table) -> Result<(), AllocError>
     ensures { OnOk result (out.new.items ≡ out.old.items
-        ++ flat_map (edge_text table.now) (enumerate_from 0 table.now.rows)) }
+        ++ flat_map (box_text table.now) (enumerate_from 0 table.now.states)) }
 {
-    for (number, row) in table.rows().iter().enumerate() {
-        put_edge(out, table, number, row)?;
+    for (state, name) in table.states().as_slice().iter().enumerate() {
+        put_box(out, table, state, name.as_slice())?;
     }
     Ok(())
 }
 
-/// The graph of a table: a node for each state, in order, and an edge for each row that leaves its state, in order,
-/// with the row's number, kind and guards. The rows that stay in a state are joined: the state has one edge to itself,
-/// and a line for each of those rows stands under its name, where no edge crosses it.
+/// Whether any row goes from a state to a state.
+fn has_row(table: &Table, from: usize, to: usize) -> bool
+    ensures { result ≡ list_any (goes from to) table.now.rows }
+{
+    table.rows().iter().any(|row| goes(row, from, to))
+}
+
+/// Puts the label of an arrow: a line for each of its rows, but at an arrow from a state to itself, whose rows stand in the box.
+#[tactic(auto, unfolding(crate::specs::Drawing::arrow_label))]
+fn put_arrow_label(
+    out: &mut Vec<u8>,
+    table: &Table,
+    from: usize,
+    to: usize,
+) -> Result<(), AllocError>
+    ensures { OnOk result (out.new.items ≡ out.old.items ++ arrow_label table.now from to) }
+{
+    if from == to {
+        return Ok(());
+    }
+    out.extend_from_slice(b" [label=\"")?;
+    put_row_lines(out, table, from, to)?;
+    out.extend_from_slice(b"\"]")
+}
+
+/// Puts the arrow from a state to a state, where rows go so.
+#[tactic(auto, unfolding(crate::specs::Drawing::arrow))]
+fn put_arrow(
+    out: &mut Vec<u8>,
+    table: &Table,
+    from: usize,
+    from_name: &[u8],
+    to: usize,
+    to_name: &[u8],
+) -> Result<(), AllocError>
+    ensures { OnOk result (out.new.items ≡ out.old.items ++ arrow table.now (from, from_name.now) (to, to_name.now)) }
+{
+    if !has_row(table, from, to) {
+        return Ok(());
+    }
+    out.extend_from_slice(b"  \"")?;
+    out.extend_from_slice(from_name)?;
+    out.extend_from_slice(b"\" -> \"")?;
+    out.extend_from_slice(to_name)?;
+    out.extend_from_slice(b"\"")?;
+    put_arrow_label(out, table, from, to)?;
+    out.extend_from_slice(b";\n")
+}
+
+/// Puts the arrows that begin at a state.
+#[tactic(auto, unfolding(crate::specs::Drawing::arrows_from))]
+fn put_arrows_from(
+    out: &mut Vec<u8>,
+    table: &Table,
+    from: usize,
+    name: &[u8],
+) -> Result<(), AllocError>
+    ensures { OnOk result (out.new.items ≡ out.old.items ++ arrows_from table.now (from, name.now)) }
+{
+    for (to, to_name) in table.states().as_slice().iter().enumerate() {
+        put_arrow(out, table, from, name, to, to_name.as_slice())?;
+    }
+    Ok(())
+}
+
+/// Puts the arrows that begin at each state.
+fn put_arrows(out: &mut Vec<u8>, table: &Table) -> Result<(), AllocError>
+    ensures { OnOk result (out.new.items ≡ out.old.items
+        ++ flat_map (arrows_from table.now) (enumerate_from 0 table.now.states)) }
+{
+    for (from, name) in table.states().as_slice().iter().enumerate() {
+        put_arrows_from(out, table, from, name.as_slice())?;
+    }
+    Ok(())
+}
+
+/// The graph of a table: a box for each state, in order, in which each row stands that stays in the state; and from a state to a state
+/// to which rows go one arrow, with a line for each of those rows: its number, kind and guards. Rows stand in order, and so do arrows,
+/// by where they begin and then by where they end. A state in which rows stay has an arrow to itself, without lines.
 ///
 /// Names have no character that would need an escape.
 #[tactic(auto, unfolding(crate::specs::Drawing::drawing))]
@@ -141,8 +167,8 @@ pub fn draw(alloc: Global, table: &Table) -> Result<Vec<u8>, AllocError>
 {
     let mut out = Vec::new(alloc);
     out.extend_from_slice(HEAD.as_bytes())?;
-    put_states(&mut out, table)?;
-    put_edges(&mut out, table)?;
+    put_boxes(&mut out, table)?;
+    put_arrows(&mut out, table)?;
     out.extend_from_slice(b"}\n")?;
     Ok(out)
 }

@@ -18,16 +18,16 @@ struct Told {
 
 /// The graph of a table's text, or its first fault.
 #[tactic(auto, unfolding(crate::specs::Runs::graph_text))]
-fn graph_of(alloc: Global, table: &[u8]) -> Result<Told, AllocError>
-    ensures { IfOk result (λ told. IsTold table.now told.text.items told.status) }
+fn graph_of(alloc: Global, text: &[u8]) -> Result<Told, AllocError>
+    ensures { IfOk result (λ told. IsTold text.now told.text.items told.status) }
 {
-    match parse(alloc, table) {
+    match parse(alloc, text) {
         Ok(table) => Ok(Told {
             text: draw(alloc, &table)?,
             status: Status::Done,
         }),
         Err(ParseError::Fault(fault)) => Ok(Told {
-            text: table_fault(alloc, &fault)?,
+            text: table_fault(alloc, text, &fault)?,
             status: Status::Refused,
         }),
         Err(ParseError::NoMemory) => Err(AllocError),

@@ -5,4 +5,4 @@ mod cell;
 mod column;
 mod printing;
 
-pub use printing::print;
+pub use printing::{print, print_row};

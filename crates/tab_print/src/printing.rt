@@ -1,5 +1,5 @@
 //! The text of a table.
-ghost use Rattle.std.specs.Prelude.{◌≡◌, ◌++◌, ◌∷◌, [], ◌-◌, ◌≤◌, length, replicate, IfOk, OnOk};
+ghost use Rattle.std.specs.Prelude.{◌≡◌, ◌++◌, ◌∷◌, [], ◌-◌, ◌≤◌, length, option_map, replicate, slice_get, IfOk, OnOk};
 ghost use Rattle.std.specs.List.{flat_map};
 ghost use Rattle.tab_text.specs.Contents.{IsRowOf};
 ghost use Rattle.tab_text.specs.Rows.{IsNumberedTable};
@@ -120,6 +120,19 @@ fn widths_of(alloc: Global, table: &Table) -> Result<Widths, AllocError>
         event,
         action,
     })
+}
+
+/// The line of a row, numbered from 0, as `print` puts it; none where the table has no such row.
+pub fn print_row(alloc: Global, table: &Table, row: usize) -> Result<Option<Vec<u8>>, AllocError>
+    ensures { IfOk result (λ line. option_map (λ octets. octets.items) line ≡ option_map (row_line table.now (widths_of table.now)) (slice_get table.now.rows row)) }
+{
+    let Some(row) = table.rows().get(row) else {
+        return Ok(None);
+    };
+    let widths = widths_of(alloc, table)?;
+    let mut out = Vec::new(alloc);
+    put_row(&mut out, table, row, widths)?;
+    Ok(Some(out))
 }
 
 /// The text of a table: the header and a line for each row, all cells filled and without blanks at the end.

@@ -22,6 +22,7 @@ use Rattle.tab_step.specs.declared.machine.MachineState.{MachineState}
 use Rattle.tab_step.specs.declared.machine.Stepped.{Stepped}
 use Rattle.base_device.specs.declared.status.Status.{Status}
 use Rattle.base_device.specs.declared.status.Status.TheVariants as statuses
+use Rattle.fault_text.specs.Spots.{unbound_place}
 use Rattle.tab_walk.specs.declared.start.Manner.{Manner}
 use Rattle.tab_walk.specs.Walks.{AreSteps, Printing, is_image, IsRefused, IsRunFrom, IsRunOver, IsWalked, IsWalkedOf, RunText, StepByRows, bind_text, parse_text, steps_text, table_refusal, table_rows, told_text}
 
@@ -86,7 +87,7 @@ fault_is (Some other) fault refusal = cc
 
 -- the table's text has a fault
 pub IsWalked-unparsed : (laws : Laws) (manner : Manner) (table events text : List ℕ) (status : Status) (error : ParseError) → IsRefusal (first_fault table) error
-    → IsRefused (parse_text error) text status → IsWalked laws manner table events text status
+    → IsRefused (parse_text laws table error) text status → IsWalked laws manner table events text status
 IsWalked-unparsed laws manner table events text status error refusal (inr short) = inl (inr short)
 IsWalked-unparsed laws manner table events text status parsing.NoMemory refusal (inl is) = let none = is.0 in absurd (cc)
 IsWalked-unparsed laws manner table events text status (parsing.Fault fault) refusal (inl is) =
@@ -94,7 +95,7 @@ IsWalked-unparsed laws manner table events text status (parsing.Fault fault) ref
 
 -- the book lacks a name
 pub IsWalked-unbound : (laws : Laws) (manner : Manner) (table events text : List ℕ) (status : Status) (why : Unbound) → first_fault table ≡ None
-    → IsUnbound (slice_get (missing laws (table_of table)) 0) why → IsRefused (bind_text laws why) text status → IsWalked laws manner table events text status
+    → IsUnbound (slice_get (missing laws (table_of table)) 0) why → IsRefused (bind_text laws (unbound_place laws (table_of table)) why) text status → IsWalked laws manner table events text status
 IsWalked-unbound laws manner table events text status why sound unbound (inr short) = inl (inr short)
 IsWalked-unbound laws manner table events text status binding.NoMemory sound unbound (inl is) = let none = is.0 in absurd (cc)
 IsWalked-unbound laws manner table events text status (binding.Missing name) sound unbound (inl is) =

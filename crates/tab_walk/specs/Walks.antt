@@ -28,7 +28,9 @@ use Rattle.base_text.specs.Digits.{is_blank}
 use Rattle.base_device.specs.Devices.{HasWriteCause, TakesWhole}
 use Rattle.base_device.specs.declared.status.Status.{Status}
 use Rattle.base_device.specs.declared.status.Status.TheVariants as statuses
-use Rattle.fault_text.specs.Faults.{bad_text, table_fault, unbound_text}
+use Rattle.fault_text.specs.Faults.{bad_text, known_fault, unbound_text}
+use Rattle.fault_text.specs.Spots.{unbound_place}
+use Rattle.fault_text.specs.declared.spots.RowPlace.{RowPlace}
 use Rattle.event_text.specs.Deeds.{deed_line, name_or}
 use Rattle.event_text.specs.Events.{bad_line, events_of}
 use Rattle.tab_walk.specs.Starts.{from_of, start_of, start_text}
@@ -157,14 +159,14 @@ neither TooManyInRow = []
 neither TooLong = []
 
 -- the first fault of a table's text, and what a text without a header is not
-abbrev pub table_text : TextFault → List ℕ
-table_text fault = table_fault fault ++ neither fault.code
+abbrev pub table_text : Laws → (table : List ℕ) → TextFault → List ℕ
+table_text laws table fault = known_fault laws table fault ++ neither fault.code
 
 -- what is refused of a table's text before a machine stands: a fault, a name that the book lacks
 abbrev pub table_refusal : Laws → List ℕ → Option (List ℕ)
 table_refusal laws table =
-    option_or (option_map table_text (first_fault table))
-    (option_map (unbound_text laws) (slice_get (missing laws (table_of table)) 0))
+    option_or (option_map (table_text laws table) (first_fault table))
+    (option_map (unbound_text laws (unbound_place laws (table_of table))) (slice_get (missing laws (table_of table)) 0))
 
 -- what is printed of a table's text, with which status: that, or what is printed of its machine
 abbrev pub IsWalked : Laws → Manner → (table events text : List ℕ) → Status → Type 0
@@ -184,14 +186,14 @@ IsImageWalked laws manner image events text status =
     program.image.states laws manner events text status)
 
 -- the text of a refused table, if memory wasn't what lacked
-abbrev pub parse_text : ParseError → Option (List ℕ)
-parse_text parsing.NoMemory = None
-parse_text (parsing.Fault fault) = Some (table_text fault)
+abbrev pub parse_text : Laws → (table : List ℕ) → ParseError → Option (List ℕ)
+parse_text laws table parsing.NoMemory = None
+parse_text laws table (parsing.Fault fault) = Some (table_text laws table fault)
 
 -- the text of a table that isn't bound, likewise
-abbrev pub bind_text : Laws → Unbound → Option (List ℕ)
-bind_text laws binding.NoMemory = None
-bind_text laws (binding.Missing name) = Some (unbound_text laws name)
+abbrev pub bind_text : Laws → Option RowPlace → Unbound → Option (List ℕ)
+bind_text laws place binding.NoMemory = None
+bind_text laws place (binding.Missing name) = Some (unbound_text laws place name)
 
 -- a text is that of an image where its first character that is no blank is a hexadecimal digit; no table's text begins
 -- so

@@ -14,7 +14,7 @@ use crate::start::{Manner, start_of};
 use crate::steps::{Rules, names_of};
 use base_device::{ByteSink, MAX_IDLE_WRITES, Status, tell};
 use event_text::first_bad;
-use fault_text::{bad_line, table_fault, unbound_text};
+use fault_text::{RowPlace, bad_line, known_fault, unbound_place, unbound_text};
 use image_text::{ImageError, read_image, refusal_text};
 use std::alloc::{AllocError, Global};
 use tab_call::Registry;
@@ -155,44 +155,64 @@ fn neither(code: TextCode) -> &'static [u8]
 }
 
 /// The first fault of a table's text, and what a text without a header is not.
-fn table_text(alloc: Global, fault: &TextFault) -> Result<Vec<u8>, AllocError>
-    ensures { IfOk result (λ text. text.items ≡ table_text fault.now) }
+fn table_text(
+    alloc: Global,
+    book: &LawBook,
+    table: &[u8],
+    fault: &TextFault,
+) -> Result<Vec<u8>, AllocError>
+    ensures { IfOk result (λ text. text.items ≡ table_text book.now table.now fault.now) }
 {
-    let mut text = table_fault(alloc, fault)?;
+    let mut text = known_fault(alloc, book, table, fault)?;
     text.extend_from_slice(neither(fault.code))?;
     Ok(text)
 }
 
 /// Tells of a text that gives no table.
-fn unparsed<O: ByteSink>(alloc: Global, error: &ParseError, sink: &mut O) -> Status
+fn unparsed<O: ByteSink>(
+    alloc: Global,
+    book: &LawBook,
+    table: &[u8],
+    error: &ParseError,
+    sink: &mut O,
+) -> Status
     requires idle { O.idle sink.old ≡ 0 }
     requires failures { O.failures sink.old < 2 ^ 64 - 1 }
-    ensures told { IsToldWith O.contents O.failures O.idle (IsRefused (parse_text error.now)) sink.old sink.new result }
+    ensures told { IsToldWith O.contents O.failures O.idle (IsRefused (parse_text book.now table.now error.now)) sink.old sink.new result }
     ensures row { O.most_idle sink.new ≤ max (O.most_idle sink.old) MAX_IDLE_WRITES }
 {
     match error {
         ParseError::NoMemory => tell_no_memory(sink),
-        ParseError::Fault(fault) => tell_refusal(table_text(alloc, fault), sink),
+        ParseError::Fault(fault) => tell_refusal(table_text(alloc, book, table, fault), sink),
     }
 }
 
 /// Tells of a table that names what the book lacks.
-fn unbound<O: ByteSink>(alloc: Global, book: &LawBook, why: &Unbound, sink: &mut O) -> Status
+fn unbound<O: ByteSink>(
+    alloc: Global,
+    book: &LawBook,
+    place: Option<RowPlace>,
+    why: &Unbound,
+    sink: &mut O,
+) -> Status
     requires idle { O.idle sink.old ≡ 0 }
     requires failures { O.failures sink.old < 2 ^ 64 - 1 }
-    ensures told { IsToldWith O.contents O.failures O.idle (IsRefused (bind_text book.now why.now)) sink.old sink.new result }
+    ensures told { IsToldWith O.contents O.failures O.idle (IsRefused (bind_text book.now place why.now)) sink.old sink.new result }
     ensures row { O.most_idle sink.new ≤ max (O.most_idle sink.old) MAX_IDLE_WRITES }
 {
     match why {
         Unbound::NoMemory => tell_no_memory(sink),
-        Unbound::Missing(name) => tell_refusal(unbound_text(alloc, book, name.as_slice()), sink),
+        Unbound::Missing(name) => tell_refusal(
+            unbound_text(alloc, book, place, name.as_slice()),
+            sink,
+        ),
     }
 }
 
 /// The walk of a table.
 fn walk_table<O: ByteSink>(
     alloc: Global,
-    table: &[u8],
+    text: &[u8],
     registry: &Registry,
     manner: Manner<'_>,
     events: &[u8],
@@ -201,17 +221,18 @@ fn walk_table<O: ByteSink>(
     requires idle { O.idle sink.old ≡ 0 }
     requires failures { O.failures sink.old < 2 ^ 64 - 1 }
     ensures told { IsToldWith O.contents O.failures O.idle
-        (IsWalked registry.now.book manner.entry table.now events.now) sink.old sink.new result }
+        (IsWalked registry.now.book manner.entry text.now events.now) sink.old sink.new result }
     ensures row { O.most_idle sink.new ≤ max (O.most_idle sink.old) MAX_IDLE_WRITES }
 {
-    let table = match parse(alloc, table) {
-        Ok(table) => table,
-        Err(error) => return unparsed(alloc, &error, sink),
-    };
     let book = registry.laws();
+    let table = match parse(alloc, text) {
+        Ok(table) => table,
+        Err(error) => return unparsed(alloc, book, text, &error, sink),
+    };
+    let place = unbound_place(book, &table);
     match bind(alloc, table, book) {
         Ok(bound) => walk_by(alloc, Rules::Rows(&bound), registry, manner, events, sink),
-        Err(why) => unbound(alloc, book, &why, sink),
+        Err(why) => unbound(alloc, book, place, &why, sink),
     }
 }
 

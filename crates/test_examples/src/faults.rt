@@ -68,7 +68,7 @@ fn is_other_version(alloc: Global, octets: &[u8]) -> bool {
     let Ok(mut report) = Report::<Plain>::new(alloc) else {
         return false;
     };
-    report.message(&glossary, octets).is_ok() && report.text() == b"fault 5011\n".as_slice()
+    report.message(&glossary, None, octets).is_ok() && report.text() == b"fault 5011\n".as_slice()
 }
 
 /// Whether a row that is filled with so many of a part is as it says.

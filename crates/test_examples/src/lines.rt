@@ -44,11 +44,15 @@ fn prints(alloc: Global, style: Style, input: &str, wanted: &str, status: Status
         && sink.device.as_slice() == wanted.as_bytes()
 }
 
-/// The second of two lines in names.
+/// A bad line, two messages in a line and one in the next, in names: each has its own number, and its line.
 const NAMED: &str = "\
 line 1: bad hex at character 3: each octet wants two hexadecimal digits, and between digits only blanks may stand
-message 2 at octet 0: unknown command R---, version 1, length 20, command 281, application 0, hop-by-hop 1, end-to-end 1
-fault 3001 DIAMETER_COMMAND_UNSUPPORTED in message 2 at octet 0: no command with this code and flag R is read here
+message 1 at octet 0 of line 2: unknown command R---, version 1, length 20, command 281, application 0, hop-by-hop 1, end-to-end 1
+fault 3001 DIAMETER_COMMAND_UNSUPPORTED in message 1 at octet 0 of line 2: no command with this code and flag R is read here
+message 2 at octet 20 of line 2: unknown command R---, version 1, length 20, command 281, application 0, hop-by-hop 1, end-to-end 1
+fault 3001 DIAMETER_COMMAND_UNSUPPORTED in message 2 at octet 20 of line 2: no command with this code and flag R is read here
+message 3 at octet 0 of line 3: unknown command R---, version 1, length 20, command 281, application 0, hop-by-hop 1, end-to-end 1
+fault 3001 DIAMETER_COMMAND_UNSUPPORTED in message 3 at octet 0 of line 3: no command with this code and flag R is read here
 ";
 
 /// The first lines of which something else is printed.
@@ -62,9 +66,9 @@ fn wrong_plain(alloc: Global) -> Result<Wrong<'static>, AllocError> {
     Ok(None)
 }
 
-/// Whether a message has the number of its line.
+/// Whether each message has its own number and its line.
 fn is_named(alloc: Global) -> Result<bool, AllocError> {
-    let input = format!(in alloc; "01 x\n{SHORT}\n")?;
+    let input = format!(in alloc; "01 x\n{SHORT} {SHORT}\n{SHORT}\n")?;
     Ok(prints(
         alloc,
         Style::Explained,
@@ -77,7 +81,7 @@ fn is_named(alloc: Global) -> Result<bool, AllocError> {
 /// The first lines that aren't printed by themselves.
 pub(crate) fn wrong_lines(alloc: Global) -> Result<Wrong<'static>, AllocError> {
     if !is_named(alloc)? {
-        return Ok(Some(("the number of a line", 2)));
+        return Ok(Some(("the numbers of messages", 2)));
     }
     wrong_plain(alloc)
 }

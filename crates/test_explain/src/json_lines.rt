@@ -5,19 +5,19 @@ use dia_show::Glossary;
 use msg_json::put_json;
 use std::alloc::Global;
 
-/// The number and the offset of a message, its digits, whether it has a fault, and what is said of it.
-type Row = (u64, u64, &'static str, bool, &'static str);
+/// The line of a message, where lines are read, its number and offset, its digits, whether it has a fault, and what is said of it.
+type Row = (Option<u64>, u64, u64, &'static str, bool, &'static str);
 
 /// Whether a row is so.
 fn says(alloc: Global, row: &Row) -> bool {
-    let (number, offset, digits, refused, line) = *row;
+    let (line, number, offset, digits, refused, object) = *row;
     let (octets, made) = octets_of(digits);
     let mut out = Vec::new(alloc);
     let Ok(glossary) = Glossary::base(alloc) else {
         return false;
     };
-    put_json(&mut out, &glossary, number, offset, &octets[..made]) == Ok(refused)
-        && out.as_slice() == line.as_bytes()
+    put_json(&mut out, &glossary, line, number, offset, &octets[..made]) == Ok(refused)
+        && out.as_slice() == object.as_bytes()
 }
 
 const TERMINATION_LINE: &str = "{\"number\":1,\"offset\":0,\
@@ -49,7 +49,7 @@ const TERMINATION_LINE: &str = "{\"number\":1,\"offset\":0,\
 \"fault\":null}
 ";
 
-const BAD_SIZE_LINE: &str = "{\"number\":2,\"offset\":168,\
+const BAD_SIZE_LINE: &str = "{\"number\":2,\"line\":7,\"offset\":168,\
 \"abbreviation\":\"DPR\",\"name\":\"Disconnect-Peer-Request\",\"flags\":\"R---\",\
 \"version\":1,\"length\":68,\"command\":282,\"application\":0,\"hop_by_hop\":1,\"end_to_end\":2,\
 \"session\":null,\"avps\":[\
@@ -106,12 +106,19 @@ const MISSING_LINE: &str = "{\"number\":1,\"offset\":0,\
 
 /// Each header field and each AVP is told, a wrong length with its place, and what is unknown, cut off or missing.
 const ROWS: &[Row] = &[
-    (1, 0, TERMINATION, false, TERMINATION_LINE),
-    (2, 168, BAD_SIZE, true, BAD_SIZE_LINE),
-    (u64::MAX, u64::MAX, BROKEN_INSIDE, true, BROKEN_INSIDE_LINE),
-    (1, 0, UNKNOWN, true, UNKNOWN_LINE),
-    (1, 0, CUT, true, CUT_LINE),
-    (1, 0, MISSING, true, MISSING_LINE),
+    (None, 1, 0, TERMINATION, false, TERMINATION_LINE),
+    (Some(7), 2, 168, BAD_SIZE, true, BAD_SIZE_LINE),
+    (
+        None,
+        u64::MAX,
+        u64::MAX,
+        BROKEN_INSIDE,
+        true,
+        BROKEN_INSIDE_LINE,
+    ),
+    (None, 1, 0, UNKNOWN, true, UNKNOWN_LINE),
+    (None, 1, 0, CUT, true, CUT_LINE),
+    (None, 1, 0, MISSING, true, MISSING_LINE),
 ];
 
 /// The place of the first row that isn't so.

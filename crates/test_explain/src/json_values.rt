@@ -21,7 +21,7 @@ fn says(alloc: Global, glossary: &Glossary, code: u32, data: &[u8], members: &st
     let mut octets = [0u8; 64];
     let length = message_with(code, data, &mut octets).min(64);
     let mut out = Vec::new(alloc);
-    if put_json(&mut out, glossary, 1, 0, &octets[..length]).is_err() {
+    if put_json(&mut out, glossary, None, 1, 0, &octets[..length]).is_err() {
         return false;
     }
     match str::from_utf8(&out) {

@@ -5,18 +5,18 @@ use dia_show::Glossary;
 use msg_explain::explain;
 use std::alloc::Global;
 
-/// The number and the offset of a message, its digits, whether it has a fault, and what is said of it.
-type Row = (u64, u64, &'static str, bool, &'static str);
+/// The line of a message, where lines are read, its number and offset, its digits, whether it has a fault, and what is said of it.
+type Row = (Option<u64>, u64, u64, &'static str, bool, &'static str);
 
 /// Whether a row is so.
 fn says(alloc: Global, row: &Row) -> bool {
-    let (number, offset, digits, refused, text) = *row;
+    let (line, number, offset, digits, refused, text) = *row;
     let (octets, made) = octets_of(digits);
     let mut out = Vec::new(alloc);
     let Ok(glossary) = Glossary::base(alloc) else {
         return false;
     };
-    explain(&mut out, &glossary, number, offset, &octets[..made]) == Ok(refused)
+    explain(&mut out, &glossary, line, number, offset, &octets[..made]) == Ok(refused)
         && out.as_slice() == text.as_bytes()
 }
 
@@ -36,11 +36,11 @@ message 1 at octet 0: CCR Credit-Control-Request RP--, version 1, length 168, co
 ";
 
 const BAD_SIZE_TEXT: &str = "\
-message 2 at octet 168: DPR Disconnect-Peer-Request R---, version 1, length 68, command 282, application 0, hop-by-hop 1, end-to-end 2
+message 2 at octet 168 of line 7: DPR Disconnect-Peer-Request R---, version 1, length 68, command 282, application 0, hop-by-hop 1, end-to-end 2
   20: 264 Origin-Host -M- 17 \"c.example\"
   40: 296 Origin-Realm -M- 15 \"example\"
   56: 273 Disconnect-Cause -M- 9 0x00 (a size that its type does not have)
-fault 5014 DIAMETER_INVALID_AVP_LENGTH in message 2 at octet 168: an AVP has a wrong length: AVP 273 Disconnect-Cause at its octet 56
+fault 5014 DIAMETER_INVALID_AVP_LENGTH in message 2 at octet 168 of line 7: an AVP has a wrong length: AVP 273 Disconnect-Cause at its octet 56
 ";
 
 const BROKEN_INSIDE_TEXT: &str = "\
@@ -65,11 +65,18 @@ fault 5015 DIAMETER_INVALID_MESSAGE_LENGTH in message 1 at octet 0: the length i
 
 /// Each header field and each AVP is told, a wrong length with its place, and what is unknown, cut off or missing.
 const ROWS: &[Row] = &[
-    (1, 0, TERMINATION, false, TERMINATION_TEXT),
-    (2, 168, BAD_SIZE, true, BAD_SIZE_TEXT),
-    (u64::MAX, u64::MAX, BROKEN_INSIDE, true, BROKEN_INSIDE_TEXT),
-    (1, 0, UNKNOWN, true, UNKNOWN_TEXT),
-    (1, 0, CUT, true, CUT_TEXT),
+    (None, 1, 0, TERMINATION, false, TERMINATION_TEXT),
+    (Some(7), 2, 168, BAD_SIZE, true, BAD_SIZE_TEXT),
+    (
+        None,
+        u64::MAX,
+        u64::MAX,
+        BROKEN_INSIDE,
+        true,
+        BROKEN_INSIDE_TEXT,
+    ),
+    (None, 1, 0, UNKNOWN, true, UNKNOWN_TEXT),
+    (None, 1, 0, CUT, true, CUT_TEXT),
 ];
 
 /// The place of the first row that isn't so.

@@ -1,8 +1,8 @@
 //! What a server's events ask of the account book.
 
 use acct_totals::Slot;
+use charge_session::{Asked, Want, needs};
 use server_rules::ServerKind;
-use server_wants::{Asked, Want, needs};
 use tab_law::PLACES;
 use tab_step::{Event, MachineState};
 

@@ -16,18 +16,17 @@ const SESSION: &[u8] = b"  State  Event                        Action         Ne
 ";
 
 const SESSION_GRAPH: &[u8] = b"digraph table {
-  graph [ranksep=0.8, nodesep=0.2];
+  graph [ranksep=0.8, nodesep=0.4];
   node [shape=box, style=rounded, fontname=\"Helvetica\", fontsize=12];
   edge [fontname=\"Helvetica\", fontsize=10];
   \"Idle\" [label=\"Idle\\n\"];
-  \"Wait\" [label=\"Wait\\n2 CCA-I [late]\\l4 CCA-I\\l\"];
-  \"Wait\" -> \"Wait\";
+  \"Wait\" [label=\"Wait\\n 2 CCA-I [late]\\l 4 CCA-I\\l\"];
   \"Done\" [label=\"Done\\n\"];
-  \"Idle\" -> \"Wait\" [label=\"0 Begin\"];
-  \"Wait\" -> \"Done\" [label=\"1 CCA-I [mine and success]\"];
-  \"Wait\" -> \"Idle\" [label=\"3 Tx\"];
-  \"Done\" -> \"Idle\" [label=\"5 End [a and b and c and d]\"];
-  \"Done\" -> \"Idle\" [label=\"6 End\"];
+  \"Idle\" -> \"Wait\" [label=\" 0 Begin\\l\"];
+  \"Wait\" -> \"Idle\" [label=\" 3 Tx\\l\"];
+  \"Wait\" -> \"Wait\";
+  \"Wait\" -> \"Done\" [label=\" 1 CCA-I [mine and success]\\l\"];
+  \"Done\" -> \"Idle\" [label=\" 5 End [a and b and c and d]\\l 6 End\\l\"];
 }
 ";
 
@@ -37,10 +36,10 @@ const STILL: &[u8] = b"  State  Event  Action  Next
 ";
 
 const STILL_GRAPH: &[u8] = b"digraph table {
-  graph [ranksep=0.8, nodesep=0.2];
+  graph [ranksep=0.8, nodesep=0.4];
   node [shape=box, style=rounded, fontname=\"Helvetica\", fontsize=12];
   edge [fontname=\"Helvetica\", fontsize=10];
-  \"A/-_9\" [label=\"A/-_9\\n0 Start\\l\"];
+  \"A/-_9\" [label=\"A/-_9\\n 0 Start\\l\"];
   \"A/-_9\" -> \"A/-_9\";
 }
 ";

@@ -9,13 +9,13 @@ const TABLE: &str = "  State  Event                        Action         Next
 ";
 
 const GRAPH: &str = "digraph table {
-  graph [ranksep=0.8, nodesep=0.2];
+  graph [ranksep=0.8, nodesep=0.4];
   node [shape=box, style=rounded, fontname=\"Helvetica\", fontsize=12];
   edge [fontname=\"Helvetica\", fontsize=10];
-  \"Wait\" [label=\"Wait\\n1 CCA-I\\l\"];
-  \"Wait\" -> \"Wait\";
+  \"Wait\" [label=\"Wait\\n 1 CCA-I\\l\"];
   \"Done\" [label=\"Done\\n\"];
-  \"Wait\" -> \"Done\" [label=\"0 CCA-I [mine and success]\"];
+  \"Wait\" -> \"Wait\";
+  \"Wait\" -> \"Done\" [label=\" 0 CCA-I [mine and success]\\l\"];
 }
 ";
 
@@ -37,7 +37,7 @@ fn a_text_is_drawn_or_its_first_fault_told(rt: HostRuntime) {
         ),
         (
             "  State  Event  Action  Next\n  A      x      -\n",
-            "line 2 fault 3\n  wanted: a row with an Event, an Action (- for none) and a Next, the first one with a State too\n",
+            "line 2 fault 3\n  wanted: a row with an Event, an Action (- for none) and a Next, the first one with a State too\n  wrong: A      x      -\n",
             Status::Refused,
         ),
     ] {

@@ -48,7 +48,7 @@ fn a_text_is_assembled_or_its_first_refusal_told(rt: HostRuntime) -> Result<(), 
         ),
         (
             "  State  Event  Action  Next\n  A      CCA-I  Open    A\n",
-            "unbound Open\n  wanted: a kind, a guard or an action that is registered",
+            "unbound Open\n  in: row 0, line 2\n  wanted: a kind, a guard or an action that is registered",
             Status::Refused,
         ),
     ] {
@@ -99,8 +99,16 @@ fn an_image_is_listed_or_its_first_refusal_told(rt: HostRuntime) -> Result<(), F
     for (image, printed, status) in [
         (IMAGE, LISTING, Status::Done),
         (FORMAT_1, LISTING_1, Status::Done),
-        ("4454493", "bad hex\n", Status::Refused),
-        ("4454493x", "bad hex\n", Status::Refused),
+        (
+            "4454493",
+            "bad hex\n  wanted: hexadecimal digits, two for each octet; blanks between them don't count\n",
+            Status::Refused,
+        ),
+        (
+            "4454493x",
+            "bad hex\n  wanted: hexadecimal digits, two for each octet; blanks between them don't count\n",
+            Status::Refused,
+        ),
         (
             "",
             "at 0 fault 2\n  wrong: the image is cut off; it has that many octets\n",

@@ -102,6 +102,7 @@ const UNKNOWN: &str = "  State  Event  Action  Next\n  Wait   Start  -       Wai
 
 const NO_HEADER_TEXT: &str = "line 1 fault 1
   wanted: a header: two blanks, then the words State, Event, Action and Next
+  wrong: Wait CCA-I - Wait
   neither a table nor an image, which begins with a hexadecimal digit
 ";
 
@@ -150,13 +151,13 @@ const WALKS: &[(&str, &str, &str, Status)] = &[
     (
         UNKNOWN,
         "",
-        "unbound Start\n  wanted: a kind, a guard or an action that is registered\n",
+        "unbound Start\n  in: row 0, line 2\n  wanted: a kind, a guard or an action that is registered\n",
         Status::Refused,
     ),
     (
         LONG,
         "",
-        "unbound abcdefghijabcdefghijabcdefghijabcdefghij\n  wanted: a kind, a guard or an action that is registered\n",
+        "unbound abcdefghijabcdefghijabcdefghijabcdefghij\n  in: row 0, line 2\n  wanted: a kind, a guard or an action that is registered\n",
         Status::Refused,
     ),
     (TABLE, "CCA-I 12=2001\nCCA-U\n", BAD_KIND, Status::Refused),
@@ -167,7 +168,12 @@ const WALKS: &[(&str, &str, &str, Status)] = &[
     (IMAGE, EVENTS, PRINTED, Status::Done),
     (IMAGE, "Tx 63=5\n", TO_THE_LAST, Status::Done),
     (IMAGE, "CCA-I 12\n", NO_VALUE, Status::Refused),
-    ("\n 0x", EVENTS, "bad hex\n", Status::Refused),
+    (
+        "\n 0x",
+        EVENTS,
+        "bad hex\n  wanted: hexadecimal digits, two for each octet; blanks between them don't count\n",
+        Status::Refused,
+    ),
     (
         "44544931",
         EVENTS,

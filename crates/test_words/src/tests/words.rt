@@ -27,7 +27,31 @@ fn words_ask_for_a_text_or_an_input_or_are_refused(rt: HostRuntime) -> Result<()
         (["dbench", "read", "--help"].as_slice(), 0, "hexadecimal"),
         (["dbench", "nonsense"].as_slice(), 2, "Usage: dbench"),
         (["dbench"].as_slice(), 2, "Usage: dbench"),
-        (["dbench", "run"].as_slice(), 2, "Usage: dbench"),
+        (
+            ["dbench", "run"].as_slice(),
+            2,
+            "wanted one of: a CONFIG, --sample",
+        ),
+        (
+            ["dbench", "run", "no/such.json"].as_slice(),
+            3,
+            "read fault: no/such.json can't be opened\n",
+        ),
+        (
+            ["dbench", "run", "--sample"].as_slice(),
+            0,
+            "\"accounts\": [{\"id\": 100, \"given\": 100}]",
+        ),
+        (
+            ["dbench", "run", "--sample", "--sent"].as_slice(),
+            2,
+            "wanted one of: a CONFIG, --sample",
+        ),
+        (
+            ["dbench", "run", "--help"].as_slice(),
+            0,
+            "settle             all of the last three",
+        ),
         (["dbench", "read", "a", "b"].as_slice(), 2, "Usage: dbench"),
         (
             ["dbench", "read", "--explain"].as_slice(),
@@ -110,7 +134,7 @@ fn words_ask_for_a_text_or_an_input_or_are_refused(rt: HostRuntime) -> Result<()
         (
             ["dbench", "walk", "/"].as_slice(),
             3,
-            "read fault: / can't be read\n",
+            "read fault: / is a directory\n",
         ),
         (
             ["dbench", "walk", "a", "b", "c"].as_slice(),
@@ -136,7 +160,7 @@ fn words_ask_for_a_text_or_an_input_or_are_refused(rt: HostRuntime) -> Result<()
         (
             ["dbench", "asm"].as_slice(),
             1,
-            "line 1 fault 1\n  wanted: a header: two blanks, then the words State, Event, Action and Next\n",
+            "line 1 fault 1\n  wanted: a header: two blanks, then the words State, Event, Action and Next\n  wrong: zz\n",
         ),
         (
             ["dbench", "list", "--help"].as_slice(),
@@ -149,7 +173,11 @@ fn words_ask_for_a_text_or_an_input_or_are_refused(rt: HostRuntime) -> Result<()
             3,
             "read fault: no/such.img can't be opened\n",
         ),
-        (["dbench", "list"].as_slice(), 1, "bad hex\n"),
+        (
+            ["dbench", "list"].as_slice(),
+            1,
+            "bad hex\n  wanted: hexadecimal digits, two for each octet; blanks between them don't count\n",
+        ),
         (["dbench", "draw", "--help"].as_slice(), 0, "dot -Tsvg"),
         (["dbench", "draw", "a", "b"].as_slice(), 2, "Usage: dbench"),
         (
@@ -160,7 +188,7 @@ fn words_ask_for_a_text_or_an_input_or_are_refused(rt: HostRuntime) -> Result<()
         (
             ["dbench", "draw"].as_slice(),
             1,
-            "line 1 fault 1\n  wanted: a header: two blanks, then the words State, Event, Action and Next\n",
+            "line 1 fault 1\n  wanted: a header: two blanks, then the words State, Event, Action and Next\n  wrong: zz\n",
         ),
     ] {
         let (code, text) = run(&rt, words)?;

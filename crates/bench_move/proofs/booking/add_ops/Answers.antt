@@ -1,5 +1,5 @@
 use Rattle.std.proofs.Common.{sym, ◌∙◌, append_assoc, refl}
-use Rattle.server_book.specs.Deeds.{op_of}
+use Rattle.charge_session.specs.Deeds.{op_of}
 use Rattle.bench_move.proofs.BookLemmas.{filter_map-some, filter_map-none}
 use Rattle.bench_move.proofs.booking.add_ops.Goals as goal
 use Rattle.bench_move.proofs.booking.add_ops.Goals.{in-Some+in_ok-push, in_default}

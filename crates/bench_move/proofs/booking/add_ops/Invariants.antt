@@ -1,6 +1,6 @@
 use Rattle.std.proofs.Common.{◌≡◌, ◌++◌, take}
 use Rattle.std.specs.List.{filter_map}
-use Rattle.server_book.specs.Deeds.{op_of}
+use Rattle.charge_session.specs.Deeds.{op_of}
 use Rattle.bench_move.proofs.booking.add_ops.Given as goal
 
 abbrev pub invariant-loop-deed : goal.invariant-loop-deed

@@ -1,12 +1,9 @@
-use Rattle.std.proofs.Common.{ap, ◌∙◌}
+use Rattle.std.proofs.Common.{ap₂, ◌∙◌}
 use Rattle.std.proofs.lemmas.Result.{IfOk-weaker}
 use Rattle.clap.specs.Words.{App, with_subcommand}
-use Rattle.cmd_words.specs.Words.{asm_app, draw_app, list_app}
 use Rattle.cmd_words.proofs.commands.command.Goals as goal
 
 pub returns : goal.returns
 returns c =
-    let drawing = ap (λ (a : App). with_subcommand a draw_app.top) c.in_ok-command.ensures in
-    let assembling = ap (λ (a : App). with_subcommand a asm_app.top) (c.in_ok-command-2.ensures ∙ drawing) in
-    let listing = ap (λ (a : App). with_subcommand a list_app.top) (c.in_ok-command-3.ensures ∙ assembling) in
-    IfOk-weaker c.with_file_command-3.result _ _ (λ r is. is ∙ listing) c.with_file_command-3.ensures
+    let running = ap₂ (λ (a b : App). with_subcommand a b.top) c.in_ok-command.ensures c.in_ok-run.ensures.app in
+    IfOk-weaker c.with_command.result _ _ (λ r is. is ∙ running) c.with_command.ensures

@@ -1,13 +1,12 @@
 use Rattle.std.proofs.Common.{Some, true, false, refl, sym, arith, ◌∙◌}
-use Rattle.std.specs.Prelude.{replicate}
 use Rattle.std.proofs.lemmas.List.{append-nil, length-set}
 use Rattle.dia_msg.specs.Sorting.{seen_all}
-use Rattle.dia_msg.proofs.SortLemmas.{Sorts-start, none_at, empty_place, next_none, next_first, next_again}
+use Rattle.dia_msg.proofs.SortLemmas.{Sorts-start, none_at, next_none, next_first, next_again}
 use Rattle.dia_msg.proofs.sorting.sort.Goals as goal
 use Rattle.dia_msg.proofs.sorting.sort.Goals.{in-None, in-Some+then-is_none, in-Some+else-is_none+then-not-format-entry, in-Some+else-is_none+else-not-format-entry}
 
 pub loop-place-init : goal.loop-place-init
-loop-place-init c = (Sorts-start c.args.format.now (seen_all c.args.avps.now) (record { firsts = replicate 16 empty_place; rest = c.new.result }) none_at c.new.ensures, refl, omega arith)
+loop-place-init c = (Sorts-start c.args.format.now (seen_all c.args.avps.now) c.clear.new.self (λ k. rw c.clear.ensures.firsts (none_at k)) c.clear.ensures.rest, rw c.clear.ensures.firsts refl, omega arith)
 
 pub loop-place-preserved : goal.loop-place-preserved
 loop-place-preserved c =

@@ -25,5 +25,5 @@ returns c =
     let d = known c.args.dictionary.now in
     let f = c.in-Err-Fault.fault in
     let read = is_first_fault d c.args.octets.now c.in-Err-Fault.field-0 f c.in-Err-Fault.ensures.reading c.in-Err-Fault.field-0-is in
-    let line = ap (λ (ps : List Piece). c.args.out.now.items ++ fault_line d c.args.number c.args.offset ps f) c.requires in
+    let line = ap (λ (ps : List Piece). c.args.out.now.items ++ fault_line d c.args.line c.args.number c.args.offset ps f) c.requires in
     (_, record { answer = Err f; reading = read; said = refl; is_refused = refl }, c.in_ok-put_fault_line-in-Err-Fault.ensures ∙ line)

@@ -7,6 +7,7 @@ use Rattle.msg_input.proofs.EndLemmas.{Consumes-given, Consumes-none, EndsBy-las
 use Rattle.msg_input.proofs.ByLineLemmas.{AreLinesOf-at_end, AreLinesOf-taken, IsLast-end_of}
 use Rattle.msg_input.proofs.ReadLemmas.{front_is_no_longer}
 use Rattle.msg_input.specs.Readings.{place_of}
+use Rattle.msg_input.specs.ByLine.{says_by}
 use Rattle.msg_input.proofs.line_read.pour_lines.Goals as goal
 
 -- a read that gave nothing found the end
@@ -34,7 +35,7 @@ returns-in-Ok-Some-eq0-clause-report g c =
       written = written;
       read = rw append-nil at (Consumes-trans _ _ _ read [] c.reads.invariant.8 last);
       taken = c.reads.invariant.9;
-      printed = AreLinesOf-at_end (g.M.Manner.Says c.args.glossary.now) g.M.Manner.line_text _ c.end.new.self read written c.end.result c.end_of.result _ at_end c.end_of.ensures (c.end.ensures read written c.reads.invariant.10);
+      printed = AreLinesOf-at_end (says_by (g.M.Manner.Says c.args.glossary.now)) g.M.Manner.line_text _ c.end.new.self read written c.end.result c.end_of.result _ at_end c.end_of.ensures (c.end.ensures read written c.reads.invariant.10);
     }
 
 -- the text that came was refused
@@ -52,7 +53,7 @@ returns-in-Err-take_text-clause-report g c =
       written = written;
       read = Consumes-trans _ _ _ read (take arm.count c.read.new.buffer) c.reads.invariant.8 came;
       taken = c.reads.invariant.9;
-      printed = AreLinesOf-taken (g.M.Manner.Says c.args.glossary.now) g.M.Manner.line_text (IsAtEnd (g.I.ByteSource.remaining c.read.new.self)) c.take_text.new.self read (take arm.count c.read.new.buffer) written
+      printed = AreLinesOf-taken (says_by (g.M.Manner.Says c.args.glossary.now)) g.M.Manner.line_text (IsAtEnd (g.I.ByteSource.remaining c.read.new.self)) c.take_text.new.self read (take arm.count c.read.new.buffer) written
           (place_of c.take_text.new.self.reading) few (c.in-Err-take_text.ensures.taken read written c.reads.invariant.10);
     }
 

@@ -1,6 +1,7 @@
 use Rattle.std.proofs.Common.{◌≡◌, ◌≤◌, ◌+◌, ◌*◌, ℕ, List, max}
 use Rattle.std.specs.Io.KnownBytes.{Appends, Consumes}
 use Rattle.msg_input.specs.ByLineSoFar.{LinesSoFar}
+use Rattle.msg_input.specs.ByLine.{says_by}
 use Rattle.msg_input.proofs.line_read.pour_lines.Given as goal
 
 -- no call failed, each turn made one read, and what was read is taken and its lines written out
@@ -15,4 +16,4 @@ invariant-reads g l =
     × (read : List ℕ) × (written : List ℕ)
     × Consumes (g.I.ByteSource.remaining l.initial.source) (g.I.ByteSource.remaining l.source) read
     × Appends (g.O.ByteSink.contents l.initial.sink) (g.O.ByteSink.contents l.sink) written
-    × LinesSoFar (g.M.Manner.Says l.glossary) g.M.Manner.line_text l.lines read written
+    × LinesSoFar (says_by (g.M.Manner.Says l.glossary)) g.M.Manner.line_text l.lines read written

@@ -1,4 +1,4 @@
-use Rattle.std.proofs.Common.{◌<◌, ◌≤◌, ◌++◌, ◌∙◌, [], List, ℕ, length, take, arith}
+use Rattle.std.proofs.Common.{◌<◌, ◌≤◌, ◌++◌, ◌∙◌, [], List, ℕ, length, take, arith, None}
 use Rattle.std.specs.Io.KnownBytes.{Consumes, IsAtEnd}
 use Rattle.std.proofs.lemmas.List.{append-nil}
 use Rattle.std.proofs.KnownBytes.{Appends-trans, Consumes-trans}
@@ -32,7 +32,7 @@ returns-in-Ok-Some-eq0-clause-report g c =
       written = written;
       read = rw append-nil at (Consumes-trans _ _ _ read [] c.reads.invariant.8 last);
       taken = c.reads.invariant.9;
-      printed = IsPrintedOf-at_end (g.M.Manner.Says c.args.glossary.now) 0 _ read _ c.end.result _ _ at_end (c.end.ensures.printed 0 read written c.reads.invariant.10);
+      printed = IsPrintedOf-at_end (g.M.Manner.Says c.args.glossary.now None) 0 _ read _ c.end.result _ _ at_end (c.end.ensures.printed 0 read written c.reads.invariant.10);
     }
 
 -- the text that came was refused
@@ -50,7 +50,7 @@ returns-in-Err-take_text-clause-report g c =
       written = written;
       read = Consumes-trans _ _ _ read (take arm.count c.read.new.buffer) c.reads.invariant.8 came;
       taken = c.reads.invariant.9;
-      printed = IsPrintedOf-taken (g.M.Manner.Says c.args.glossary.now) 0 _ c.take_text.new.self read (take arm.count c.read.new.buffer) written c.in-Err-take_text.refusal few (c.in-Err-take_text.ensures.taken 0 read written c.reads.invariant.10);
+      printed = IsPrintedOf-taken (g.M.Manner.Says c.args.glossary.now None) 0 _ c.take_text.new.self read (take arm.count c.read.new.buffer) written c.in-Err-take_text.refusal few (c.in-Err-take_text.ensures.taken 0 read written c.reads.invariant.10);
     }
 
 -- the text that came was taken, and its lines were written out
@@ -76,5 +76,5 @@ reads-preserved g c =
       written ++ lines,
       Consumes-trans _ _ _ read (take arm.count c.read.new.buffer) c.reads.invariant.8 came,
       Appends-trans _ _ _ written lines c.reads.invariant.9 whole.appended,
-      c.clear.ensures.so_far c.args.glossary.now 0 (read ++ take arm.count c.read.new.buffer) written (c.in_default.ensures.taken 0 read written c.reads.invariant.10),
+      c.clear.ensures.so_far c.args.glossary.now None 0 (read ++ take arm.count c.read.new.buffer) written (c.in_default.ensures.taken 0 read written c.reads.invariant.10),
     )

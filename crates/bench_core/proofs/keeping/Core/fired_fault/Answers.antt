@@ -5,7 +5,7 @@ use Rattle.bench_item.specs.Keys.{shard_of}
 use Rattle.bench_item.specs.declared.step.Step.TheVariants as steps
 use Rattle.bench_item.specs.declared.step.StepFault.TheVariants.{Full, Nothing, Unknown}
 use Rattle.bench_spec.specs.Refusal.{is_armed, is_log_full, refusal}
-use Rattle.bench_core.specs.Inside.{paused_in, settings_in, stored_in}
+use Rattle.bench_core.specs.Inside.{settings_in}
 use Rattle.bench_core.proofs.LineFaults.{full-log, three}
 use Rattle.bench_core.proofs.keeping.Core.fired_fault.Goals as goal
 

@@ -2,7 +2,6 @@ use Rattle.std.proofs.Common.{◌≡◌, ◌<◌, ◌≤◌, ◌∙◌, None, So
 use Rattle.std.specs.Prelude.{option_map, slice_get}
 use Rattle.bench_shard.specs.View.{ShardView}
 use Rattle.bench_spec.specs.Machines.{directory}
-use Rattle.bench_core.specs.Inside.{settings_in}
 use Rattle.bench_core.proofs.QueueLemmas.{machines-shown, none-there}
 use Rattle.bench_core.proofs.keeping.Core.machines.Goals as goal
 

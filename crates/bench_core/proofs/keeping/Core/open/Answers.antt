@@ -1,5 +1,4 @@
-use Rattle.std.proofs.Common.{◌≡◌, [], ap, map, refl}
-use Rattle.bench_item.specs.Keys.{Configured}
+use Rattle.std.proofs.Common.{[], ap, map, refl}
 use Rattle.bench_open.specs.Given.{opened_as}
 use Rattle.bench_core.specs.Starting.{settings_with}
 use Rattle.bench_core.proofs.StartLemmas.{each-pages, none-paused, start-whole}

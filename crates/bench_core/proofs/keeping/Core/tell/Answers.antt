@@ -1,7 +1,6 @@
-use Rattle.std.proofs.Common.{◌≡◌, ◌∷◌, [], ◌++◌, ◌∙◌, None, ap, refl, rules, subst, sym}
+use Rattle.std.proofs.Common.{◌≡◌, ◌∷◌, [], ◌++◌, ◌∙◌, None, ap, refl, subst, sym}
 use Rattle.bench_item.specs.declared.step.Step.TheVariants as steps
-use Rattle.bench_queue.specs.Outbox.{put_out, without_out}
-use Rattle.bench_spec.specs.Items.{told_item}
+use Rattle.bench_queue.specs.Outbox.{put_out}
 use Rattle.bench_spec.specs.Refusal.{refusal}
 use Rattle.bench_spec.specs.Taken.{Takes, with_log}
 use Rattle.bench_spec.proofs.BookLemmas.{entry_of}

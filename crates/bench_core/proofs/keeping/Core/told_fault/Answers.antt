@@ -4,7 +4,7 @@ use Rattle.bench_item.specs.Keys.{node_of}
 use Rattle.bench_item.specs.declared.step.Step.TheVariants as steps
 use Rattle.bench_item.specs.declared.step.StepFault.TheVariants.{Full, Unknown}
 use Rattle.bench_spec.specs.Refusal.{is_log_full, may_tell, refusal}
-use Rattle.bench_core.specs.Inside.{paused_in, settings_in, stored_in}
+use Rattle.bench_core.specs.Inside.{settings_in}
 use Rattle.bench_core.proofs.LineFaults.{full-log, three}
 use Rattle.bench_core.proofs.LookLemmas.{first_of, shards_are}
 use Rattle.bench_core.proofs.ToldFaults.{both-unknown}

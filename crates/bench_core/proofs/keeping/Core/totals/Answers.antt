@@ -2,7 +2,6 @@ use Rattle.std.proofs.Common.{◌≡◌, ◌%◌, ◌∙◌, Some, subst, sym}
 use Rattle.std.specs.Prelude.{slice_get}
 use Rattle.acct_book.specs.Book.{totals_of}
 use Rattle.bench_spec.specs.Booked.{book_at}
-use Rattle.bench_core.specs.Inside.{settings_in}
 use Rattle.bench_core.proofs.LookLemmas.{page-there, totals-shown}
 use Rattle.bench_core.proofs.keeping.Core.totals.Goals as goal
 

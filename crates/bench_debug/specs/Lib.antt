@@ -1,0 +1,5 @@
+pub mod Asking
+pub mod Meets
+pub mod Tables
+pub mod Debug
+pub mod Seen

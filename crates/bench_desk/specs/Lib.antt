@@ -1,0 +1,4 @@
+pub mod May
+pub mod Parts
+pub mod Notes
+pub mod Desks

@@ -1,0 +1,25 @@
+//! A desk, and the shard that it tells events and looks at, in a bench that runs in threads; no lock is taken here.
+//!
+//! | File | What it has |
+//! |---|---|
+//! | `part` | a shard with the stamped entries of what was done to it |
+//! | `desk` | what a desk kept, and its counts |
+//! | `tell`, `look` | a desk tells a shard an event, and looks at it |
+//! | `note` | what a desk keeps, as it is stored |
+//! | `may` | which machines can be told, and what |
+//! | `fault` | why a tell or a look is refused |
+#![tactic(auto)]
+
+mod desk;
+mod fault;
+mod look;
+mod may;
+mod note;
+mod part;
+mod tell;
+
+pub use desk::Desk;
+pub use fault::DeskFault;
+pub use look::Look;
+pub use may::{may_look, may_tell};
+pub use part::ShardPart;

@@ -1,0 +1,116 @@
+//! What a desk keeps, as it is stored.
+ghost use Rattle.std.specs.Prelude.{◌≡◌, [], IfOk, None, Some};
+ghost use Rattle.bench_item.specs.declared.source.Source.TheVariants.{Desk};
+ghost use Rattle.bench_item.specs.declared.step.Step.TheVariants.{Lift, Told};
+ghost use Rattle.bench_spec.specs.Items.{told_item};
+ghost use Rattle.bench_desk.specs.Notes.{look_of};
+
+use base_list::Octets;
+use bench_item::{Entry, Item, Key, MachineItem, Source, Step};
+use bench_log::{KeptEntry, KeptState};
+use std::alloc::{AllocError, Global};
+use tab_step::{Event, MachineState};
+
+/// A look: the stamp, the machine, where it stood, and how many items of the desk waited and were handled.
+#[derive(Drop)]
+pub(crate) struct KeptLook {
+    pub(crate) stamp: u64,
+    pub(crate) key: Key,
+    pub(crate) stands: KeptState,
+    pub(crate) waiting: u64,
+    pub(crate) handled: u64,
+}
+
+/// What a desk keeps: the entry of what it did with its stamp, or what it saw.
+#[derive(Drop)]
+pub(crate) enum Note {
+    Did { stamp: u64, entry: KeptEntry },
+    Saw(KeptLook),
+}
+
+/// The same key in memory of its own.
+pub(crate) fn copy_key(alloc: Global, key: &Key) -> Result<Key, AllocError>
+    ensures { IfOk result (λ copy. copy ≡ key.now) }
+{
+    let name = key.name.copy(alloc)?;
+    let role = key.role;
+    Ok(Key { role, name })
+}
+
+/// What a desk tells a machine, as an item.
+pub(crate) fn told_item(alloc: Global, key: &Key, event: &Event) -> Result<MachineItem, AllocError>
+    ensures { IfOk result (λ item. item ≡ record { key = key.now; event = event.now; condition = None; session = [] }) }
+{
+    let key = copy_key(alloc, key)?;
+    let session = Octets::from_slice(alloc, b"")?;
+    Ok(MachineItem {
+        key,
+        event: *event,
+        condition: None,
+        session,
+    })
+}
+
+/// The entry of what a desk tells.
+pub(crate) fn told_entry(
+    alloc: Global,
+    desk: u32,
+    key: &Key,
+    event: &Event,
+) -> Result<KeptEntry, AllocError>
+    ensures { IfOk result (λ entry. entry ≡ record { step = Told desk key.now event.now; item = None; handled = None }) }
+{
+    let key = copy_key(alloc, key)?;
+    let entry = Entry {
+        step: Step::Told {
+            desk,
+            key,
+            event: *event,
+        },
+        item: None,
+        handled: None,
+    };
+    KeptEntry::keep(alloc, &entry)
+}
+
+/// The entry of its Lift.
+pub(crate) fn lift_entry(
+    alloc: Global,
+    desk: u32,
+    key: &Key,
+    event: &Event,
+) -> Result<KeptEntry, AllocError>
+    ensures { IfOk result (λ entry. entry
+        ≡ record { step = Lift (Desk desk); item = Some (told_item key.now event.now); handled = None }) }
+{
+    let item = told_item(alloc, key, event)?;
+    let entry = Entry {
+        step: Step::Lift(Source::Desk(desk)),
+        item: Some(Item::ToMachine(item)),
+        handled: None,
+    };
+    KeptEntry::keep(alloc, &entry)
+}
+
+/// What a desk saw, in memory of its own.
+pub(crate) fn keep_look(
+    alloc: Global,
+    stamp: u64,
+    key: &Key,
+    stands: &MachineState,
+    waiting: u64,
+    handled: u64,
+) -> Result<KeptLook, AllocError>
+    ensures { IfOk result (λ kept. look_of kept
+        ≡ record { stamp = stamp; key = key.now; stands = stands.now; waiting = waiting; handled = handled }) }
+{
+    let key = copy_key(alloc, key)?;
+    let stands = KeptState::keep(alloc, stands)?;
+    Ok(KeptLook {
+        stamp,
+        key,
+        stands,
+        waiting,
+        handled,
+    })
+}

@@ -1,0 +1,222 @@
+//! A shard with the stamped entries of what was done to it.
+ghost use Rattle.std.specs.Prelude.{◌≡◌, ◌<◌, ◌+◌, ◌^◌, [], IfOk, IfErr, OnOk, OnErr, count_by, length, vec_len, vec_capacity};
+ghost use Rattle.std.specs.Arc.{arc_value};
+ghost use Rattle.bench_item.specs.Keys.{home};
+ghost use Rattle.bench_item.specs.Steps.{is_same_source};
+ghost use Rattle.bench_item.specs.declared.source.Source.TheVariants.{Desk};
+ghost use Rattle.bench_queue.specs.Inbox.{nothing_in};
+ghost use Rattle.bench_queue.specs.Inbox.{items_in};
+ghost use Rattle.bench_spec.specs.Refusal.{is_crowded, is_log_full};
+ghost use Rattle.bench_desk.specs.Parts.{arrive_error, drop_entry, entries_in, handled_from, is_full, waiting_from, with_arrival};
+
+use base_list::Octets;
+use bench_item::{Entry, Item, Key, MAX_ENTRIES, MAX_WAITING, MachineItem, Source, Step};
+use bench_log::{KeptEntry, Log, LogError};
+use bench_move::Roles;
+use bench_shard::{PutError, ShardState};
+use std::alloc::{AllocError, Global};
+use std::marker::Model;
+use std::sync::Arc;
+
+/// A shard with its tables, and the entries of its part of the log: its Work, what was lifted from it, and what was dropped at it. Each
+/// entry has the stamp that was drawn for it. A contract sees the tables, the shard and the stamped entries.
+///
+/// In: `arrive`. Looks: `shard`, `roles`, `counts`, `is_full`, `len`, `stamp`, `entry`.
+pub struct ShardPart {
+    alloc: Global,
+    roles: Arc<Roles, Global>,
+    shard: ShardState,
+    // Who put each item there, in the order in which they came.
+    sources: Vec<Source>,
+    log: Log,
+    stamps: Vec<u64>,
+}
+
+// A derived `drop` is proved anew in each crate that holds a part; this one is a call.
+impl Drop for ShardPart {
+    fn drop(self) {
+        let ShardPart {
+            alloc: _,
+            roles,
+            shard,
+            sources,
+            log,
+            stamps,
+        } = self;
+    }
+}
+
+impl Model for ShardPart {
+    ghost use Rattle.std.specs.Prelude.{◌≡◌, length};
+    ghost use Rattle.std.specs.Arc.{arc_value};
+    ghost use Rattle.bench_desk.specs.Parts.{IsKept, PartView, stamped_of};
+
+    ghost Value = { PartView };
+
+    ghost view = { λ p. record { tables = arc_value p.roles; shard = p.shard; entries = stamped_of p.stamps.items p.log.entries } };
+
+    ghost invariant = { λ p. IsKept (arc_value p.roles) p.shard p.sources.items p.log.entries × (length p.stamps.items ≡ length p.log.entries) };
+}
+
+/// Makes room for one more entry of a log that is not full, for its stamp, and for its source. Nothing else changes.
+fn make_room(
+    log: &mut Log,
+    stamps: &mut Vec<u64>,
+    sources: &mut Vec<Source>,
+) -> Result<(), AllocError>
+    ensures log { OnOk result (0 < log.new.room) }
+    ensures stamps { OnOk result (vec_len stamps.new < vec_capacity stamps.new) }
+    ensures sources { OnOk result (vec_len sources.new < vec_capacity sources.new) }
+    ensures entries { log.new.entries ≡ log.old.entries }
+    ensures drawn { stamps.new.items ≡ stamps.old.items }
+    ensures came { sources.new.items ≡ sources.old.items }
+{
+    stamps.reserve(1)?;
+    sources.reserve(1)?;
+    match log.reserve(1) {
+        Ok(()) => Ok(()),
+        Err(LogError::Full | LogError::NoMemory) => Err(AllocError),
+    }
+}
+
+/// The same item in memory of its own.
+fn copy_item(alloc: Global, item: &MachineItem) -> Result<MachineItem, AllocError>
+    ensures { IfOk result (λ copy. copy ≡ item.now) }
+{
+    let name = item.key.name.copy(alloc)?;
+    let session = item.session.copy(alloc)?;
+    Ok(MachineItem {
+        key: Key {
+            role: item.key.role,
+            name,
+        },
+        event: item.event,
+        condition: item.condition,
+        session,
+    })
+}
+
+/// The entry of an item that a source drops at a shard.
+fn drop_entry(alloc: Global, source: Source, item: &MachineItem) -> Result<KeptEntry, AllocError>
+    ensures { IfOk result (λ entry. entry ≡ drop_entry source item.now) }
+{
+    let entry = Entry {
+        step: Step::Drop(source),
+        item: Some(Item::ToMachine(copy_item(alloc, item)?)),
+        handled: None,
+    };
+    KeptEntry::keep(alloc, &entry)
+}
+
+/// Whether a source is that desk.
+fn is_desk(source: Source, desk: u32) -> bool
+    ensures { result ≡ is_same_source (Desk desk) source }
+{
+    match source {
+        Source::Desk(other) => desk == other,
+        Source::Line(_) | Source::Shard(_) | Source::Clock => false,
+    }
+}
+
+/// How many of these a desk put there.
+fn count_of(sources: &[Source], desk: u32) -> usize
+    ensures { result ≡ count_by (is_same_source (Desk desk)) sources.now }
+{
+    let mut count = 0;
+    for source in sources {
+        if is_desk(*source, desk) {
+            count += 1;
+        }
+    }
+    count
+}
+
+impl ShardPart {
+    /// The part of a shard to which nothing came yet. Takes no memory.
+    pub fn new(alloc: Global, roles: Arc<Roles, Global>, shard: ShardState) -> ShardPart
+        requires { shard.inbox ≡ nothing_in }
+        ensures { result ≡ record { tables = arc_value roles; shard = shard; entries = [] } }
+    {
+        ShardPart {
+            alloc,
+            roles,
+            shard,
+            sources: Vec::new(alloc),
+            log: Log::new(alloc),
+            stamps: Vec::new(alloc),
+        }
+    }
+
+    /// The shard.
+    pub fn shard(&self) -> &ShardState
+        ensures { result.now ≡ self.now.shard }
+    {
+        &self.shard
+    }
+
+    /// Its tables and laws.
+    pub fn roles(&self) -> &Roles
+        ensures { result.now ≡ self.now.tables }
+    {
+        &self.roles
+    }
+
+    /// How many entries its part of the log has.
+    pub fn len(&self) -> usize
+        ensures { result ≡ length (entries_in self.now) }
+    {
+        self.log.len()
+    }
+
+    // Whether as many items wait as may.
+    fn is_crowded(&self) -> bool
+        ensures { result ≡ is_crowded (items_in self.now.shard.inbox) }
+    {
+        self.shard.waiting() >= MAX_WAITING
+    }
+
+    // Whether its part of the log has as many entries as it may.
+    fn is_log_full(&self) -> bool
+        ensures { result ≡ is_log_full (entries_in self.now) }
+    {
+        self.len() >= MAX_ENTRIES
+    }
+
+    /// Whether no item may come: as many wait as may, or the part has as many entries as it may.
+    pub fn is_full(&self) -> bool
+        ensures { result ≡ is_full self.now }
+    {
+        self.is_crowded() || self.is_log_full()
+    }
+
+    /// How many items of a desk wait there, and how many were handled. Takes no memory.
+    pub fn counts(&self, desk: u32) -> (u64, u64)
+        ensures counts { result ≡ (waiting_from self.now desk, handled_from self.now desk) }
+        ensures fits { result.0 + result.1 < 2 ^ 64 }
+    {
+        let worked = self.sources.len().saturating_sub(self.shard.waiting());
+        let handled = count_of(&self.sources[..worked], desk);
+        let waiting = count_of(&self.sources[worked..], desk);
+        (waiting as u64, handled as u64)
+    }
+
+    /// An item comes from a source, behind the others: a Drop, with the stamp that was drawn for it. It is to be for this shard.
+    pub fn arrive(&mut self, source: Source, stamp: u64, item: &MachineItem) -> Result<(), PutError>
+        requires { home self.old.shard.peers.shards item.now.key.name ≡ self.old.shard.number }
+        ensures ok { OnOk result (self.new ≡ with_arrival self.old source stamp item.now) }
+        ensures fault { IfErr result (λ e. e ≡ arrive_error self.old) }
+        // A refused call changes nothing.
+        ensures err { OnErr result (self.new ≡ self.old) }
+    {
+        if self.is_full() {
+            return Err(PutError::Full);
+        }
+        let entry = drop_entry(self.alloc, source, item)?;
+        make_room(&mut self.log, &mut self.stamps, &mut self.sources)?;
+        self.shard.put(item)?;
+        self.log.put(entry);
+        self.stamps.push(stamp).unwrap();
+        self.sources.push(source).unwrap();
+        Ok(())
+    }
+}

@@ -1,0 +1,26 @@
+//! Why a log is not replayed.
+
+ghost use Rattle.std.specs.Prelude.{◌≡◌};
+ghost use Rattle.bench_gather.specs.declared.fault.GatherFault.TheVariants as faults;
+
+use std::alloc::AllocError;
+use thiserror::Error;
+
+/// Why no world was gathered. What was handed in is then as it was.
+#[derive(Clone, Copy, Debug, PartialEq, Eq, Error)]
+pub enum GatherFault {
+    /// The entries are no legal log: so many of them are, and no more.
+    #[error("the parts disagree at entry {0}")]
+    Disagree(usize),
+    /// Memory was refused.
+    #[error("out of memory")]
+    NoMemory,
+}
+
+impl From<AllocError> for GatherFault {
+    ghost from_gives = { λ _ e. e ≡ faults.NoMemory };
+
+    fn from(_e: AllocError) -> GatherFault {
+        GatherFault::NoMemory
+    }
+}

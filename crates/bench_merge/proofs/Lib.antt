@@ -1,0 +1,4 @@
+pub mod HeadLemmas
+pub mod StepLemmas
+pub mod ClashLemmas
+pub mod LawLemmas

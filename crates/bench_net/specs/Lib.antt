@@ -1,0 +1,9 @@
+pub mod Events
+pub mod Texts
+pub mod Pipes
+pub mod Answers
+pub mod Givens
+pub mod Readings
+pub mod Writings
+pub mod Codes
+pub mod Pumps

@@ -1,0 +1,16 @@
+//! Benches that are played by lines of a transcript: what test programs share.
+//!
+//! | File | What it has |
+//! |---|---|
+//! | `play` | what each line does |
+//! | `looks` | what a bench shows, as text |
+//! | `words` | octets of messages by words |
+#![tactic(auto)]
+
+mod looks;
+mod play;
+mod words;
+
+pub use looks::number_in;
+pub use play::{Play, all_of, step_of};
+pub use words::joined;

@@ -1,0 +1,3 @@
+pub mod DefinitionLemmas
+pub mod HaltLemmas
+pub mod CallLemmas

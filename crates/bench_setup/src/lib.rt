@@ -1,0 +1,21 @@
+//! What a bench is opened with: CONFIG and the files that it names, read, and callbacks that answer by the laws of all roles.
+//!
+//! | File | What it has |
+//! |---|---|
+//! | `halt` | what stands in the way before a bench is opened |
+//! | `definitions` | what a dictionary adds, in one of its own |
+//! | `inputs` | the files of a node |
+//! | `setups` | a node of a CONFIG, and what its bench is opened with |
+//! | `calls` | registries of callbacks, made for what is done with them |
+#![tactic(auto)]
+
+mod calls;
+mod definitions;
+mod halt;
+mod inputs;
+mod setups;
+
+pub use calls::{WithCalls, with_calls};
+pub use halt::{Halt, tell_halt};
+pub use inputs::read_named;
+pub use setups::{Setup, read_first};

@@ -1,0 +1,98 @@
+-- What is told of a bench that is opened and of a script that is run on it.
+use Rattle.std.specs.Prelude.{◌≡◌, ◌⊎◌, ℕ, min, Bool, true, false, List, [], ◌++◌, codes, decimal, map, replicate, Option, Some, None, option_map}
+use Rattle.std.specs.Option.{option_and_then, option_or}
+use Rattle.base_device.specs.Devices.{Tells}
+use Rattle.base_device.specs.declared.status.Status.{Status}
+use Rattle.base_device.specs.declared.status.Status.TheVariants as statuses
+use Rattle.bench_item.specs.declared.limit.TheConstants.{MAX_SHARDS}
+use Rattle.bench_open.specs.Given.{config_of}
+use Rattle.bench_open.specs.declared.config.Config as handed
+use Rattle.bench_script.specs.Ends.{lines_text, totals_text}
+use Rattle.bench_script.specs.Ran.{Ran}
+use Rattle.bench_spec.specs.Opening.{Config, laws_of, opening_refusal, settings_of}
+use Rattle.bench_spec.specs.Taken.{Run, opened}
+use Rattle.bench_spec.specs.declared.opening.OpeningError.{OpeningError}
+use Rattle.bench_spec.specs.declared.opening.OpeningError.TheVariants as errors
+use Rattle.fault_text.specs.Faults.{unbound_text}
+use Rattle.role_tables.specs.Roles.{all_laws}
+use Rattle.script_text.specs.RunLines.{first_bad_run, run_script_of}
+use Rattle.script_text.specs.declared.run_line.RunLine.{RunLine}
+use Rattle.tab_law.specs.Books.{Laws}
+use Rattle.cmd_bench.specs.declared.shown.Shown.{Shown}
+
+-- what is opened: a configuration with the laws of all roles for each shard, of which there are no more than may be
+abbrev pub opened_with : handed.Config → Config
+opened_with config = config_of config (replicate (min config.shards MAX_SHARDS) all_laws)
+
+-- a text that is printed, or not
+abbrev pub if_shown : Bool → List ℕ → List ℕ
+if_shown true text = text
+if_shown false text = []
+
+-- what is printed at the end: the lines, and these accounts
+abbrev pub ends_text : Shown → Run → List ℕ → List ℕ
+ends_text shown run accounts = if_shown shown.lines (lines_text run) ++ if_shown shown.totals (totals_text run accounts)
+
+-- what is printed where lines are run: what they print, and the end
+pub record RunText (old : Run) (lines : List RunLine) (shown : Shown) (accounts text : List ℕ) : Type 0 where
+  pub new : Run
+  pub steps : List ℕ
+  pub ran : Ran old lines new steps
+  pub printed : text ≡ if_shown shown.steps steps ++ ends_text shown new accounts
+
+-- why a bench is not opened, and what is wanted, memory aside
+abbrev pub opening_text : Laws → OpeningError → Option (List ℕ)
+opening_text laws errors.Limits =
+    Some (codes "not opened: limits\n  wanted: 1 to 16 shards, 1 to 8 pages, at most 16 desks and 64 peers\n")
+opening_text laws errors.Names =
+    Some (codes "not opened: names\n  wanted: a host, a realm and peers of 1 to 255 octets of ASCII, each peer once\n")
+opening_text laws errors.Laws = Some (codes "not opened: laws\n")
+opening_text laws (errors.Unbound name) = Some (unbound_text laws None name)
+opening_text laws errors.Account =
+    Some (codes "not opened: account\n  wanted: numbers from 1, each once, at most 2^62 units, 1024 accounts on a page\n")
+opening_text laws errors.NoMemory = None
+
+-- the first line of a script that has another form
+abbrev pub bad_text : ℕ → List ℕ
+bad_text line = codes "bad line " ++ decimal line ++ codes "\n"
+
+-- what is printed of a script's run on a bench that is open, and whether it is a refusal
+abbrev pub IsRunIn : Run → (script : List ℕ) → Shown → (accounts text : List ℕ) → Bool → Type 0
+IsRunIn run script shown accounts text true = option_map bad_text (first_bad_run run.settings.node.laws script) ≡ Some text
+IsRunIn run script shown accounts text false =
+    (first_bad_run run.settings.node.laws script ≡ None)
+    × RunText run (run_script_of run.settings.node.laws script) shown accounts text
+
+-- what is refused first: the opening, or a line of the script
+unfoldable pub refusal_of : Config → List ℕ → Option (List ℕ)
+refusal_of config script =
+    option_or (option_and_then (opening_text (laws_of config)) (opening_refusal config))
+    (option_map bad_text (first_bad_run (laws_of config) script))
+
+-- what is printed of a script's run on a bench, and whether it is a refusal
+abbrev pub IsBenchRun : Config → (script : List ℕ) → Shown → (text : List ℕ) → Bool → Type 0
+IsBenchRun config script shown text true = refusal_of config script ≡ Some text
+IsBenchRun config script shown text false =
+    (refusal_of config script ≡ None)
+    × RunText (opened (settings_of config)) (run_script_of (laws_of config) script) shown
+    (map (λ account. account.id) config.accounts) text
+
+-- the status of a run
+abbrev pub run_status : Bool → Status
+run_status true = statuses.Refused
+run_status false = statuses.Done
+
+-- The text of a run was taken whole, and its status is the answer, or a write fault came; or memory ran out.
+pub record RunTold
+    {O : Type 0} (contents : O → Option (List ℕ)) (failures idle : O → ℕ) (config : Config) (script : List ℕ)
+    (shown : Shown) (old new : O) (answer : Status) : Type 0 where
+  pub text : List ℕ
+  pub refused : Bool
+  pub run : IsBenchRun config script shown text refused
+  pub told : Tells contents failures idle old new text (run_status refused) answer
+
+abbrev pub IsRunOn : {O : Type 0} → (contents : O → Option (List ℕ)) → (failures idle : O → ℕ) → Config
+    → (script : List ℕ) → Shown → (old new : O) → Status → Type 0
+IsRunOn contents failures idle config script shown old new answer =
+    RunTold contents failures idle config script shown old new answer
+    ⊎ Tells contents failures idle old new (codes "no memory\n") statuses.NoMemory answer

@@ -1,0 +1,16 @@
+//! `run`: a bench opened by what files say, and a script run on it.
+//!
+//! | File | What it has |
+//! |---|---|
+//! | `shown` | what is printed of a run |
+//! | `opening` | a bench opened with callbacks of all roles, a script run on it, and that told |
+//! | `running` | all of that, from the names of files to a status |
+#![tactic(auto)]
+
+mod opening;
+mod running;
+mod shown;
+
+pub use opening::run_on;
+pub use running::{run, tell_sample};
+pub use shown::Shown;

@@ -1,0 +1,210 @@
+//! A bench opened with callbacks of all roles, a script run on it, and that told.
+ghost use Rattle.std.specs.Prelude.{◌≡◌, ◌<◌, ◌≤◌, ◌-◌, ◌^◌, None, Some, IfOk, map, max, true};
+ghost use Rattle.base_device.specs.Devices.{Tells};
+ghost use Rattle.bench_script.specs.Ran.{IsRunBy};
+ghost use Rattle.bench_open.specs.Given.{config_of, first_of};
+ghost use Rattle.fault_text.specs.Faults.{unbound_text};
+ghost use Rattle.cmd_bench.specs.Told.{IsBenchRun, IsRunIn, IsRunOn, bad_text, opened_with, opening_text, run_status};
+
+use crate::shown::{Shown, run_text};
+use base_device::{ByteSink, MAX_IDLE_WRITES, Status, tell};
+use base_text::put_number;
+use bench_core::Core;
+use bench_item::MAX_SHARDS;
+use bench_open::{Account, Config};
+use bench_setup::{WithCalls, with_calls};
+use bench_spec::OpeningError;
+use event_text::LinesError;
+use fault_text::unbound_text;
+use script_text::read_run_script;
+use std::alloc::{AllocError, Global};
+use tab_call::Registry;
+use tab_law::LawBook;
+use tab_step::Stepped;
+
+const BAD_LIMITS: &str =
+    "not opened: limits\n  wanted: 1 to 16 shards, 1 to 8 pages, at most 16 desks and 64 peers\n";
+
+const BAD_NAMES: &str =
+    "not opened: names\n  wanted: a host, a realm and peers of 1 to 255 octets of ASCII, each peer once\n";
+
+const BAD_LAWS: &str = "not opened: laws\n";
+
+const BAD_ACCOUNT: &str =
+    "not opened: account\n  wanted: numbers from 1, each once, at most 2^62 units, 1024 accounts on a page\n";
+
+/// What is told of a run, and whether it is a refusal.
+#[derive(Drop)]
+struct Outcome {
+    text: Vec<u8>,
+    refused: bool,
+}
+
+fn refusal(text: Vec<u8>) -> Outcome
+    ensures { result ≡ record { text = text; refused = true } }
+{
+    Outcome {
+        text,
+        refused: true,
+    }
+}
+
+/// `bad line N`: the first line of a script that has another form.
+fn bad_line(alloc: Global, line: usize) -> Result<Vec<u8>, AllocError>
+    ensures { IfOk result (λ text. text.items ≡ bad_text line) }
+{
+    let mut text = Vec::new(alloc);
+    put_number(&mut text, b"bad line ", line as u64)?;
+    text.extend_from_slice(b"\n")?;
+    Ok(text)
+}
+
+/// The first name of a table that the laws of the first registry lack, and what is near it.
+fn lacking_text(alloc: Global, registries: &[Registry], name: &[u8]) -> Result<Vec<u8>, AllocError>
+    ensures { IfOk result (λ text. text.items ≡ unbound_text (first_of (map (λ r. r.book) registries.now)) None name.now) }
+{
+    match registries.first() {
+        Some(registry) => unbound_text(alloc, registry.laws(), None, name),
+        None => unbound_text(alloc, &LawBook::new(alloc), None, name),
+    }
+}
+
+/// Why a bench is not opened, and what is wanted.
+fn opening_text(
+    alloc: Global,
+    registries: &[Registry],
+    error: &OpeningError,
+) -> Result<Vec<u8>, AllocError>
+    ensures { IfOk result (λ text. opening_text (first_of (map (λ r. r.book) registries.now)) error.now ≡ Some text.items) }
+{
+    match error {
+        OpeningError::Limits => Vec::from_slice(alloc, BAD_LIMITS.as_bytes()),
+        OpeningError::Names => Vec::from_slice(alloc, BAD_NAMES.as_bytes()),
+        OpeningError::Laws => Vec::from_slice(alloc, BAD_LAWS.as_bytes()),
+        OpeningError::Unbound(name) => lacking_text(alloc, registries, name.as_slice()),
+        OpeningError::Account => Vec::from_slice(alloc, BAD_ACCOUNT.as_bytes()),
+        OpeningError::NoMemory => Err(AllocError),
+    }
+}
+
+/// A script's run on a bench that is open.
+fn run_in(
+    alloc: Global,
+    core: &mut Core,
+    registries: &[Registry],
+    script: &[u8],
+    shown: Shown,
+    accounts: &[u64],
+) -> Result<Outcome, AllocError>
+    requires { IsRunBy core.old (map (λ r. r.book) registries.now) }
+    ensures { IfOk result (λ run. IsRunIn core.old script.now shown accounts.now run.text.items run.refused) }
+{
+    let mut room = Box::new(alloc, Stepped::new())?;
+    match read_run_script(alloc, core.laws(), script) {
+        Ok(lines) => Ok(Outcome {
+            text: run_text(alloc, core, registries, &mut room, lines, shown, accounts)?,
+            refused: false,
+        }),
+        Err(LinesError::NoMemory) => Err(AllocError),
+        Err(LinesError::BadLine(line)) => Ok(refusal(bad_line(alloc, line)?)),
+    }
+}
+
+/// The numbers of accounts.
+fn numbers_of(alloc: Global, accounts: &[Account]) -> Result<Vec<u64>, AllocError>
+    ensures { IfOk result (λ numbers. numbers.items ≡ map (λ account. account.id) accounts.now) }
+{
+    accounts.iter().map(|account| account.id).collect(alloc)
+}
+
+/// A script's run on a bench that is opened with these registries.
+fn run_with(
+    alloc: Global,
+    config: Config,
+    registries: &[Registry],
+    script: &[u8],
+    shown: Shown,
+) -> Result<Outcome, AllocError>
+    ensures { IfOk result (λ run. IsBenchRun (config_of config (map (λ r. r.book) registries.now)) script.now shown run.text.items run.refused) }
+{
+    let accounts = numbers_of(alloc, &config.accounts)?;
+    match Core::new(alloc, config, registries) {
+        Ok(mut core) => run_in(alloc, &mut core, registries, script, shown, &accounts),
+        Err(error) => Ok(refusal(opening_text(alloc, registries, &error)?)),
+    }
+}
+
+/// A script that is to be run on a bench.
+#[derive(Drop)]
+struct Job<'a> {
+    alloc: Global,
+    config: Config,
+    script: &'a [u8],
+    shown: Shown,
+}
+
+impl WithCalls for Job<'_> {
+    type Answer = Outcome;
+
+    ghost answers = { λ job laws run. IsBenchRun (config_of job.config laws) job.script.now job.shown run.text.items run.refused };
+
+    fn run(self, registries: Vec<Registry>) -> Result<Outcome, AllocError> {
+        let Job {
+            alloc,
+            config,
+            script,
+            shown,
+        } = self;
+        run_with(alloc, config, &registries, script, shown)
+    }
+}
+
+/// A script's run on a bench with callbacks that answer by the laws of all roles.
+fn run_all(
+    alloc: Global,
+    config: Config,
+    script: &[u8],
+    shown: Shown,
+) -> Result<Outcome, AllocError>
+    ensures { IfOk result (λ run. IsBenchRun (opened_with config) script.now shown run.text.items run.refused) }
+{
+    let count = config.shards.min(MAX_SHARDS as u64) as usize;
+    let job = Job {
+        alloc,
+        config,
+        script,
+        shown,
+    };
+    with_calls(alloc, count, job)
+}
+
+/// The status of a run.
+fn run_status(refused: bool) -> Status
+    ensures { result ≡ run_status refused }
+{
+    if refused {
+        Status::Refused
+    } else {
+        Status::Done
+    }
+}
+
+/// Opens a bench with callbacks that answer by the laws of all roles, runs a script on it, and prints that. Refused are, in this order, an
+/// opening, and a line of the script that has another form, the first of them; then nothing is run.
+pub fn run_on<O: ByteSink>(
+    alloc: Global,
+    config: Config,
+    script: &[u8],
+    shown: Shown,
+    sink: &mut O,
+) -> Status
+    requires idle { O.idle sink.old ≡ 0 }
+    requires failures { O.failures sink.old < 2 ^ 64 - 1 }
+    ensures run { IsRunOn O.contents O.failures O.idle (opened_with config) script.now shown sink.old sink.new result }
+    ensures row { O.most_idle sink.new ≤ max (O.most_idle sink.old) MAX_IDLE_WRITES }
+{
+    match run_all(alloc, config, script, shown) {
+        Ok(run) => tell(sink, &run.text, run_status(run.refused)),
+        Err(AllocError) => tell(sink, b"no memory\n", Status::NoMemory),
+    }
+}

@@ -1,0 +1,14 @@
+use Rattle.std.proofs.Common.{ap, codes, ◌∙◌}
+use Rattle.std.proofs.lemmas.Result.{IfOk-weaker}
+use Rattle.clap.specs.Words.{App, with_rule}
+use Rattle.cmd_words.specs.Words.{flag_rule}
+use Rattle.cmd_words.proofs.commands.run_command.Goals as goal
+
+-- a flag more at each step
+pub returns-clause-app : goal.returns-clause-app
+returns-clause-app c =
+    let quiet = ap (λ (a : App). with_rule a (flag_rule (codes "quiet"))) c.in_ok-command.ensures.app in
+    let sent = ap (λ (a : App). with_rule a (flag_rule (codes "sent"))) (c.in_ok-command-2.ensures.app ∙ quiet) in
+    let totals = ap (λ (a : App). with_rule a (flag_rule (codes "totals"))) (c.in_ok-command-3.ensures.app ∙ sent) in
+    let sample = ap (λ (a : App). with_rule a (flag_rule (codes "sample"))) (c.in_ok-command-4.ensures.app ∙ totals) in
+    IfOk-weaker c.with_flag-4.result _ _ (λ r is. is ∙ sample) c.with_flag-4.ensures.app

@@ -1,8 +1,0 @@
-use Rattle.std.proofs.Common.{◌≡◌, ◌++◌, take}
-use Rattle.std.specs.List.{enumerate_from, flat_map}
-use Rattle.tab_draw.specs.Drawing.{stay_line}
-use Rattle.tab_draw.proofs.graph.put_stays.Given as goal
-
--- the lines of the rows so far are put
-abbrev pub invariant-loop-number : goal.invariant-loop-number
-invariant-loop-number l = l.out.items ≡ l.initial.out.items ++ flat_map (stay_line l.table l.state) (enumerate_from 0 (take l.number l.table.rows))

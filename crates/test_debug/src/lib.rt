@@ -1,0 +1,5 @@
+//! Tests of the debugger, over public calls alone.
+#![tactic(auto)]
+
+#[cfg(test)]
+mod sessions;

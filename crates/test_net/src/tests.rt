@@ -1,0 +1,5 @@
+//! Calls of `pump` over memory.
+
+mod faults;
+mod kept;
+mod waits;
