@@ -23,6 +23,7 @@ pub trait Answerer: Drop {
     fn answer(self, lines: &[Octets]) -> Result<Answered<Self>, AllocError>
         requires { stands self }
         ensures stands { IfOk result (λ answered. stands answered.answerer) }
-        ensures answered { IfOk result (λ answered. (start : Self) (before : List (List ℕ)) (said : List ℕ) → has_answered start self before said
+        ensures answered { IfOk result (λ answered. (start : Self) (before : List (List ℕ)) (said : List ℕ)
+            → has_answered start self before said
             → has_answered start answered.answerer (before ++ lines.now) (said ++ answered.text.items)) };
 }

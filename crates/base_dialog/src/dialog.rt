@@ -25,7 +25,8 @@ pub(crate) fn take_piece<T: Answerer>(
     requires stands { T.stands dialog.answerer }
     ensures stands { IfOk result (λ answered. T.stands answered.answerer.answerer) }
     ensures line { IfOk result (λ answered. IsLine answered.answerer.begun.items) }
-    ensures answered { IfOk result (λ answered. (start : T) (text said : List ℕ) → HasAnswered T.has_answered start dialog text said
+    ensures answered { IfOk result (λ answered. (start : T) (text said : List ℕ)
+        → HasAnswered T.has_answered start dialog text said
         → HasAnswered T.has_answered start answered.answerer (text ++ piece.now) (said ++ answered.text.items)) }
 {
     let Dialog {

@@ -46,7 +46,8 @@ fn answer_source<T: Answerer, I: FileSource, O: ByteSink>(
     ensures reads { I.reads source.new ≤ I.reads source.old + MAX_READS }
     ensures row { O.most_idle sink.new ≤ max (O.most_idle sink.old) MAX_IDLE_WRITES }
     ensures run { IsRun I.reads I.failures O.failures O.idle source.old source.new sink.old sink.new result }
-    ensures met { result ≢ Status.Fault → IsAnsweredFrom T.has_answered answerer I.remaining I.failures O.contents O.failures O.idle source.old source.new sink.old sink.new result }
+    ensures met { result ≢ Status.Fault → IsAnsweredFrom T.has_answered answerer I.remaining I.failures O.contents
+        O.failures O.idle source.old source.new sink.old sink.new result }
     ensures words { result ≢ Status.Usage }
 {
     let Ok(mut piece) = vec![in alloc; 0u8; PIECE] else {
@@ -59,8 +60,8 @@ fn answer_source<T: Answerer, I: FileSource, O: ByteSink>(
     }
 }
 
-/// Reads the file of that name, or standard input, to its end, and answers each line. The answers to the lines that a read ends are
-/// written out before the next read. Want of memory and read faults are told behind them.
+/// Reads the file of that name, or standard input, to its end, and answers each line. The answers to the lines that a
+/// read ends are written out before the next read. Want of memory and read faults are told behind them.
 pub fn answer_input<T: Answerer, I: FileSource, O: ByteSink>(
     alloc: Global,
     name: Option<&str>,
@@ -77,7 +78,8 @@ pub fn answer_input<T: Answerer, I: FileSource, O: ByteSink>(
     ensures reads { I.reads source.new ≤ I.reads source.old + MAX_READS }
     ensures row { O.most_idle sink.new ≤ max (O.most_idle sink.old) MAX_IDLE_WRITES }
     ensures run { IsRun I.reads I.failures O.failures O.idle source.old source.new sink.old sink.new result }
-    ensures met { result ≢ Status.Fault → IsAnswered T.has_answered answerer I.remaining I.reads I.failures O.contents O.failures O.idle source.old source.new sink.old sink.new result }
+    ensures met { result ≢ Status.Fault → IsAnswered T.has_answered answerer I.remaining I.reads I.failures
+        O.contents O.failures O.idle source.old source.new sink.old sink.new result }
     ensures words { result ≢ Status.Usage }
 {
     match turn_to(source, name) {

@@ -48,9 +48,12 @@ pub(crate) fn pour<T: Answerer, I: ByteSource, O: ByteSink>(
     requires read_failures { I.failures source.old < 2 ^ 64 - 1 }
     requires idle { O.idle sink.old ≡ 0 }
     requires write_failures { O.failures sink.old < 2 ^ 64 - 1 }
-    ensures poured { IfOk result (IsPoured T.has_answered answerer I.remaining I.reads I.failures O.contents source.old source.new sink.old sink.new) }
+    ensures poured { IfOk result
+        (IsPoured T.has_answered answerer I.remaining I.reads I.failures O.contents
+        source.old source.new sink.old sink.new) }
     ensures sound { OnOk result ((O.failures sink.new ≡ O.failures sink.old) × (O.idle sink.new ≡ 0)) }
-    ensures cause { OnErr result (HasWriteCause O.failures O.idle sink.old sink.new × (I.failures source.new ≡ I.failures source.old)) }
+    ensures cause { OnErr result
+        (HasWriteCause O.failures O.idle sink.old sink.new × (I.failures source.new ≡ I.failures source.old)) }
     ensures reads { I.reads source.new ≤ I.reads source.old + MAX_READS }
     ensures made { I.reads source.old ≤ I.reads source.new }
     ensures row { O.most_idle sink.new ≤ max (O.most_idle sink.old) MAX_IDLE_WRITES }

@@ -28,7 +28,8 @@ or_last None last = last
 abbrev pub after : Option Again → List ℕ → Option Again
 after last line = or_last (again_of line) last
 
--- what a line means: an empty one the last command that may be repeated, where there is room for it, and any other itself
+-- what a line means: an empty one the last command that may be repeated, where there is room for it, and any other
+-- itself
 abbrev pub meant : Option Again → List ℕ → (room : ℕ) → List ℕ
 meant None line room = line
 meant (Some again) line room =

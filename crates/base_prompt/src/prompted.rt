@@ -9,8 +9,8 @@ use std::io::{Read, Write};
 /// What is shown before each line.
 const PROMPT: &[u8] = b"(debug) ";
 
-/// An input. At a terminal a prompt is shown before each read, and an empty line is the last of the commands `step`, `back`, `go` and `rgo` once
-/// more. A terminal gives a line at a time.
+/// An input. At a terminal a prompt is shown before each read, and an empty line is the last of the commands `step`,
+/// `back`, `go` and `rgo` once more. A terminal gives a line at a time.
 #[derive(Drop)]
 pub struct Prompted<R, W> {
     input: R,
