@@ -1,6 +1,6 @@
 -- A log is replayed entry by entry.
-use Rattle.std.proofs.Common.{◌≡◌, ◌∙◌, ◌+◌, ◌-◌, ◌<◌, ◌≤◌, ℕ, zero, suc, List, [], ◌∷◌, ◌++◌, Bool, true, false, length, take, drop, refl, ap, sym, subst, arith}
-use Rattle.std.specs.Prelude.{slice_get, Option, Some, None, IsTrue, IsFalse, Result, Err}
+use Rattle.std.proofs.Common.{◌≡◌, ◌∙◌, ◌+◌, ◌<◌, ◌≤◌, ℕ, zero, suc, List, [], ◌∷◌, ◌++◌, Bool, true, false, length, take, drop, refl, ap, sym, subst, arith}
+use Rattle.std.specs.Prelude.{slice_get, Some, IsTrue, IsFalse, Err}
 use Rattle.std.proofs.lemmas.List.{length_push, take-append-drop}
 use Rattle.bench_item.specs.declared.entry.Entry.{Entry}
 use Rattle.bench_spec.specs.Desks.{IsLongest}
@@ -10,7 +10,7 @@ use Rattle.bench_spec.specs.Taken.{GoesBackTo, Replays, Run, with_log}
 use Rattle.bench_spec.proofs.LegalLemmas.{IsLegal-front, MayFollow-last}
 use Rattle.bench_gather.specs.Replayed.{IsReplayed, ReplaysAt}
 use Rattle.bench_gather.specs.declared.fault.GatherFault.{GatherFault}
-use Rattle.bench_gather.specs.declared.fault.GatherFault.TheVariants.{Disagree, NoMemory}
+use Rattle.bench_gather.specs.declared.fault.GatherFault.TheVariants.{Disagree, Full, NoMemory}
 
 -- one entry more of a log
 pub take-next : (xs : List Entry) (k : ℕ) (e : Entry) → slice_get xs k ≡ Some e → take (suc k) xs ≡ take k xs ++ e ∷ []
@@ -84,6 +84,7 @@ stays old mid last new log k empty is same back =
 pub replay-stops : (old mid last new : Run) (log : List Entry) (k : ℕ) (fault : GatherFault) → old.log ≡ []
     → mid ≡ with_log old (take k log) → k < length log → ReplaysAt mid last log k (Err fault) → new ≡ with_log last []
     → IsReplayed old new log (Err fault)
+replay-stops old mid last new log k Full empty is within r back = absurd r
 replay-stops old mid last new log k (Disagree at) empty is within r back =
     let legal = subst (λ (m : Run). IsLegal m.settings m.log) is r.1 in
     let none =
