@@ -1,0 +1,10 @@
+use Rattle.std.proofs.Common.{◌∙◌, ap, length, sym}
+use Rattle.bench_desk.proofs.PartLemmas.{entries-stamped_of}
+use Rattle.live_parts.specs.Stamps.{StampedView, entries_in}
+use Rattle.live_parts.proofs.stamped.StampedLog.len.Goals as goal
+
+pub returns : goal.returns
+returns c =
+    c.len.ensures.count
+    ∙ ap length (sym (entries-stamped_of c.self.inside.stamps.items c.self.inside.log.entries c.self.invariant.0))
+    ∙ ap (λ (v : StampedView). length (entries_in v)) c.self.view_is

@@ -1,0 +1,12 @@
+-- Entries of steps that handle nothing.
+use Rattle.std.specs.Prelude.{Some, None}
+use Rattle.bench_item.specs.declared.entry.Entry.{Entry}
+use Rattle.bench_item.specs.declared.item.Item.{Item}
+use Rattle.bench_item.specs.declared.step.Step.{Step}
+
+-- of a step that carries nothing, and of one that carries an item
+abbrev pub bare_entry : Step → Entry
+bare_entry step = record { step = step; item = None; handled = None }
+
+abbrev pub carried_entry : Step → Item → Entry
+carried_entry step item = record { step = step; item = Some item; handled = None }

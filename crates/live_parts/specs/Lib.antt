@@ -1,0 +1,3 @@
+pub mod Entries
+pub mod LineParts
+pub mod Stamps
