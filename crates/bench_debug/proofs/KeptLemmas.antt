@@ -1,20 +1,20 @@
 -- A command leaves what the bench was opened with.
 use Rattle.std.proofs.Common.{◌≡◌, ℕ, List, refl, sym, ◌∙◌, ap, inl, inr}
-use Rattle.std.specs.Prelude.{Bool, true, false, MatchBool, ◌⊎◌, map, nat_le, Result, Ok, Err}
+use Rattle.std.specs.Prelude.{Bool, true, false, MatchBool, nat_le, Result, Ok, Err}
 use Rattle.bench_item.specs.declared.entry.Entry.{Entry}
+use Rattle.bench_item.specs.declared.key.Key.{Key}
 use Rattle.bench_script.specs.Ran.{IsRunBy}
 use Rattle.bench_script.proofs.RanLemmas.{run_by_same}
-use Rattle.bench_spec.specs.Settings.{Settings}
 use Rattle.bench_spec.specs.Taken.{Run}
 use Rattle.debug_text.specs.Commands.{command_of}
 use Rattle.debug_text.specs.declared.command.Command.{Command}
 use Rattle.debug_text.specs.declared.command.Command.TheVariants as commands
 use Rattle.debug_text.specs.declared.command.CommandFault.{CommandFault}
-use Rattle.debug_text.specs.declared.command.CommandFault.TheVariants.{AtStart, NoMemory, StepRefused}
+use Rattle.debug_text.specs.declared.command.CommandFault.TheVariants.{AtStart, NoMemory, NoSuchMachine, StepRefused}
 use Rattle.debug_text.specs.declared.reply.Reply.{Reply}
 use Rattle.debug_text.specs.declared.reply.Reply.TheVariants.{Text, End, At, StoppedAt, EndAt, WasSet, WasCleared, Stands, AreTotals, IsAt, Help}
 use Rattle.tab_law.specs.Books.{Laws}
-use Rattle.bench_debug.specs.Debug.{Answers, Commands, Debugging, Does, DoesRead, GoesBackMet, GoesOn, GoesTo, Goes, Refuses, Replies, Steps, StepsTo, gone_back, place_of, refused_at}
+use Rattle.bench_debug.specs.Debug.{Answers, Commands, Debugging, Does, DoesRead, GoesBackMet, GoesOn, Goes, Refuses, Replies, Steps, StepsTo, Whys, gone_back, place_of, refused_at}
 use Rattle.bench_debug.specs.Tables.{tables_in}
 use Rattle.bench_debug.proofs.GoingLemmas.{forward_same}
 
@@ -70,11 +70,23 @@ replies_same old new commands.Back (At place) h = sym (ap (λ (r : Run). r.setti
 replies_same old new (commands.Break breakpoint) (WasSet number) h = ap (λ (d : Debugging). d.world.settings) h.1
 replies_same old new (commands.Clear number) (WasCleared n) h = ap (λ (d : Debugging). d.world.settings) h.1
 replies_same old new (commands.Show key) (Stands k state) h = same_as old new h.2
+replies_same old new (commands.History key) (Text text) h = same_as old new h.1
+replies_same old new commands.Queues (Text text) h = same_as old new h.1
+replies_same old new commands.Timers (Text text) h = same_as old new h.1
+replies_same old new commands.Lines (Text text) h = same_as old new h.1
+replies_same old new (commands.Sent line) (Text text) h = same_as old new h.1
 replies_same old new (commands.ListRow role row) (Text text) h = same_as old new h.1
 replies_same old new (commands.TotalsOf account) (AreTotals totals) h = same_as old new h.1
 replies_same old new commands.Where (IsAt place next last) h = same_as old new h.3
 replies_same old new commands.Help Help h = same_as old new h
 replies_same old new command reply h = absurd h
+
+whys_same : (old new : Debugging) (key : Key) (result : Result Reply CommandFault) → Whys old new key result → new.world.settings ≡ old.world.settings
+whys_same old new key (Ok (Text text)) h = same_as old new h.1
+whys_same old new key (Ok reply) h = absurd h
+whys_same old new key (Err NoSuchMachine) h = same_as old new h.1
+whys_same old new key (Err NoMemory) h = same_as old new h
+whys_same old new key (Err fault) h = absurd h
 
 answers_same : (old new : Debugging) (command : Command) (result : Result Reply CommandFault) → Answers old new command result
     → new.world.settings ≡ old.world.settings
@@ -87,11 +99,7 @@ commands_same old new commands.Step result h = steps_same old new result h
 commands_same old new commands.Go result h = goes_same old new result h
 commands_same old new commands.ReverseGo result h = goes_back_same old new result h
 commands_same old new (commands.Goto place) result h = goes_to_same old new place result (nat_le place (place_of old)) h
-commands_same old new (commands.History key) result h = same_as old new h.1
-commands_same old new (commands.Why key) result h = same_as old new h.1
-commands_same old new commands.Timers result h = same_as old new h.1
-commands_same old new commands.Lines result h = same_as old new h.1
-commands_same old new (commands.Sent line) result h = same_as old new h.1
+commands_same old new (commands.Why key) result h = whys_same old new key result h
 commands_same old new commands.Accounts result h = same_as old new h.1
 commands_same old new command result h = answers_same old new command result h
 

@@ -2,13 +2,18 @@
 use Rattle.std.specs.Prelude.{◌≡◌, ◌≢◌, ℕ, ◌+◌, ◌-◌, ◌<◌, ◌==◌, ◌||◌, not, nat_le, Bool, false, List, [], ◌∷◌, ◌++◌, filter, find, length, drop, take, reverse}
 use Rattle.std.specs.Prelude.{Option, None, Some, is_none, option_map, slice_get, slice_index, unwrap_or, IsSomeAnd, MatchBool, Result, Ok, Err, ◌⊎◌}
 use Rattle.std.specs.List.{list_any, range_with_len}
-use Rattle.acct_totals.specs.declared.answer.Totals.{Totals}
 use Rattle.bench_item.specs.declared.entry.Entry.{Entry}
 use Rattle.bench_item.specs.declared.key.Key.{Key}
 use Rattle.bench_item.specs.declared.key.Role.{Role}
 use Rattle.bench_item.specs.declared.limit.TheConstants.{MAX_BREAKPOINTS}
+use Rattle.bench_item.specs.declared.entry.Moved.{Moved}
 use Rattle.bench_script.specs.Printed.{taken_text}
-use Rattle.bench_spec.specs.Refusal.{is_empty}
+use Rattle.bench_show.specs.History.{LastMove, MovesNone, history_text, move_in}
+use Rattle.bench_show.specs.Lines.{lines_text}
+use Rattle.bench_show.specs.Queues.{queues_text}
+use Rattle.bench_show.specs.Timers.{timers_text}
+use Rattle.bench_show.specs.Why.{why_text}
+use Rattle.bench_spec.specs.Refusal.{is_empty, is_line}
 use Rattle.bench_spec.specs.Settings.{table_of}
 use Rattle.bench_spec.specs.Taken.{GoesBackTo, Run, shown, with_log}
 use Rattle.debug_text.specs.Commands.{command_of}
@@ -17,14 +22,15 @@ use Rattle.debug_text.specs.declared.command.Breakpoint.TheVariants.{Row}
 use Rattle.debug_text.specs.declared.command.Command.{Command}
 use Rattle.debug_text.specs.declared.command.Command.TheVariants as commands
 use Rattle.debug_text.specs.declared.command.CommandFault.{CommandFault}
-use Rattle.debug_text.specs.declared.command.CommandFault.TheVariants.{AtStart, NoMemory, NoSuchAccount, NoSuchBreakpoint, NoSuchMachine, NoSuchRow, StepRefused, TooManyBreakpoints, UnknownCommand}
+use Rattle.debug_text.specs.declared.command.CommandFault.TheVariants.{AtStart, BadNumber, NoMemory, NoSuchAccount, NoSuchBreakpoint, NoSuchMachine, NoSuchRow, StepRefused, TooManyBreakpoints, UnknownCommand}
 use Rattle.debug_text.specs.declared.reply.Reply.{Reply}
 use Rattle.debug_text.specs.declared.reply.Reply.TheVariants.{Text, End, At, StoppedAt, EndAt, WasSet, WasCleared, Stands, AreTotals, IsAt, Help}
 use Rattle.script_text.specs.declared.asked.Asked.{Asked}
+use Rattle.sent_text.specs.Sent.{Tells}
 use Rattle.tab_print.specs.Printed.{row_line, widths_of}
 use Rattle.tab_text.specs.Contents.{Contents}
 use Rattle.bench_debug.specs.Asking.{IsRefused, TakesAsked}
-use Rattle.bench_debug.specs.Meets.{LastMet, MeetsNone, first_met, stops}
+use Rattle.bench_debug.specs.Meets.{LastMet, MeetsNone, first_met}
 use Rattle.bench_debug.specs.Tables.{tables_in}
 use Rattle.bench_debug.specs.declared.debugger.Progress.{Progress}
 use Rattle.bench_debug.specs.declared.debugger.SetBreakpoint.{SetBreakpoint}
@@ -230,7 +236,9 @@ command_reasons d (commands.Break breakpoint) =
     (lacks_break_row d breakpoint, NoSuchRow) ∷ (has_all_breakpoints d, TooManyBreakpoints) ∷ []
 command_reasons d (commands.Clear number) = (not (list_any (λ b. b.number == number) d.set), NoSuchBreakpoint) ∷ []
 command_reasons d (commands.Show key) = (is_none ((shown d.world).machine_of key), NoSuchMachine) ∷ []
+command_reasons d (commands.History key) = (is_none ((shown d.world).machine_of key), NoSuchMachine) ∷ []
 command_reasons d (commands.ListRow role row) = (lacks_row d role row, NoSuchRow) ∷ []
+command_reasons d (commands.Sent line) = (not (is_line d.world.log line), BadNumber) ∷ []
 command_reasons d (commands.TotalsOf account) = (is_none ((shown d.world).totals_at account), NoSuchAccount) ∷ []
 command_reasons d command = []
 
@@ -246,6 +254,24 @@ GoesBack old new place =
 abbrev pub row_text : Contents → ℕ → Option (List ℕ)
 row_text table row = option_map (row_line table (widths_of table)) (slice_get table.rows row)
 
+-- why a machine moved as it did the last time
+pub record TellsWhy (run : Run) (key : Key) (text : List ℕ) : Type 0 where
+  pub number : ℕ
+  pub entry : Entry
+  pub moved : Moved
+  pub last : LastMove key run.log number entry
+  pub move : move_in key entry ≡ Some moved
+  pub told : text ≡ why_text run key (number, entry) moved
+
+-- `why KEY`: of the last move of the machine; refused where it has not moved, or for want of memory, which it may take to
+-- see that
+abbrev pub Whys : Debugging → Debugging → Key → Result Reply CommandFault → Type 0
+Whys old new key (Ok (Text text)) = TellsWhy old.world key text × (new ≡ old)
+Whys old new key (Ok reply) = ⊥
+Whys old new key (Err NoSuchMachine) = MovesNone key old.world.log × (new ≡ old)
+Whys old new key (Err NoMemory) = new ≡ old
+Whys old new key (Err fault) = ⊥
+
 -- what such a command replies, and what it does: all replies are of the world at its place
 abbrev pub Replies : Debugging → Debugging → Command → Reply → Type 0
 Replies old new commands.Back (At place) = GoesBack old new place
@@ -253,6 +279,11 @@ Replies old new (commands.Break breakpoint) (WasSet number) = (number ≡ new.co
 Replies old new (commands.Clear number) (WasCleared n) = (n ≡ number) × (new ≡ without old number)
 Replies old new (commands.Show key) (Stands k state) =
     (k ≡ key) × ((shown old.world).machine_of key ≡ Some state) × (new ≡ old)
+Replies old new (commands.History key) (Text text) = (text ≡ history_text old.world key) × (new ≡ old)
+Replies old new commands.Queues (Text text) = (text ≡ queues_text old.world) × (new ≡ old)
+Replies old new commands.Timers (Text text) = (text ≡ timers_text old.world) × (new ≡ old)
+Replies old new commands.Lines (Text text) = (text ≡ lines_text old.world) × (new ≡ old)
+Replies old new (commands.Sent line) (Text text) = Tells ((shown old.world).sent_of line) text × (new ≡ old)
 Replies old new (commands.ListRow role row) (Text text) = (Some text ≡ row_text (table_of old.world.settings role) row) × (new ≡ old)
 Replies old new (commands.TotalsOf account) (AreTotals totals) =
     ((shown old.world).totals_at account ≡ Some totals) × (new ≡ old)
@@ -277,11 +308,7 @@ Commands old new commands.Step result = Steps old new result
 Commands old new commands.Go result = Goes old new result
 Commands old new commands.ReverseGo result = GoesBackMet old new result
 Commands old new (commands.Goto place) result = GoesTo old new place result
-Commands old new (commands.History key) result = IsUnknown old new result
-Commands old new (commands.Why key) result = IsUnknown old new result
-Commands old new commands.Timers result = IsUnknown old new result
-Commands old new commands.Lines result = IsUnknown old new result
-Commands old new (commands.Sent line) result = IsUnknown old new result
+Commands old new (commands.Why key) result = Whys old new key result
 Commands old new commands.Accounts result = IsUnknown old new result
 Commands old new command result = Answers old new command result
 

@@ -2,10 +2,11 @@
 ghost use Rattle.std.specs.Prelude.{◌≡◌, min, option_map};
 ghost use Rattle.std.specs.Option.{option_map_or};
 ghost use Rattle.bench_debug.specs.Meets.{first_met, has_value, is_met_at, is_met_by, is_met_with, meets, move_with};
-ghost use Rattle.bench_item.specs.Keys.{is_same_key, is_same_role};
+ghost use Rattle.bench_item.specs.Keys.{is_same_role};
 
 use crate::debugger::SetBreakpoint;
-use bench_item::{Entry, Handled, Item, Key, MachineItem, Moved, Role, Step};
+use bench_item::{Entry, Handled, Item, MachineItem, Moved, Role, Step};
+use bench_show::is_same_key;
 use debug_text::Breakpoint;
 use tab_law::PLACES;
 
@@ -17,13 +18,6 @@ fn is_same_role(one: Role, other: Role) -> bool
         (one, other),
         (Role::Peer, Role::Peer) | (Role::Client, Role::Client) | (Role::Server, Role::Server)
     )
-}
-
-/// Whether two keys are of one machine.
-fn is_same_key(one: &Key, other: &Key) -> bool
-    ensures { result ≡ is_same_key one.now other.now }
-{
-    is_same_role(one.role, other.role) && one.name.as_slice() == other.name.as_slice()
 }
 
 /// Whether a register has a value.

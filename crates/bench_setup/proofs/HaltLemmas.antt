@@ -45,10 +45,10 @@ pub no_config : (text told : List ℕ) → IsNoConfig text told → IsWrong text
 no_config text told is = inl is
 
 pub no_table : (text told : List ℕ) → IsNoTable text told → IsWrong text told
-no_table text told is = inr (inr (inl is))
+no_table text told is = inr (inr (inr (inl is)))
 
 pub no_dictionary : (text told : List ℕ) → IsNoDictionary text told → IsWrong text told
-no_dictionary text told is = inr (inr (inr is))
+no_dictionary text told is = inr (inr (inr (inr is)))
 
 -- a shipped table with a fault
 pub shipped_refused : {I T : Type 0} (remaining : I → Option (List ℕ)) (reads failures : I → ℕ) (source : I) (shipped text : List ℕ) (result : Result T Halt)

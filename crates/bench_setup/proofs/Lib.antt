@@ -1,3 +1,4 @@
 pub mod DefinitionLemmas
 pub mod HaltLemmas
 pub mod CallLemmas
+pub mod SetupLemmas

@@ -1,9 +1,10 @@
 -- Why a text that was read is refused, and what is told of it.
-use Rattle.std.specs.Prelude.{◌≡◌, ◌⊎◌, ℕ, List, [], Option, Some, Ok, Err, codes}
+use Rattle.std.specs.Prelude.{◌≡◌, ◌⊎◌, ◌<◌, ◌==◌, ℕ, List, [], Option, Some, None, Ok, Err, codes, length, nat_lt, if◌then◌else◌}
 use Rattle.base_device.specs.Inputs.{IsInput}
 use Rattle.config_text.specs.Texts as config
 use Rattle.config_text.specs.Told.{error_text}
 use Rattle.config_text.specs.declared.fault.ConfigError.{ConfigError}
+use Rattle.config_text.specs.declared.node.NodeConfig.{NodeConfig}
 use Rattle.dict_text.specs.Read.{glossary_of}
 use Rattle.dict_text.specs.Told.{wrong_text}
 use Rattle.dict_text.specs.Wrong.{WrongAt}
@@ -24,6 +25,19 @@ pub record IsNoConfig (text told : List ℕ) : Type 0 where
 abbrev pub HasNoNode : (text told : List ℕ) → Type 0
 HasNoNode text told = (config.nodes_in text ≡ Some (Ok [])) × (told ≡ codes "CONFIG has no node\n")
 
+-- a CONFIG with more nodes than are read
+pub record HasManyNodes (text told : List ℕ) : Type 0 where
+  pub nodes : List NodeConfig
+  pub are : config.nodes_in text ≡ Some (Ok nodes)
+  pub many : 64 < length nodes
+  pub told_so : told ≡ codes "CONFIG has more than 64 nodes\n"
+
+-- what is told of so many nodes, where they are too few or too many
+abbrev pub count_text : ℕ → Option (List ℕ)
+count_text count =
+    if count == 0 then Some (codes "CONFIG has no node\n")
+    else (if nat_lt 64 count then Some (codes "CONFIG has more than 64 nodes\n") else None)
+
 -- a table with a fault
 pub record IsNoTable (text told : List ℕ) : Type 0 where
   pub fault : TextFault
@@ -38,7 +52,7 @@ pub record IsNoDictionary (text told : List ℕ) : Type 0 where
 
 -- why a text is refused
 abbrev pub IsWrong : (text told : List ℕ) → Type 0
-IsWrong text told = IsNoConfig text told ⊎ HasNoNode text told ⊎ IsNoTable text told ⊎ IsNoDictionary text told
+IsWrong text told = IsNoConfig text told ⊎ HasNoNode text told ⊎ HasManyNodes text told ⊎ IsNoTable text told ⊎ IsNoDictionary text told
 
 -- a shipped table
 abbrev pub IsShipped : List ℕ → Type 0

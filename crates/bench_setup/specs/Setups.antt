@@ -1,5 +1,5 @@
 -- What a node is opened with, of a CONFIG and of the files that it names.
-use Rattle.std.specs.Prelude.{◌≡◌, ℕ, List, [], Option, Some, None, Ok, slice_get}
+use Rattle.std.specs.Prelude.{◌≡◌, ℕ, List, [], ◌∷◌, Option, Some, None, Ok, map, slice_get}
 use Rattle.base_device.specs.Inputs.{IsInput}
 use Rattle.bench_open.specs.declared.config.Config as handed
 use Rattle.config_text.specs.Configs.{IsConfigOf}
@@ -70,3 +70,17 @@ pub record IsFirstFrom {I : Type 0} (remaining : I → Option (List ℕ)) (reads
   pub are : AreNodesOf text nodes
   pub first : slice_get nodes 0 ≡ Some setup.node
   pub bench : IsBenchFrom remaining reads failures setup.node after_config new setup.bench
+
+-- the files of nodes were read, of one node after the other
+abbrev pub AreReadInTurn : {I : Type 0} → (remaining : I → Option (List ℕ)) → (reads failures : I → ℕ) → (old : I) → List Setup → (new : I) → Type 0
+AreReadInTurn remaining reads failures old [] new = new ≡ old
+AreReadInTurn {I} remaining reads failures old (setup ∷ setups) new =
+    (mid : I) × IsBenchFrom remaining reads failures setup.node old mid setup.bench × AreReadInTurn remaining reads failures mid setups new
+
+-- a CONFIG was read, and then the files of all its nodes, in their order
+pub record AreSetupsFrom {I : Type 0} (remaining : I → Option (List ℕ)) (reads failures : I → ℕ) (old new : I) (setups : List Setup) : Type 0 where
+  pub text : List ℕ
+  pub after_config : I
+  pub config_read : IsInput remaining reads failures old after_config text
+  pub are : AreNodesOf text (map (λ setup. setup.node) setups)
+  pub in_turn : AreReadInTurn remaining reads failures after_config setups new

@@ -1,5 +1,5 @@
 //! Registries of callbacks that answer by the laws of all roles, made for what is done with them.
-ghost use Rattle.std.specs.Prelude.{◌≡◌, IfOk, List, map, replicate};
+ghost use Rattle.std.specs.Prelude.{◌≡◌, IfOk, List, ⊤, map, replicate};
 ghost use Rattle.role_tables.specs.Roles.{all_laws};
 ghost use Rattle.tab_law.specs.Books.{Laws};
 
@@ -14,11 +14,15 @@ pub trait WithCalls {
     /// What it answers.
     type Answer;
 
+    /// Whether it can be done with registries of these laws.
+    ghost fits: { Self → List Laws → Type 0 } = { λ _ _. ⊤ };
+
     /// Whether it may answer that, by the laws of the registries.
     ghost answers: { Self → List Laws → Self.Answer → Type 0 };
 
     /// Does it with these registries, which it keeps.
     fn run(self, registries: Vec<Registry>) -> Result<Self::Answer, AllocError>
+        requires { fits self (map (λ r. r.book) registries.items) }
         ensures { IfOk result (answers self (map (λ r. r.book) registries.items)) };
 }
 
@@ -29,6 +33,7 @@ fn run_by<J: WithCalls + Drop>(
     count: usize,
     job: J,
 ) -> Result<J::Answer, AllocError>
+    requires { J.fits job (replicate count laws.now) }
     ensures { IfOk result (J.answers job (replicate count laws.now)) }
 {
     let mut registries = Vec::new(alloc);
@@ -63,6 +68,7 @@ pub fn with_calls<J: WithCalls + Drop>(
     count: usize,
     job: J,
 ) -> Result<J::Answer, AllocError>
+    requires { J.fits job (replicate count all_laws) }
     ensures { IfOk result (J.answers job (replicate count all_laws)) }
 {
     let laws = all_laws(alloc)?;

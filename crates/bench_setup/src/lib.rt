@@ -18,4 +18,4 @@ mod setups;
 pub use calls::{WithCalls, with_calls};
 pub use halt::{Halt, tell_halt};
 pub use inputs::read_named;
-pub use setups::{Setup, read_first};
+pub use setups::{MAX_NODES, Setup, read_first, read_nodes};

@@ -11,6 +11,6 @@ mod opening;
 mod running;
 mod shown;
 
-pub use opening::run_on;
+pub use opening::{bad_line, opening_text, run_on};
 pub use running::{run, tell_sample};
 pub use shown::Shown;

@@ -50,7 +50,7 @@ fn refusal(text: Vec<u8>) -> Outcome
 }
 
 /// `bad line N`: the first line of a script that has another form.
-fn bad_line(alloc: Global, line: usize) -> Result<Vec<u8>, AllocError>
+pub fn bad_line(alloc: Global, line: usize) -> Result<Vec<u8>, AllocError>
     ensures { IfOk result (λ text. text.items ≡ bad_text line) }
 {
     let mut text = Vec::new(alloc);
@@ -70,7 +70,7 @@ fn lacking_text(alloc: Global, registries: &[Registry], name: &[u8]) -> Result<V
 }
 
 /// Why a bench is not opened, and what is wanted.
-fn opening_text(
+pub fn opening_text(
     alloc: Global,
     registries: &[Registry],
     error: &OpeningError,

@@ -10,7 +10,7 @@ use Rattle.debug_text.specs.declared.command.Command.TheVariants as commands
 use Rattle.debug_text.specs.declared.command.CommandFault.{CommandFault}
 use Rattle.debug_text.specs.declared.command.CommandFault.TheVariants.{UnknownCommand, NoSuchMachine}
 use Rattle.debug_text.specs.declared.verb.Verb.{Verb}
-use Rattle.debug_text.specs.declared.verb.Verb.TheVariants.{Step, Back, Go, ReverseGo, Goto, Break, Clear, Show, ListRow, TotalsOf, Where, Help, History, Why, Timers, Lines, Sent, Accounts}
+use Rattle.debug_text.specs.declared.verb.Verb.TheVariants.{Step, Back, Go, ReverseGo, Goto, Break, Clear, Show, ListRow, TotalsOf, Where, Help, History, Why, Queues, Timers, Lines, Sent, Accounts}
 
 -- a command without words behind it
 abbrev pub alone : Command → List Word → Result Command CommandFault
@@ -33,6 +33,7 @@ command_by tables Where words = alone commands.Where words
 command_by tables Help words = alone commands.Help words
 command_by tables History words = read_as (λ key. commands.History key) (one_key NoSuchMachine words)
 command_by tables Why words = read_as (λ key. commands.Why key) (one_key NoSuchMachine words)
+command_by tables Queues words = alone commands.Queues words
 command_by tables Timers words = alone commands.Timers words
 command_by tables Lines words = alone commands.Lines words
 command_by tables Sent words = read_as (λ line. commands.Sent line) (one_number words)

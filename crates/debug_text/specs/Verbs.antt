@@ -2,7 +2,7 @@
 use Rattle.std.specs.Prelude.{ℕ, List, Option, Some, None, codes, if◌then◌else◌}
 use Rattle.std.specs.Str.{bytes_eq}
 use Rattle.debug_text.specs.declared.verb.Verb.{Verb}
-use Rattle.debug_text.specs.declared.verb.Verb.TheVariants.{Step, Back, Go, ReverseGo, Goto, Break, Clear, Show, ListRow, TotalsOf, Where, Help, History, Why, Timers, Lines, Sent, Accounts}
+use Rattle.debug_text.specs.declared.verb.Verb.TheVariants.{Step, Back, Go, ReverseGo, Goto, Break, Clear, Show, ListRow, TotalsOf, Where, Help, History, Why, Queues, Timers, Lines, Sent, Accounts}
 
 abbrev pub name_of : Verb → List ℕ
 name_of Step = codes "step"
@@ -19,6 +19,7 @@ name_of Where = codes "where"
 name_of Help = codes "help"
 name_of History = codes "history"
 name_of Why = codes "why"
+name_of Queues = codes "queues"
 name_of Timers = codes "timers"
 name_of Lines = codes "lines"
 name_of Sent = codes "sent"
@@ -41,6 +42,7 @@ verb_of word =
     else if bytes_eq word (codes "help") then Some Help
     else if bytes_eq word (codes "history") then Some History
     else if bytes_eq word (codes "why") then Some Why
+    else if bytes_eq word (codes "queues") then Some Queues
     else if bytes_eq word (codes "timers") then Some Timers
     else if bytes_eq word (codes "lines") then Some Lines
     else if bytes_eq word (codes "sent") then Some Sent

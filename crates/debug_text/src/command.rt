@@ -60,13 +60,15 @@ pub enum Command {
     History(Key),
     /// `why KEY`: its last move, and how it came about.
     Why(Key),
-    /// `timers`
+    /// `queues`: what waits in each outbox, hand and inbox.
+    Queues,
+    /// `timers`: which are armed.
     Timers,
-    /// `lines`
+    /// `lines`: where each connection stands, and how much it sent.
     Lines,
     /// `sent L`: what a connection has sent.
     Sent(u64),
-    /// `accounts`
+    /// `accounts`: what stands on each.
     Accounts,
 }
 

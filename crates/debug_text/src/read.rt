@@ -61,6 +61,7 @@ fn command_by(
             let key = one_key(alloc, CommandFault::NoSuchMachine, words)?;
             Ok(Command::Why(key))
         }
+        Verb::Queues => alone(words, Command::Queues),
         Verb::Timers => alone(words, Command::Timers),
         Verb::Lines => alone(words, Command::Lines),
         Verb::Sent => Ok(Command::Sent(one_number(words)?)),

@@ -21,6 +21,7 @@ pub(crate) enum Verb {
     Help,
     History,
     Why,
+    Queues,
     Timers,
     Lines,
     Sent,
@@ -28,7 +29,7 @@ pub(crate) enum Verb {
 }
 
 /// All of them.
-const VERBS: [Verb; 18] = [
+const VERBS: [Verb; 19] = [
     Verb::Step,
     Verb::Back,
     Verb::Go,
@@ -43,6 +44,7 @@ const VERBS: [Verb; 18] = [
     Verb::Help,
     Verb::History,
     Verb::Why,
+    Verb::Queues,
     Verb::Timers,
     Verb::Lines,
     Verb::Sent,
@@ -69,6 +71,7 @@ impl Verb {
             Verb::Help => b"help",
             Verb::History => b"history",
             Verb::Why => b"why",
+            Verb::Queues => b"queues",
             Verb::Timers => b"timers",
             Verb::Lines => b"lines",
             Verb::Sent => b"sent",

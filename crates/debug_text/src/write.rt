@@ -38,6 +38,7 @@ why KEY                   its last move: event, row, guards
 list ROLE R               row R of a table
 totals ACCOUNT            what stands on an account
 accounts                  what stands on each
+queues                    what waits in each outbox, hand and inbox
 timers                    which timers are armed
 lines                     where each connection stands
 sent L                    what connection L has sent

@@ -547,3 +547,171 @@ fn thirty_two_breakpoints_are_set_at_a_time(rt: HostRuntime) -> Result<(), Fail>
     assert!(rt; printed(rt.alloc(), &session)?.as_slice() == MANY_ANSWERS.as_bytes());
     Ok(())
 }
+
+/// What is told of a session that has moved, and of one that has not.
+const TOLD_COMMANDS: &str = "\
+lines
+go
+history s:c1;1
+why s:c1;1
+lines
+history s:c1;2
+why s:c1;2
+why c:c1;1
+sent 1
+sent 0
+sent 2
+sent x
+sent";
+
+/// What that is answered.
+const TOLD_ANSWERS: &str = "\
+end at 15
+15 work 0
+  s:c1;1 Initial Idle Open row 3
+    Reserve 60 = 60 0
+    To-Peer 0 1 7 7 2 1 1 0 0 0 3 0 2001 60
+    Arm 1 600
+15 work 0
+  s:c1;1 Initial Idle Open row 3
+    Reserve 60 = 60 0
+    To-Peer 0 1 7 7 2 1 1 0 0 0 3 0 2001 60
+    Arm 1 600
+event Initial 1=1 2=7 3=7 4=1 5=1 6=1 7=100 9=60 10=3 12=2001 13=60
+  Idle   Initial when enough                     Open-Account, Reserve, Snd-CCA, Start-Tcc                                          Open
+  row 0: repeat no
+  row 1: old no
+  row 2: grouped no enough yes
+  row 3: enough yes
+line 1 open sent 124
+fault 3
+fault 3
+fault 3
+message 1 at octet 0: CEA Capabilities-Exchange-Answer ----, version 1, length 124, command 257, application 0, hop-by-hop 1, end-to-end 1
+  20: 268 Result-Code -M- 12 2001 DIAMETER_SUCCESS
+  32: 264 Origin-Host -M- 17 \"s.example\"
+  52: 296 Origin-Realm -M- 15 \"example\"
+  68: 257 Host-IP-Address -M- 14 192.0.2.1
+  84: 266 Vendor-Id -M- 12 0
+  96: 269 Product-Name --- 14 \"dbench\"
+  112: 258 Auth-Application-Id -M- 12 4
+fault 2
+fault 2
+fault 2
+fault 1
+";
+
+#[test]
+fn moves_are_told(rt: HostRuntime) -> Result<(), Fail> {
+    let session = Session {
+        shards: 1,
+        joined: false,
+        script: SCRIPT,
+        commands: TOLD_COMMANDS,
+        sent: 0,
+    };
+    assert!(rt; printed(rt.alloc(), &session)?.as_slice() == TOLD_ANSWERS.as_bytes());
+    Ok(())
+}
+
+/// What waits on the way of a request.
+const QUEUED_COMMANDS: &str = "\
+queues
+goto 3
+queues
+goto 4
+queues
+goto 11
+queues
+history p:c.example
+go
+queues
+queues 1";
+
+/// What that is answered.
+const QUEUED_ANSWERS: &str = "\
+at 3
+line 1 outbox p:c.example R-Rcv-Message 1=1 2=7 3=7 4=1 5=1 6=1 7=100 9=60 10=3
+line 1 hand p:c.example R-Conn-CER 1=1 2=1 3=1 5=1
+at 4
+line 1 outbox p:c.example R-Rcv-Message 1=1 2=7 3=7 4=1 5=1 6=1 7=100 9=60 10=3
+shard 0 inbox p:c.example R-Conn-CER 1=1 2=1 3=1 5=1
+at 11
+shard 0 outbox s:c1;1 Initial 1=1 2=7 3=7 4=1 5=1 6=1 7=100 9=60 10=3
+shard 0 hand p:c.example Disarm
+5 work 0
+  p:c.example R-Conn-CER Closed R-Open row 1
+    Snd-CEA 0 1 1 1 2001
+    Disarm
+8 work 0
+  p:c.example R-Rcv-Message R-Open R-Open row 23
+    To-Session 0 1 7 7 1 1 1 100 0 60 3
+end at 15
+shard 0 outbox p:c.example Send-Message 1=1 2=7 3=7 4=2 5=1 6=1 10=3 12=2001 13=60
+shard 0 outbox s:c1;1 Arm 1 600
+fault 1
+";
+
+#[test]
+fn what_waits_is_shown(rt: HostRuntime) -> Result<(), Fail> {
+    let session = Session {
+        shards: 1,
+        joined: false,
+        script: SCRIPT,
+        commands: QUEUED_COMMANDS,
+        sent: 0,
+    };
+    assert!(rt; printed(rt.alloc(), &session)?.as_slice() == QUEUED_ANSWERS.as_bytes());
+    Ok(())
+}
+
+/// A request for 60 units, and a timer that is armed and fires (RFC 8506 section 13).
+const TIMED: &str = "\
+told 0 c:x;2 Begin 7=100 9=60 10=3
+lift desk 0
+drop desk 0
+work 0
+lift shard 0
+drop shard 0
+lift shard 0
+drop shard 0
+fired c:x;2 1
+";
+
+/// What that is answered.
+const TIMED_ANSWERS: &str = "\
+at 1
+desk 0 outbox c:x;2 Begin 7=100 9=60 10=3
+at 4
+shard 0 outbox p:c.example Send-Message 2=1 4=1 5=1 6=1 7=100 9=60 10=3
+shard 0 outbox c:x;2 Arm 1 10
+at 8
+timer c:x;2 1
+shard 0 inbox p:c.example Send-Message 2=1 4=1 5=1 6=1 7=100 9=60 10=3
+end at 9
+shard 0 inbox p:c.example Send-Message 2=1 4=1 5=1 6=1 7=100 9=60 10=3
+clock outbox c:x;2 Tx
+";
+
+#[test]
+fn timers_are_shown(rt: HostRuntime) -> Result<(), Fail> {
+    let session = Session {
+        shards: 1,
+        joined: false,
+        script: TIMED,
+        commands: "goto 1
+queues
+goto 4
+queues
+timers
+goto 8
+timers
+queues
+go
+timers
+queues",
+        sent: 0,
+    };
+    assert!(rt; printed(rt.alloc(), &session)?.as_slice() == TIMED_ANSWERS.as_bytes());
+    Ok(())
+}

@@ -1,0 +1,4 @@
+pub mod Lines
+pub mod Dialogs
+pub mod Poured
+pub mod Told

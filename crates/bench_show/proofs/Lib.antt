@@ -1,0 +1,7 @@
+pub mod PlaceLemmas
+pub mod CountLemmas
+pub mod HistoryLemmas
+pub mod WhyLemmas
+pub mod LineLemmas
+pub mod TimerLemmas
+pub mod QueueLemmas

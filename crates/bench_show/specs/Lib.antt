@@ -1,0 +1,5 @@
+pub mod History
+pub mod Why
+pub mod Lines
+pub mod Timers
+pub mod Queues

@@ -1,0 +1,115 @@
+//! The moves of a machine.
+ghost use Rattle.std.specs.Prelude.{◌≡◌, ◌++◌, ◌+◌, ◌<◌, IfOk, MatchOption, OnOk, Some, is_some, length, option_copied, slice_get};
+ghost use Rattle.bench_item.specs.declared.entry.Entry.{Entry as LogEntry};
+ghost use Rattle.bench_script.specs.Printed.{taken_text};
+ghost use Rattle.bench_show.specs.History.{LastMove, MovesNone, history_text, move_in, moves, numbered_text, told_of};
+
+use crate::key::is_same_key;
+use base_text::put_number;
+use bench_core::Core;
+use bench_item::{Entry, Handled, Item, Key, Moved};
+use bench_script::put_taken;
+use std::alloc::{AllocError, Global};
+
+/// The move of a machine in an entry, if it moved there.
+pub(crate) fn move_in<'a>(key: &Key, entry: &'a Entry) -> Option<&'a Moved>
+    ensures { option_copied result ≡ move_in key.now entry.now }
+{
+    match (&entry.item, &entry.handled) {
+        (Some(Item::ToMachine(item)), Some(Handled::Move(moved))) => {
+            if is_same_key(key, &item.key) {
+                Some(moved)
+            } else {
+                None
+            }
+        }
+        _ => None,
+    }
+}
+
+/// Whether a machine moved in an entry.
+fn moves(key: &Key, entry: &Entry) -> bool
+    ensures { result ≡ moves key.now entry.now }
+{
+    match (&entry.item, &entry.handled) {
+        (Some(Item::ToMachine(item)), Some(Handled::Move(_))) => {
+            if is_same_key(key, &item.key) {
+                true
+            } else {
+                false
+            }
+        }
+        _ => false,
+    }
+}
+
+/// Puts an entry behind its number.
+pub(crate) fn put_numbered(
+    alloc: Global,
+    out: &mut Vec<u8>,
+    core: &Core,
+    number: u64,
+    entry: &Entry,
+) -> Result<(), AllocError>
+    ensures { OnOk result (out.new.items ≡ out.old.items ++ numbered_text core.now (number, entry.now)) }
+{
+    put_number(out, b"", number)?;
+    out.extend_from_slice(b" ")?;
+    put_taken(alloc, core, entry, out)
+}
+
+/// Puts the entry at a place behind a number, where it moves a machine.
+fn put_move(
+    alloc: Global,
+    out: &mut Vec<u8>,
+    core: &Core,
+    key: &Key,
+    place: usize,
+    number: u64,
+) -> Result<(), AllocError>
+    ensures { OnOk result ((entry : LogEntry) → slice_get core.now.log place ≡ Some entry
+        → out.new.items ≡ out.old.items ++ told_of core.now key.now (number, entry)) }
+{
+    let Some(entry) = core.log().entry(place, alloc)? else {
+        return Ok(());
+    };
+    if moves(key, &entry) {
+        put_numbered(alloc, out, core, number, &entry)
+    } else {
+        Ok(())
+    }
+}
+
+/// Puts each entry that moved a machine behind what `out` holds: its number, from 1, and its text.
+pub fn put_history(
+    alloc: Global,
+    out: &mut Vec<u8>,
+    core: &Core,
+    key: &Key,
+) -> Result<(), AllocError>
+    ensures { OnOk result (out.new.items ≡ out.old.items ++ history_text core.now key.now) }
+{
+    let count = core.log().len();
+    'entries: for place in 0..count {
+        put_move(alloc, out, core, key, place, place as u64 + 1)?;
+    }
+    Ok(())
+}
+
+/// The entry of a machine's last move, with its number; none where it has not moved.
+pub fn last_move(alloc: Global, core: &Core, key: &Key) -> Result<Option<(u64, Entry)>, AllocError>
+    ensures { IfOk result (λ last. MatchOption last (MovesNone key.now core.now.log)
+        (λ at. LastMove key.now core.now.log at.0 at.1)) }
+{
+    let mut place = core.log().len();
+    'entries: while place > 0 {
+        let Some(entry) = core.log().entry(place - 1, alloc)? else {
+            unreachable!();
+        };
+        if moves(key, &entry) {
+            return Ok(Some((place as u64, entry)));
+        }
+        place -= 1;
+    }
+    Ok(None)
+}
