@@ -5,7 +5,8 @@ use Rattle.bench_item.specs.declared.line_state.LineState.TheVariants.{Closed, D
 use Rattle.bench_item.specs.declared.step.Step.{Step}
 use Rattle.bench_spec.specs.Taken.{Run, TakesAll}
 
--- steps were taken, one after the other: the log has their entries behind those that it had, and each may follow those before it
+-- steps were taken, one after the other: the log has their entries behind those that it had, and each may follow
+-- those before it
 pub record Goes (old new : Run) : Type 0 where
   pub steps : List Step
   pub taken : TakesAll old new steps

@@ -32,7 +32,8 @@ pub record WentOn (old : Run) (desk : Desk) (new : Run) (desk' : Desk) : Type 0 
   pub tried : IsTried old new step true
   pub behind : desk' ≡ gone_on desk
 
--- a desk stayed where it is: the log is nearly full, it tells no more, its text's time has not come, or there is no room
+-- a desk stayed where it is: the log is nearly full, it tells no more, its text's time has not come, or there is no
+-- room
 pub record Stayed (old : Run) (desk : Desk) (new : Run) (desk' : Desk) : Type 0 where
   pub kept : new ≡ old
   pub stayed : (desk' ≡ desk) ⊎ LooksInVain old desk desk'

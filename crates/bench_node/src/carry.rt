@@ -64,7 +64,8 @@ impl LiveNode {
         Ok(())
     }
 
-    // Drops what arms a timer: it is due so many ticks from the last moment on. Where memory lacks for the step it fires in vain.
+    // Drops what arms a timer: it is due so many ticks from the last moment on. Where memory lacks for the step it
+    // fires in vain.
     fn drop_arm(
         &mut self,
         registries: &[Registry],

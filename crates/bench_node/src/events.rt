@@ -133,7 +133,8 @@ impl LiveNode {
         matches!(self.core.line(line), None | Some(LineState::Closed))
     }
 
-    /// Copies what a connection sent from a place on, as much as there is and fits, to the front of `buffer`, and says how much that is.
+    /// Copies what a connection sent from a place on, as much as there is and fits, to the front of `buffer`, and
+    /// says how much that is.
     pub fn unsent(&self, line: u32, from: usize, buffer: &mut [u8]) -> usize
         ensures count { result ≡ min (length (drop from ((shown self.now).sent_of line))) (length buffer.new) }
         ensures front { take result buffer.new ≡ take result (drop from ((shown self.now).sent_of line)) }

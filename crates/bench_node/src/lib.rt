@@ -1,5 +1,5 @@
-//! A node of a live bench: a bench whose connections are sockets, whose clock is real, and whose desks tell their texts. No handle is
-//! taken here: octets, moments and turns are handed in.
+//! A node of a live bench: a bench whose connections are sockets, whose clock is real, and whose desks tell their
+//! texts. No handle is taken here: octets, moments and turns are handed in.
 //!
 //! | File | What it has |
 //! |---|---|

@@ -13,7 +13,8 @@ use bench_spec::OpeningError;
 use std::alloc::Global;
 use tab_call::Registry;
 
-/// A bench with a registry for each shard, each of which answers by the laws of all roles: as `Core::new`, and its laws are those.
+/// A bench with a registry for each shard, each of which answers by the laws of all roles: as `Core::new`, and its
+/// laws are those.
 pub fn open_bench(
     alloc: Global,
     config: Config,

@@ -120,8 +120,8 @@ impl LiveNode {
         Ok(self.core.place() != before)
     }
 
-    /// Carries and handles all that waits, until nothing moves: what a full inbox or a full log holds back stays where it is. Says whether
-    /// something was. Want of memory ends it; what was done until then stays.
+    /// Carries and handles all that waits, until nothing moves: what a full inbox or a full log holds back stays
+    /// where it is. Says whether something was. Want of memory ends it; what was done until then stays.
     pub fn settle(&mut self, registries: &[Registry]) -> Result<bool, AllocError>
         requires laws { Each (λ r. r.book ≡ all_laws) registries.now }
         requires count { length registries.now ≡ self.old.settings.node.shards }

@@ -24,7 +24,8 @@ impl LiveNode {
         self.core.place() > MAX_ENTRIES - KEPT_FREE
     }
 
-    // Tells what is due: one that there is no room for is not told yet, one that can't be told is passed over. Says whether the desk goes on.
+    // Tells what is due: one that there is no room for is not told yet, one that can't be told is passed over. Says
+    // whether the desk goes on.
     fn tell_due(&mut self, registries: &[Registry], step: Step) -> Result<bool, AllocError>
         requires laws { Each (λ r. r.book ≡ all_laws) registries.now }
         requires count { length registries.now ≡ self.old.settings.node.shards }
@@ -41,8 +42,8 @@ impl LiveNode {
         }
     }
 
-    /// A desk tells its next text, where its time has come: one that there is no room for stays the next, one that can't be told is passed over.
-    /// None is told where the log is nearly full. Says whether the desk went on.
+    /// A desk tells its next text, where its time has come: one that there is no room for stays the next, one that
+    /// can't be told is passed over. None is told where the log is nearly full. Says whether the desk went on.
     pub fn tell(&mut self, registries: &[Registry], desk: &mut Desk) -> Result<bool, AllocError>
         requires laws { Each (λ r. r.book ≡ all_laws) registries.now }
         requires count { length registries.now ≡ self.old.settings.node.shards }

@@ -31,7 +31,8 @@ impl LiveNode {
         }
     }
 
-    /// Takes the clock to a moment, in ticks since the node was opened: the timers that are due fire. Says whether one did.
+    /// Takes the clock to a moment, in ticks since the node was opened: the timers that are due fire. Says whether
+    /// one did.
     pub fn advance(&mut self, registries: &[Registry], moment: u64) -> Result<bool, AllocError>
         requires laws { Each (λ r. r.book ≡ all_laws) registries.now }
         requires count { length registries.now ≡ self.old.settings.node.shards }
