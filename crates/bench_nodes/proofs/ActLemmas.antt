@@ -1,5 +1,5 @@
 -- What is done at one of several nodes leaves what they were opened with.
-use Rattle.std.proofs.Common.{◌≡◌, ◌<◌, ◌≤◌, ◌+◌, ◌∷◌, ◌∙◌, ℕ, List, [], Option, Some, None, arith, ap, refl, subst, suc, sym, zero, true, length}
+use Rattle.std.proofs.Common.{◌≡◌, ◌<◌, ◌≤◌, ◌∷◌, ◌∙◌, ℕ, List, [], Some, arith, ap, refl, subst, suc, sym, zero, true, length}
 use Rattle.std.specs.Prelude.{is_some, map, replicate, slice_get, slice_set, take}
 use Rattle.std.specs.List.{AllByRecursion as Each}
 use Rattle.std.proofs.lemmas.List.{length-map, take-map}

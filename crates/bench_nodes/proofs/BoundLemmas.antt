@@ -1,12 +1,12 @@
 -- How many entries the logs of nodes have room for, and that what is done takes of it.
-use Rattle.std.proofs.Common.{◌≡◌, ◌<◌, ◌≤◌, ◌+◌, ◌-◌, ◌∷◌, ◌∙◌, ℕ, List, [], Option, Some, None, arith, ap, refl, subst, suc, sym, zero, length}
+use Rattle.std.proofs.Common.{◌≡◌, ◌<◌, ◌≤◌, ◌+◌, ◌-◌, ◌∷◌, ◌∙◌, ℕ, List, [], Some, arith, ap, suc, zero, length}
 use Rattle.std.specs.Prelude.{slice_get, slice_set}
 use Rattle.std.specs.List.{AllByRecursion as Each}
 use Rattle.bench_item.specs.declared.limit.TheConstants.{MAX_ENTRIES}
 use Rattle.bench_script.specs.Ran.{Settling, begun, further}
 use Rattle.bench_script.proofs.LogLemmas.{grown_by_one}
 use Rattle.bench_spec.specs.Taken.{Run}
-use Rattle.bench_nodes.specs.Settled.{Crosses, EachSettled, Net, SettledTo, none, one_more}
+use Rattle.bench_nodes.specs.Settled.{Crosses, Net, SettledTo, none, one_more}
 use Rattle.bench_nodes.specs.declared.node.Crossing.{Crossing}
 use Rattle.bench_nodes.specs.declared.node.Node.{Node}
 use Rattle.bench_nodes.proofs.ActLemmas.{at_index, get-set_same}

@@ -1,5 +1,5 @@
 -- What crosses next can be taken by the node that it is for.
-use Rattle.std.proofs.Common.{◌≡◌, ◌<◌, ◌∷◌, ◌∙◌, ℕ, Bool, true, false, List, [], Option, Some, None, arith, ap, inl, inr, length, refl, subst, sym}
+use Rattle.std.proofs.Common.{◌≡◌, ◌<◌, ◌∷◌, ◌∙◌, ℕ, Bool, true, false, List, [], Option, Some, None, ap, inl, inr, length, refl, subst, sym}
 use Rattle.std.specs.Prelude.{cond, drop, is_none, is_some, slice_get, take}
 use Rattle.std.specs.List.{range_with_len}
 use Rattle.std.specs.Option.{option_and_then, option_map_or, option_or}
@@ -8,13 +8,13 @@ use Rattle.bench_item.specs.declared.line_state.LineState.TheVariants as states
 use Rattle.bench_item.specs.declared.step.Step.{Step}
 use Rattle.bench_item.specs.declared.step.Step.TheVariants.{Dialled}
 use Rattle.bench_item.specs.declared.step.StepFault.{StepFault}
-use Rattle.bench_script.specs.Ran.{Does, RefusesTold, TakesTold, Tries}
+use Rattle.bench_script.specs.Ran.{Does, TakesTold, Tries}
 use Rattle.bench_spec.specs.Refusal.{refusal}
 use Rattle.bench_spec.specs.Taken.{Run}
 use Rattle.script_text.specs.declared.asked.Asked.TheVariants as asked
 use Rattle.script_text.specs.declared.run_line.RunLine.TheVariants as runs
 use Rattle.bench_nodes.specs.Acts.{ActsAt}
-use Rattle.bench_nodes.specs.Crossings.{accepts, carried, carried_some, carries, dialled_by, ends, fails, first_in, if_free, is_caller, is_free, is_over, lines_of, next_crossing, of_dial, of_line, of_node, of_nodes, of_state, opens, over_link, over_links, over_place, sent_by, stands_at}
+use Rattle.bench_nodes.specs.Crossings.{accepts, carried, carried_some, carries, dialled_by, ends, first_in, if_free, is_caller, is_free, is_over, lines_of, next_crossing, of_line, of_node, of_nodes, of_state, opens, over_link, over_links, over_place, sent_by, stands_at}
 use Rattle.bench_nodes.specs.Ends.{count_of, from_end}
 use Rattle.bench_nodes.specs.declared.node.Crossing.{Crossing}
 use Rattle.bench_nodes.specs.declared.node.End.{End}

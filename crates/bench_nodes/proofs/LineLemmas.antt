@@ -1,5 +1,5 @@
 -- A script of one line does what the line asks for.
-use Rattle.std.proofs.Common.{◌≡◌, ◌++◌, ◌∷◌, List, [], ℕ, ap, refl, subst, sym}
+use Rattle.std.proofs.Common.{◌≡◌, ◌++◌, ◌∷◌, List, [], ℕ, refl, subst, sym}
 use Rattle.bench_script.specs.Ran.{Does, Ran, nothing, one_more}
 use Rattle.bench_spec.specs.Taken.{Run}
 use Rattle.script_text.specs.declared.run_line.RunLine.{RunLine}

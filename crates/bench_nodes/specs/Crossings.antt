@@ -29,7 +29,8 @@ first_in f (x ∷ xs) = option_or (f x) (first_in f xs)
 -- whether a node can take a step
 unfoldable pub is_free : List Node → ℕ → Step → Bool
 is_free nodes at step =
-    option_map_or (λ node. is_none (refusal node.core.settings node.core.log node.core.paused step)) (slice_get nodes at) false
+    option_map_or (λ node. is_none (refusal node.core.settings node.core.log node.core.paused step))
+    (slice_get nodes at) false
 
 -- what crosses, where it can be taken
 abbrev pub if_free : List Node → Crossing → Option Crossing
@@ -103,7 +104,8 @@ listener_of nodes host = position (λ node. node.listens && is_same_host node.ho
 -- the node that the machine of a peer dials
 unfoldable pub dialled_by : List Node → ℕ → ℕ → Option ℕ
 dialled_by nodes at peer =
-    option_and_then (λ key. listener_of nodes key.name) (option_and_then (λ node. machine_at node.core peer) (slice_get nodes at))
+    option_and_then (λ key. listener_of nodes key.name)
+    (option_and_then (λ node. machine_at node.core peer) (slice_get nodes at))
 
 -- how many lines a node has
 unfoldable pub lines_of : List Node → ℕ → ℕ

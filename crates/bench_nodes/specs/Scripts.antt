@@ -32,7 +32,8 @@ own_line laws text = if_good (first_bad_run laws text) (run_script_of laws text)
 -- what is asked of the node of a place
 abbrev pub asked_at : List Node → ℕ → List ℕ → Option NodeLine
 asked_at nodes at text =
-    option_map (of.At at) (option_and_then (λ (node : Node). own_line node.core.settings.node.laws text) (slice_get nodes at))
+    option_map (of.At at)
+    (option_and_then (λ (node : Node). own_line node.core.settings.node.laws text) (slice_get nodes at))
 
 -- what words ask for: `settle` alone of all nodes, and what stands behind a host of the node of that host
 abbrev pub asked_by : List Node → (line : List ℕ) → List Word → Option NodeLine
@@ -77,7 +78,9 @@ pub data DoesLines (cut : ℕ) (old : Net) : List NodeLine → Net → Type 0 wh
       → DoesLines cut old lines mid → DoesLine cut mid line new → DoesLines cut old (lines ++ line ∷ []) new
 
 -- they were, from where no nodes are connected; which connections there are behind them
-pub record RunsLines (cut : ℕ) (nodes : List Node) (out : List ℕ) (lines : List NodeLine) (nodes' : List Node) (out' : List ℕ) : Type 0 where
+pub record RunsLines
+    (cut : ℕ) (nodes : List Node) (out : List ℕ) (lines : List NodeLine)
+    (nodes' : List Node) (out' : List ℕ) : Type 0 where
   pub behind : Net
   pub does : DoesLines cut (record { nodes = nodes; links = []; out = out }) lines behind
   pub nodes_are : behind.nodes ≡ nodes'

@@ -32,7 +32,8 @@ EachSettled old new = SettledTo old (length old.nodes) new
 
 -- a node took the step that something which crosses is for it
 pub record Crosses (old new : Net) (crossing : Crossing) : Type 0 where
-  pub acts : ActsAt (λ run run' text. TakesTold run crossing.step run' text) crossing.node old.nodes old.out new.nodes new.out
+  pub acts :
+      ActsAt (λ run run' text. TakesTold run crossing.step run' text) crossing.node old.nodes old.out new.nodes new.out
   pub linked : new.links ≡ links_after old.links crossing.linked
 
 -- rounds: all nodes settled, and then, each time, the next that crosses did, and all nodes settled again

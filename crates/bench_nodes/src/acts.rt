@@ -28,7 +28,8 @@ fn text_of(
     room: &mut Stepped,
     line: RunLine,
 ) -> Result<Vec<u8>, AllocError>
-    requires by { take core.old.settings.node.shards (map (λ r. r.book) registries.now) ≡ replicate core.old.settings.node.shards core.old.settings.node.laws }
+    requires by { take core.old.settings.node.shards (map (λ r. r.book) registries.now)
+        ≡ replicate core.old.settings.node.shards core.old.settings.node.laws }
     requires enough { core.old.settings.node.shards ≤ length registries.now }
     ensures { IfOk result (λ text. Does core.old line core.new text.items) }
 {
@@ -50,9 +51,11 @@ fn do_here(
     line: RunLine,
     out: &mut Vec<u8>,
 ) -> Result<(), AllocError>
-    requires by { take node.old.core.settings.node.shards (map (λ r. r.book) registries.now) ≡ replicate node.old.core.settings.node.shards node.old.core.settings.node.laws }
+    requires by { take node.old.core.settings.node.shards (map (λ r. r.book) registries.now)
+        ≡ replicate node.old.core.settings.node.shards node.old.core.settings.node.laws }
     requires enough { node.old.core.settings.node.shards ≤ length registries.now }
-    ensures { OnOk result (ActsHere (λ run run' text. Does run line run' text) node.old out.old.items node.new out.new.items) }
+    ensures { OnOk result (ActsHere (λ run run' text. Does run line run' text)
+        node.old out.old.items node.new out.new.items) }
 {
     let word = word_of(alloc, node.host.as_slice())?;
     let text = text_of(alloc, &mut node.core, registries, room, line)?;
@@ -71,7 +74,8 @@ pub(crate) fn do_at(
 ) -> Result<(), AllocError>
     requires at { at < length nodes.old }
     requires books { AreBooksOf (map (λ r. r.book) registries.now) (settings_of nodes.old) }
-    ensures { OnOk result (ActsAt (λ run run' text. Does run line run' text) at nodes.old out.old.items nodes.new out.new.items) }
+    ensures { OnOk result (ActsAt (λ run run' text. Does run line run' text) at
+        nodes.old out.old.items nodes.new out.new.items) }
 {
     do_here(alloc, &mut nodes[at], registries, room, line, out)?;
     Ok(())

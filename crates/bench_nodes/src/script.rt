@@ -141,7 +141,8 @@ fn do_line(
     out: &mut Vec<u8>,
 ) -> Result<(), AllocError>
     requires { AreBooksOf (map (λ r. r.book) registries.now) (settings_of nodes.old) }
-    ensures { OnOk result (DoesLine cut (net nodes.old links.old.items out.old.items) line (net nodes.new links.new.items out.new.items)) }
+    ensures { OnOk result (DoesLine cut (net nodes.old links.old.items out.old.items) line
+        (net nodes.new links.new.items out.new.items)) }
 {
     match line {
         NodeLine::At(at, own) => {

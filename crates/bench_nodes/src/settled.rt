@@ -25,7 +25,8 @@ fn settle_each(
     out: &mut Vec<u8>,
 ) -> Result<(), AllocError>
     requires { AreBooksOf (map (λ r. r.book) registries.now) (settings_of nodes.old) }
-    ensures { OnOk result ((links : List Link) → EachSettled (net nodes.old links out.old.items) (net nodes.new links out.new.items)) }
+    ensures { OnOk result ((links : List Link)
+        → EachSettled (net nodes.old links out.old.items) (net nodes.new links out.new.items)) }
 {
     'nodes: for at in 0..nodes.len() {
         do_at(alloc, nodes, at, registries, room, RunLine::Settle, out)?;
@@ -78,7 +79,8 @@ fn cross(
 ) -> Result<(), AllocError>
     requires books { AreBooksOf (map (λ r. r.book) registries.now) (settings_of nodes.old) }
     requires next { next_crossing cut nodes.old links.old.items ≡ Some crossing }
-    ensures { OnOk result (Crosses (net nodes.old links.old.items out.old.items) (net nodes.new links.new.items out.new.items) crossing) }
+    ensures { OnOk result (Crosses (net nodes.old links.old.items out.old.items)
+        (net nodes.new links.new.items out.new.items) crossing) }
 {
     let Crossing { node, step, linked } = crossing;
     let line = RunLine::Asked(Asked::Step(step));
@@ -107,7 +109,8 @@ pub(crate) fn settle_all(
     out: &mut Vec<u8>,
 ) -> Result<(), AllocError>
     requires { AreBooksOf (map (λ r. r.book) registries.now) (settings_of nodes.old) }
-    ensures { OnOk result (AllSettle cut (net nodes.old links.old.items out.old.items) (net nodes.new links.new.items out.new.items)) }
+    ensures { OnOk result (AllSettle cut (net nodes.old links.old.items out.old.items)
+        (net nodes.new links.new.items out.new.items)) }
 {
     settle_each(alloc, nodes, registries, room, out)?;
     'rounds: while let Some(crossing) = next_crossing(alloc, cut, nodes, links)? {

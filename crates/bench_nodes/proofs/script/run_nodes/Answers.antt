@@ -1,4 +1,4 @@
-use Rattle.std.proofs.Common.{◌≡◌, ◌++◌, ◌∷◌, [], ◌∙◌, List, ap, append_assoc, refl, subst, sym}
+use Rattle.std.proofs.Common.{◌++◌, ◌∷◌, [], ◌∙◌, List, ap, append_assoc, refl, subst, sym}
 use Rattle.bench_nodes.specs.Scripts.{DoesLines, nothing, one_more}
 use Rattle.bench_nodes.specs.Settled.{net}
 use Rattle.bench_nodes.specs.declared.node.Link.{Link}

@@ -1,5 +1,3 @@
-use Rattle.std.proofs.Common.{◌≡◌, true}
-use Rattle.bench_nodes.specs.Crossings.{is_free}
 use Rattle.bench_nodes.proofs.FreeLemmas.{free_within, next_free, took}
 use Rattle.bench_nodes.proofs.settled.cross.Goals as goal
 

@@ -1,4 +1,4 @@
-use Rattle.std.proofs.Common.{◌≡◌, length}
+use Rattle.std.proofs.Common.{◌≡◌}
 use Rattle.bench_nodes.specs.Acts.{settings_of}
 use Rattle.bench_nodes.specs.Settled.{SettledTo, net}
 use Rattle.bench_nodes.specs.declared.node.Link.{Link}
