@@ -63,3 +63,8 @@ refused_of config script error text for told =
     λ o. option_or (option_and_then (opening_text (laws_of config)) o) (option_map bad_text (first_bad (laws_of config) script))
     in let first : Option (List ℕ) → Option (List ℕ) = λ o. option_or o (option_map bad_text (first_bad (laws_of config) script)) in
     ap whole (reason_of config error text for told) ∙ ap first told
+
+-- a debugger that is there
+pub ready_of : (config : Config) (laws : List Laws) (script : List ℕ) (made : Opened) (debugger : Debugger) → made ≡ Ready debugger
+    → IsOpenedBy config laws script made → IsOpenedBy config laws script (Ready debugger)
+ready_of config laws script made debugger is by = subst (λ (o : Opened). IsOpenedBy config laws script o) is by

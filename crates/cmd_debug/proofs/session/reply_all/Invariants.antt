@@ -6,6 +6,6 @@ use Rattle.cmd_debug.proofs.session.reply_all.Given as goal
 
 -- the commands of the lines so far were done, and this is printed of them
 abbrev pub invariant-lines : goal.invariant-lines
-invariant-lines l =
+invariant-lines g l =
     IsSession (seen l.initial.debugger) (seen l.debugger) (take l.line-index l.lines) l.text.items
     × IsRunBy (seen l.debugger).world (map (λ r. r.book) l.registries)
