@@ -1,5 +1,5 @@
 -- A step that is taken back.
-use Rattle.std.proofs.Common.{◌≡◌, Bool, true, false, ◌≤◌, ◌+◌, ◌-◌, ◌++◌, ◌∷◌, ℕ, List, [], Option, Some, None, refl, sym, ◌∙◌, ap, subst, length, take, get_or, arith}
+use Rattle.std.proofs.Common.{◌≡◌, Bool, true, false, ◌+◌, ◌-◌, ◌++◌, ◌∷◌, ℕ, List, [], Option, Some, None, refl, sym, ◌∙◌, ap, subst, length, take, arith}
 use Rattle.std.specs.Prelude.{is_err, slice_get, slice_index, IsFalse, IsSomeAnd, IsTrue, OnOk, Result, Ok, Err}
 use Rattle.std.proofs.Math.Seq.{get_or-append_seam}
 use Rattle.std.proofs.lemmas.List.{length-append, take_at}

@@ -1,5 +1,5 @@
 -- Steps that a debugger takes one behind the other.
-use Rattle.std.proofs.Common.{◌≡◌, ◌<◌, ◌≤◌, ◌+◌, ◌++◌, ◌∷◌, ℕ, Bool, true, false, cond, suc, List, [], Option, Some, None, refl, sym, ◌∙◌, ap, subst, length, take, drop, filter, ◌-◌, append_assoc, append-nil, below_more, zero, arith}
+use Rattle.std.proofs.Common.{◌≡◌, ◌<◌, ◌≤◌, ◌+◌, ◌++◌, ◌∷◌, ℕ, Bool, true, false, cond, suc, List, [], Option, Some, None, refl, sym, ◌∙◌, ap, subst, length, drop, filter, ◌-◌, append_assoc, append-nil, below_more, zero, arith}
 use Rattle.std.specs.Prelude.{is_some, slice_get, IsSomeAnd}
 use Rattle.std.specs.List.{range_with_len}
 use Rattle.std.proofs.lemmas.List.{drop-append-le, drop_all, length-append, take-append-le, take_all}
@@ -7,9 +7,8 @@ use Rattle.bench_item.specs.declared.entry.Entry.{Entry}
 use Rattle.bench_spec.specs.Taken.{Run, with_log}
 use Rattle.script_text.specs.declared.asked.Asked.{Asked}
 use Rattle.bench_debug.specs.Asking.{TakesAsked}
-use Rattle.bench_debug.specs.Debug.{Debugging, Forward, IsAtEnd, Passed, StepsTo, Stopped, TakesAt, entries_from, place_of, run_at}
+use Rattle.bench_debug.specs.Debug.{Debugging, Forward, Passed, StepsTo, Stopped, TakesAt, entries_from, place_of, run_at}
 use Rattle.bench_debug.specs.Meets.{first_met, stops}
-use Rattle.bench_spec.specs.Settings.{Settings}
 use Rattle.bench_debug.specs.declared.debugger.SetBreakpoint.{SetBreakpoint}
 
 -- what was there at a place is there once more entries came

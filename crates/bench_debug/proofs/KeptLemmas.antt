@@ -1,11 +1,10 @@
 -- A command leaves what the bench was opened with.
 use Rattle.std.proofs.Common.{◌≡◌, ℕ, List, refl, sym, ◌∙◌, ap, inl, inr}
-use Rattle.std.specs.Prelude.{Bool, true, false, MatchBool, ◌⊎◌, map, nat_le, Result, Ok, Err}
+use Rattle.std.specs.Prelude.{Bool, true, false, MatchBool, nat_le, Result, Ok, Err}
 use Rattle.bench_item.specs.declared.entry.Entry.{Entry}
 use Rattle.bench_item.specs.declared.key.Key.{Key}
 use Rattle.bench_script.specs.Ran.{IsRunBy}
 use Rattle.bench_script.proofs.RanLemmas.{run_by_same}
-use Rattle.bench_spec.specs.Settings.{Settings}
 use Rattle.bench_spec.specs.Taken.{Run}
 use Rattle.debug_text.specs.Commands.{command_of}
 use Rattle.debug_text.specs.declared.command.Command.{Command}
@@ -15,7 +14,7 @@ use Rattle.debug_text.specs.declared.command.CommandFault.TheVariants.{AtStart, 
 use Rattle.debug_text.specs.declared.reply.Reply.{Reply}
 use Rattle.debug_text.specs.declared.reply.Reply.TheVariants.{Text, End, At, StoppedAt, EndAt, WasSet, WasCleared, Stands, AreTotals, IsAt, Help}
 use Rattle.tab_law.specs.Books.{Laws}
-use Rattle.bench_debug.specs.Debug.{Answers, Commands, Debugging, Does, DoesRead, GoesBackMet, GoesOn, GoesTo, Goes, Refuses, Replies, Steps, StepsTo, Whys, gone_back, place_of, refused_at}
+use Rattle.bench_debug.specs.Debug.{Answers, Commands, Debugging, Does, DoesRead, GoesBackMet, GoesOn, Goes, Refuses, Replies, Steps, StepsTo, Whys, gone_back, place_of, refused_at}
 use Rattle.bench_debug.specs.Tables.{tables_in}
 use Rattle.bench_debug.proofs.GoingLemmas.{forward_same}
 

@@ -1,5 +1,5 @@
 -- Lists that are taken back from their ends, and what stands at a place.
-use Rattle.std.proofs.Common.{◌≡◌, ◌<◌, ◌≤◌, ◌+◌, ◌-◌, ◌++◌, ◌∷◌, ℕ, Bool, true, false, cond, suc, List, [], Option, Some, None, refl, sym, ◌∙◌, ap, subst, length, take, drop, filter, get_or, arith}
+use Rattle.std.proofs.Common.{◌≡◌, ◌<◌, ◌≤◌, ◌+◌, ◌-◌, ◌++◌, ◌∷◌, ℕ, Bool, true, false, suc, List, [], Option, Some, refl, sym, ◌∙◌, ap, length, take, drop, filter, get_or, arith}
 use Rattle.std.specs.Prelude.{nat_lt, reverse, slice_get, slice_index, unwrap_or}
 use Rattle.std.proofs.Math.ListN.{get_or-eq_default}
 use Rattle.std.proofs.Math.Seq.{drop-cons}

@@ -1,6 +1,5 @@
 -- The step that a script asks for, in a world.
-use Rattle.std.specs.Prelude.{◌≡◌, ℕ, option_map, Option, Some, None}
-use Rattle.bench_item.specs.declared.key.Key.{Key}
+use Rattle.std.specs.Prelude.{◌≡◌, option_map, Option, Some, None}
 use Rattle.bench_item.specs.declared.step.Step.{Step}
 use Rattle.bench_item.specs.declared.step.Step.TheVariants.{Fired}
 use Rattle.bench_item.specs.declared.step.StepFault.{StepFault}

@@ -2,7 +2,6 @@
 use Rattle.std.specs.Prelude.{◌≡◌, ◌≢◌, ℕ, ◌+◌, ◌-◌, ◌<◌, ◌==◌, ◌||◌, not, nat_le, Bool, false, List, [], ◌∷◌, ◌++◌, filter, find, length, drop, take, reverse}
 use Rattle.std.specs.Prelude.{Option, None, Some, is_none, option_map, slice_get, slice_index, unwrap_or, IsSomeAnd, MatchBool, Result, Ok, Err, ◌⊎◌}
 use Rattle.std.specs.List.{list_any, range_with_len}
-use Rattle.acct_totals.specs.declared.answer.Totals.{Totals}
 use Rattle.bench_item.specs.declared.entry.Entry.{Entry}
 use Rattle.bench_item.specs.declared.key.Key.{Key}
 use Rattle.bench_item.specs.declared.key.Role.{Role}
@@ -31,7 +30,7 @@ use Rattle.sent_text.specs.Sent.{Tells}
 use Rattle.tab_print.specs.Printed.{row_line, widths_of}
 use Rattle.tab_text.specs.Contents.{Contents}
 use Rattle.bench_debug.specs.Asking.{IsRefused, TakesAsked}
-use Rattle.bench_debug.specs.Meets.{LastMet, MeetsNone, first_met, stops}
+use Rattle.bench_debug.specs.Meets.{LastMet, MeetsNone, first_met}
 use Rattle.bench_debug.specs.Tables.{tables_in}
 use Rattle.bench_debug.specs.declared.debugger.Progress.{Progress}
 use Rattle.bench_debug.specs.declared.debugger.SetBreakpoint.{SetBreakpoint}

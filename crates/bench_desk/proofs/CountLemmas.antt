@@ -1,10 +1,10 @@
 -- How many of the items that came were of a desk, and how many of these were handled.
-use Rattle.std.proofs.Common.{◌≡◌, ◌∙◌, ◌+◌, ◌-◌, ◌<◌, ◌≤◌, ℕ, zero, suc, List, [], ◌∷◌, ◌++◌, Bool, true, false, length, map, take, drop, refl, ap, sym, arith, inl, inr}
-use Rattle.std.specs.Prelude.{count_by, filter, zip, cond, ◌⊎◌}
+use Rattle.std.proofs.Common.{◌≡◌, ◌∙◌, ◌+◌, ◌-◌, ℕ, List, [], ◌∷◌, Bool, true, false, length, map, take, drop, refl, ap, sym, arith, inl, inr}
+use Rattle.std.specs.Prelude.{count_by, filter, zip, cond}
 use Rattle.std.proofs.lemmas.Bool.{cases_lt}
 use Rattle.std.proofs.lemmas.List.{length-drop, length-map, take-append-drop, take_all}
 use Rattle.std.proofs.lemmas.List.Sums.{sum_by-append}
-use Rattle.bench_item.specs.Keys.{Node, node_of}
+use Rattle.bench_item.specs.Keys.{node_of}
 use Rattle.bench_item.specs.Steps.{is_same_source}
 use Rattle.bench_item.specs.declared.entry.Entry.{Entry}
 use Rattle.bench_item.specs.declared.item.MachineItem.{MachineItem}

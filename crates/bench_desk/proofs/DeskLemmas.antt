@@ -1,6 +1,6 @@
 -- What a desk kept with one tell or look more.
 use Rattle.std.proofs.Common.{◌≡◌, ◌∙◌, ◌+◌, ◌<◌, ◌≤◌, ℕ, List, [], ◌∷◌, ◌++◌, Bool, true, false, length, map, set, refl, ap, sym, subst, arith, inl, inr}
-use Rattle.std.specs.Prelude.{flat_map, filter, cond, nat_eq, not, ◌==◌, if◌then◌else◌, option_map, unwrap_or, slice_index, Option, Some, None, Result, Ok, Err, IfOk, ◌⊎◌}
+use Rattle.std.specs.Prelude.{flat_map, filter, cond, not, ◌==◌, if◌then◌else◌, option_map, unwrap_or, slice_index, Option, Some, None, Result, Ok, Err, IfOk}
 use Rattle.std.specs.List.{last_or}
 use Rattle.std.proofs.lemmas.Bool.{cases_eq, cond-true, cond-false, eq-eqb, eqb-true, ne_eqb}
 use Rattle.std.proofs.lemmas.Grind.{flat_map-append}
@@ -17,7 +17,7 @@ use Rattle.bench_spec.specs.Desks.{agrees, seen_count, tell_kept, told_count}
 use Rattle.bench_spec.specs.Items.{desk_posts, told_item}
 use Rattle.bench_spec.specs.Merged.{Kept, Look, Saw, Stamped, entries_kept, is_item_for, looks_kept}
 use Rattle.bench_spec.specs.Settings.{Settings}
-use Rattle.bench_desk.specs.Desks.{AreCounts, DeskView, IsDesk, entry_count, first_of, look_at, look_refusal}
+use Rattle.bench_desk.specs.Desks.{DeskView, IsDesk, entry_count, first_of, look_at, look_refusal}
 use Rattle.bench_desk.specs.May.{may_look}
 use Rattle.bench_desk.specs.Parts.{PartView, handled_from, node_in, waiting_from}
 use Rattle.bench_desk.specs.declared.fault.DeskFault.TheVariants.{Disagree, Unknown}

@@ -1,6 +1,6 @@
 -- A shard's part with one item more.
-use Rattle.std.proofs.Common.{◌≡◌, ◌∙◌, ◌+◌, ℕ, List, [], ◌∷◌, ◌++◌, Bool, true, false, length, map, refl, ap, sym, arith}
-use Rattle.std.specs.Prelude.{flat_map, filter, option_to_list, cond, nat_eq, if◌then◌else◌, Option, Some, None, ◌==◌}
+use Rattle.std.proofs.Common.{◌≡◌, ◌∙◌, ℕ, List, [], ◌∷◌, ◌++◌, Bool, true, length, map, refl, ap, sym, arith}
+use Rattle.std.specs.Prelude.{flat_map, filter, option_to_list, if◌then◌else◌}
 use Rattle.std.proofs.lemmas.Bool.{cond-true, eq-eqb}
 use Rattle.std.proofs.lemmas.Grind.{flat_map-append}
 use Rattle.std.proofs.lemmas.List.{append-nil, map-append}
@@ -109,3 +109,10 @@ arrivals-items node (e ∷ log) n =
     ∙ ap (λ xs. xs ++ map (λ (p : Source × MachineItem). p.1) (arrivals node log n)) (arrived_in node n e.step e refl)
     ∙ ap (λ xs. (if is_drop e.step then filter (is_for node n) (flat_map machine_item (option_to_list e.item)) else []) ++ xs)
     (arrivals-items node log n)
+
+-- the stamps alone
+pub stamps-stamped_of : (ss : List ℕ) (es : List Entry) → length ss ≡ length es → map (λ s. s.stamp) (stamped_of ss es) ≡ ss
+stamps-stamped_of [] [] same = refl
+stamps-stamped_of [] (y ∷ es) same = refl
+stamps-stamped_of (x ∷ ss) [] same = absurd (omega (arith, same))
+stamps-stamped_of (x ∷ ss) (y ∷ es) same = ap (λ xs. x ∷ xs) (stamps-stamped_of ss es (omega (arith, same)))

@@ -2,7 +2,6 @@
 use Rattle.std.specs.Prelude.{◌≡◌, ◌<◌, ◌≤◌, ◌+◌, ◌||◌, ℕ, not, nat_lt, Bool, List, [], ◌∷◌, ◌++◌, find, flat_map, length}
 use Rattle.std.specs.Prelude.{option_map, slice_get, slice_index, unwrap_or, Option}
 use Rattle.std.specs.Option.{option_and_then}
-use Rattle.tab_step.specs.declared.machine.Event.{Event}
 use Rattle.tab_step.specs.declared.machine.MachineState.{MachineState}
 use Rattle.bench_item.specs.declared.key.Key.{Key}
 use Rattle.bench_item.specs.declared.limit.TheConstants.{MAX_ENTRIES, MAX_SHARDS}

@@ -1,5 +1,4 @@
 -- What a desk keeps, as it is stored.
-use Rattle.std.specs.Prelude.{ℕ}
 use Rattle.bench_spec.specs.Merged.{Did, Kept, Look, Saw}
 use Rattle.bench_desk.specs.declared.note.KeptLook.{KeptLook}
 use Rattle.bench_desk.specs.declared.note.Note.{Note}

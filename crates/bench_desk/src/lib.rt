@@ -3,6 +3,7 @@
 //! | File | What it has |
 //! |---|---|
 //! | `part` | a shard with the stamped entries of what was done to it |
+//! | `work` | its oldest item is handled, and what it put out is lifted |
 //! | `desk` | what a desk kept, and its counts |
 //! | `tell`, `look` | a desk tells a shard an event, and looks at it |
 //! | `note` | what a desk keeps, as it is stored |
@@ -17,9 +18,10 @@ mod may;
 mod note;
 mod part;
 mod tell;
+mod work;
 
 pub use desk::Desk;
-pub use fault::DeskFault;
+pub use fault::{CarryFault, DeskFault};
 pub use look::Look;
 pub use may::{may_look, may_tell};
 pub use part::ShardPart;

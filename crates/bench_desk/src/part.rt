@@ -23,13 +23,13 @@ use std::sync::Arc;
 ///
 /// In: `arrive`. Looks: `shard`, `roles`, `counts`, `is_full`, `len`, `stamp`, `entry`.
 pub struct ShardPart {
-    alloc: Global,
-    roles: Arc<Roles, Global>,
-    shard: ShardState,
+    pub(crate) alloc: Global,
+    pub(crate) roles: Arc<Roles, Global>,
+    pub(crate) shard: ShardState,
     // Who put each item there, in the order in which they came.
-    sources: Vec<Source>,
-    log: Log,
-    stamps: Vec<u64>,
+    pub(crate) sources: Vec<Source>,
+    pub(crate) log: Log,
+    pub(crate) stamps: Vec<u64>,
 }
 
 // A derived `drop` is proved anew in each crate that holds a part; this one is a call.
@@ -176,7 +176,7 @@ impl ShardPart {
     }
 
     // Whether its part of the log has as many entries as it may.
-    fn is_log_full(&self) -> bool
+    pub(crate) fn is_log_full(&self) -> bool
         ensures { result ≡ is_log_full (entries_in self.now) }
     {
         self.len() >= MAX_ENTRIES

@@ -1,4 +1,9 @@
 //! Lists of stamps that were drawn side by side, put into one order.
+//!
+//! | File | What it has |
+//! |---|---|
+//! | `merging` | the order, or that there is none |
+//! | `law` | parts that have an order have nothing that keeps them from it |
 #![tactic(auto)]
 
 mod law;

@@ -1,5 +1,5 @@
 -- The entries that moved a machine, one after the other; and the last of them.
-use Rattle.std.proofs.Common.{◌≡◌, ◌<◌, ◌+◌, ◌-◌, ◌++◌, ◌∷◌, ℕ, Bool, true, List, [], Option, Some, refl, sym, ◌∙◌, ap, subst, length, take, drop, filter, arith}
+use Rattle.std.proofs.Common.{◌≡◌, ◌<◌, ◌+◌, ◌-◌, ◌++◌, ℕ, true, List, [], Some, refl, sym, ◌∙◌, ap, subst, length, take, drop, arith}
 use Rattle.std.specs.Prelude.{is_some, slice_get}
 use Rattle.std.specs.List.{enumerate_from}
 use Rattle.std.proofs.lemmas.List.{take_all}
@@ -7,7 +7,7 @@ use Rattle.std.proofs.lemmas.List.FromFn.{length-enumerate_from}
 use Rattle.bench_item.specs.declared.entry.Entry.{Entry}
 use Rattle.bench_item.specs.declared.key.Key.{Key}
 use Rattle.bench_spec.specs.Taken.{Run}
-use Rattle.bench_show.specs.History.{LastMove, MovesNone, history_text, history_to, move_in, moves, told_of}
+use Rattle.bench_show.specs.History.{LastMove, MovesNone, history_text, history_to, move_in, told_of}
 use Rattle.bench_show.proofs.PlaceLemmas.{back_one, length_front, numbered_more, split_at}
 
 -- the first so many entries of a log, with their numbers

@@ -1,5 +1,5 @@
 -- The text of one more line.
-use Rattle.std.proofs.Common.{◌≡◌, ◌+◌, ◌++◌, ◌∙◌, ℕ, List, [], ap, arith, refl}
+use Rattle.std.proofs.Common.{◌≡◌, ◌+◌, ◌++◌, ◌∙◌, ℕ, [], ap, arith, refl}
 use Rattle.bench_spec.specs.Taken.{Run}
 use Rattle.bench_show.specs.Lines.{line_text, lines_to}
 use Rattle.bench_show.proofs.CountLemmas.{texts_more}

@@ -1,5 +1,5 @@
 -- What stands at a place of a list, and the texts of what stands before it.
-use Rattle.std.proofs.Common.{◌≡◌, ◌<◌, ◌≤◌, ◌+◌, ◌-◌, ◌++◌, ◌∷◌, ℕ, Bool, true, false, suc, List, [], Option, Some, None, refl, sym, ◌∙◌, ap, append-nil, length, take, drop, filter, get_or, arith}
+use Rattle.std.proofs.Common.{◌≡◌, ◌<◌, ◌+◌, ◌-◌, ◌++◌, ◌∷◌, ℕ, Bool, false, suc, List, [], Option, Some, None, sym, ◌∙◌, ap, append-nil, length, take, drop, filter, get_or, arith}
 use Rattle.std.specs.Prelude.{slice_get, unwrap_or}
 use Rattle.std.specs.List.{enumerate_from, flat_map}
 use Rattle.std.proofs.Math.Seq.{drop-cons}

@@ -1,5 +1,5 @@
 -- What waits at one more source, and what is in a hand.
-use Rattle.std.proofs.Common.{◌≡◌, ◌+◌, ◌++◌, ◌∙◌, ℕ, List, [], ap, refl, zero-add}
+use Rattle.std.proofs.Common.{◌≡◌, ◌+◌, ◌++◌, ◌∙◌, ℕ, [], ap, refl, zero-add}
 use Rattle.bench_spec.specs.Taken.{Run}
 use Rattle.bench_show.specs.Queues.{queue_text, queues_to, source_at}
 use Rattle.bench_show.specs.declared.queues.Sort.{Sort}

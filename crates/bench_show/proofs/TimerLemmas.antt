@@ -1,5 +1,5 @@
 -- The timer of one more machine.
-use Rattle.std.proofs.Common.{◌≡◌, ◌+◌, ◌++◌, ◌∙◌, ℕ, List, [], ap, refl, zero-add}
+use Rattle.std.proofs.Common.{◌≡◌, ◌+◌, ◌++◌, ◌∙◌, ℕ, [], ap, refl, zero-add}
 use Rattle.bench_spec.specs.Taken.{Run}
 use Rattle.bench_show.specs.Timers.{timer_text, timers_to}
 use Rattle.bench_show.proofs.CountLemmas.{texts_more}

@@ -1,5 +1,5 @@
 -- What guards say, row by row.
-use Rattle.std.proofs.Common.{◌≡◌, ◌<◌, ◌+◌, ◌++◌, ◌∷◌, ℕ, List, [], Option, Some, None, refl, sym, ◌∙◌, ap, length, min, take, arith, zero-add}
+use Rattle.std.proofs.Common.{◌≡◌, ◌<◌, ◌+◌, ◌++◌, ℕ, List, [], Option, Some, None, refl, sym, ◌∙◌, ap, length, min, take, arith, zero-add}
 use Rattle.std.specs.Prelude.{slice_get}
 use Rattle.std.specs.List.{enumerate_from}
 use Rattle.std.proofs.lemmas.List.{take_all, take_min}

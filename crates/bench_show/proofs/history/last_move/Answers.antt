@@ -1,4 +1,4 @@
-use Rattle.std.proofs.Common.{◌≤◌, ◌∙◌, ◌-◌, List, ap, arith, length, sym}
+use Rattle.std.proofs.Common.{◌∙◌, ◌-◌, List, ap, arith, length, sym}
 use Rattle.std.specs.Prelude.{slice_get}
 use Rattle.bench_item.specs.declared.entry.Entry.{Entry}
 use Rattle.bench_show.specs.History.{moves}

@@ -1,5 +1,5 @@
 use Rattle.std.proofs.Common.{◌-◌, ◌≤◌, length, vec_len}
-use Rattle.bench_debug.specs.Debug.{Forward, debugging, place_of}
+use Rattle.bench_debug.specs.Debug.{Forward, debugging}
 use Rattle.bench_debug.proofs.debugger.Debugger.go_on.Given as goal
 
 -- the steps so far are those that the script asked for, and do not go past the place

@@ -1,4 +1,4 @@
-use Rattle.std.proofs.Common.{◌≡◌, ◌∙◌, Option, subst}
+use Rattle.std.proofs.Common.{◌≡◌, Option, subst}
 use Rattle.std.specs.Prelude.{MatchOption}
 use Rattle.bench_item.specs.declared.entry.Entry.{Entry}
 use Rattle.bench_debug.specs.Debug.{IsAtEnd, StepsTo, debugging}

@@ -1,4 +1,4 @@
-use Rattle.std.proofs.Common.{◌≡◌, ◌∙◌, Bool, true, false, [], ◌∷◌, ap, sym}
+use Rattle.std.proofs.Common.{◌∙◌, true, [], ◌∷◌, ap, sym}
 use Rattle.std.specs.Prelude.{not}
 use Rattle.bench_shard.specs.View.{ShardView}
 use Rattle.bench_item.specs.Keys.{Configured}

@@ -1,7 +1,7 @@
 use Rattle.std.proofs.Common.{◌≡◌, ◌∙◌, ap, arith, map, subst, sym}
 use Rattle.std.specs.Prelude.{slice_index}
 use Rattle.bench_item.specs.Keys.{home}
-use Rattle.bench_spec.specs.Desks.{seen_count, told_count}
+use Rattle.bench_spec.specs.Desks.{seen_count}
 use Rattle.bench_spec.specs.Settings.{Settings}
 use Rattle.bench_desk.specs.Desks.{DeskView}
 use Rattle.bench_desk.specs.Notes.{kept_of}

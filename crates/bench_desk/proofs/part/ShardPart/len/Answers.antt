@@ -1,4 +1,4 @@
-use Rattle.std.proofs.Common.{◌≡◌, ◌∙◌, ap, length, sym}
+use Rattle.std.proofs.Common.{◌∙◌, ap, length, sym}
 use Rattle.bench_desk.specs.Parts.{PartView, entries_in}
 use Rattle.bench_desk.proofs.PartLemmas.{entries-stamped_of}
 use Rattle.bench_desk.proofs.part.ShardPart.len.Goals as goal

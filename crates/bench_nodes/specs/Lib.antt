@@ -1,0 +1,7 @@
+pub mod Ends
+pub mod Marked
+pub mod Acts
+pub mod Crossings
+pub mod Settled
+pub mod Scripts
+pub mod Told
