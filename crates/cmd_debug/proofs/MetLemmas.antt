@@ -1,7 +1,6 @@
 -- How a run of `debug` ends, by what was told.
-use Rattle.std.proofs.Common.{◌≡◌, ◌<◌, ◌≤◌, ◌+◌, ◌∙◌, ◌⊎◌, ℕ, List, Option, ap, arith, inl, inr}
-use Rattle.std.specs.Prelude.{codes}
-use Rattle.base_device.specs.Devices.{HasReadCause, IsRun, Tells}
+use Rattle.std.proofs.Common.{◌≡◌, ◌≤◌, ◌+◌, ◌∙◌, ℕ, List, Option, ap, arith, inl, inr}
+use Rattle.base_device.specs.Devices.{HasReadCause, IsRun}
 use Rattle.base_device.specs.Inputs.{IsToldUnread}
 use Rattle.base_device.specs.declared.status.Status.{Status}
 use Rattle.base_device.specs.declared.status.Status.TheVariants as statuses

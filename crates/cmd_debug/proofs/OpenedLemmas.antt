@@ -1,23 +1,22 @@
 -- A debugger on a bench that was opened is that of the configuration; an opening that is refused is what is told.
-use Rattle.std.proofs.Common.{◌≡◌, ◌∙◌, ℕ, List, Option, Some, None, ap, refl, subst, sym}
+use Rattle.std.proofs.Common.{◌≡◌, ◌∙◌, ℕ, List, Option, Some, None, ap, subst}
 use Rattle.std.specs.Prelude.{IfOk, Result, Ok, Err, option_map}
 use Rattle.std.specs.Option.{option_and_then, option_or}
-use Rattle.bench_debug.specs.Debug.{Debugging, started}
+use Rattle.bench_debug.specs.Debug.{Debugging}
 use Rattle.bench_debug.specs.Seen.{seen}
 use Rattle.bench_debug.specs.declared.debugger.Debugger.{Debugger}
 use Rattle.bench_open.specs.Faults.{IsErrorFor}
 use Rattle.bench_open.specs.Given.{config_of}
 use Rattle.bench_open.specs.declared.config.Config as handed
-use Rattle.bench_script.specs.Ran.{IsRunBy}
 use Rattle.bench_spec.specs.Opening.{Config, laws_of, opening_refusal, settings_of}
 use Rattle.bench_spec.specs.Taken.{Run, opened}
 use Rattle.bench_spec.specs.declared.opening.OpeningError.{OpeningError}
 use Rattle.bench_spec.specs.declared.opening.OpeningError.TheVariants as errors
 use Rattle.cmd_bench.proofs.BookLemmas.{run_by}
 use Rattle.cmd_bench.specs.Told.{bad_text, opening_text}
-use Rattle.script_text.specs.Scripts.{first_bad, script_of}
+use Rattle.script_text.specs.Scripts.{first_bad}
 use Rattle.tab_law.specs.Books.{Laws}
-use Rattle.cmd_debug.specs.Opened.{IsBegun, IsOpenedBy, refusal_of, start_of}
+use Rattle.cmd_debug.specs.Opened.{IsBegun, IsOpenedBy, refusal_of}
 use Rattle.cmd_debug.specs.declared.opening.Opened.{Opened}
 use Rattle.cmd_debug.specs.declared.opening.Opened.TheVariants.{Ready, Refused}
 

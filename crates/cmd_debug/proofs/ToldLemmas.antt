@@ -1,5 +1,5 @@
 -- What was answered by a debugger is what it replies.
-use Rattle.std.proofs.Common.{◌≡◌, ◌⊎◌, ℕ, List, [], ◌++◌, Option, None, inl, inr, refl, subst}
+use Rattle.std.proofs.Common.{◌≡◌, ℕ, List, Option, None, inl, inr, subst}
 use Rattle.std.specs.Io.KnownBytes.{Consumes}
 use Rattle.base_device.specs.declared.status.Status.{Status}
 use Rattle.base_dialog.specs.Told.{IsAnswered, IsAnsweredFrom}

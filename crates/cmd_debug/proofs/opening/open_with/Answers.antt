@@ -1,4 +1,3 @@
-use Rattle.std.proofs.Common.{◌∙◌, Some, ap, sym}
 use Rattle.cmd_debug.proofs.OpenedLemmas.{begun_opened, refused_of}
 use Rattle.cmd_debug.proofs.opening.open_with.Goals as goal
 

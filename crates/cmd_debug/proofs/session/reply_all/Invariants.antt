@@ -1,4 +1,4 @@
-use Rattle.std.proofs.Common.{List, map, take}
+use Rattle.std.proofs.Common.{map, take}
 use Rattle.bench_debug.specs.Seen.{seen}
 use Rattle.bench_script.specs.Ran.{IsRunBy}
 use Rattle.cmd_debug.specs.Sessions.{IsSession}
