@@ -13,6 +13,7 @@ use crate::list::list;
 use crate::walk::{tell_names, tell_table, walk};
 use base_device::{ByteSink, FileSource, MAX_IDLE_WRITES, MAX_READS, Status, tell};
 use cmd_bench::{Shown, run as run_script, tell_sample};
+use cmd_debug::debug;
 use cmd_read::read;
 use cmd_words::{Asked, NoWords, Task, WordsError, parse_words};
 use std::alloc::Global;
@@ -38,11 +39,11 @@ fn run<I: FileSource, O: ByteSink>(
     source: &mut I,
     sink: &mut O,
 ) -> Status
-    requires reads { I.reads source.old + 6 * MAX_READS < 2 ^ 64 }
+    requires reads { I.reads source.old + 7 * MAX_READS < 2 ^ 64 }
     requires read_failures { I.failures source.old < 2 ^ 64 - 1 }
     requires idle { O.idle sink.old ≡ 0 }
     requires write_failures { O.failures sink.old < 2 ^ 64 - 1 }
-    ensures reads { I.reads source.new ≤ I.reads source.old + 6 * MAX_READS }
+    ensures reads { I.reads source.new ≤ I.reads source.old + 7 * MAX_READS }
     ensures row { O.most_idle sink.new ≤ max (O.most_idle sink.old) MAX_IDLE_WRITES }
     ensures run { IsRun I.reads I.failures O.failures O.idle source.old source.new sink.old sink.new result }
     ensures met { result ≢ Status.Fault
@@ -69,6 +70,9 @@ fn run<I: FileSource, O: ByteSink>(
             };
             run_script(alloc, config, script, shown, source, sink)
         }
+        Task::Debug(config, script, commands) => {
+            debug(alloc, config, script, commands, source, sink)
+        }
         Task::Sample => tell_sample(sink),
         Task::Nothing(usage) => tell(sink, usage.as_bytes(), Status::Usage),
     }
@@ -82,13 +86,13 @@ pub fn main_on<S: AsStr, I: FileSource, O: ByteSink>(
     source: &mut I,
     sink: &mut O,
 ) -> Status
-    requires reads { I.reads source.old + 6 * MAX_READS < 2 ^ 64 }
+    requires reads { I.reads source.old + 7 * MAX_READS < 2 ^ 64 }
     requires read_failures { I.failures source.old < 2 ^ 64 - 1 }
     requires idle { O.idle sink.old ≡ 0 }
     requires write_failures { O.failures sink.old < 2 ^ 64 - 1 }
 
-    // The bounds on reads, of which a run has those of six inputs, and on writes in a row that take nothing.
-    ensures reads { I.reads source.new ≤ I.reads source.old + 6 * MAX_READS }
+    // The bounds on reads, of which a debugger has those of seven inputs, and on writes in a row that take nothing.
+    ensures reads { I.reads source.new ≤ I.reads source.old + 7 * MAX_READS }
     ensures row { O.most_idle sink.new ≤ max (O.most_idle sink.old) MAX_IDLE_WRITES }
 
     // A fault comes only where a device failed or a bound was met, and a device's failure is told.

@@ -55,9 +55,15 @@ walking_app =
 abbrev pub table_app : App
 table_app = with_subcommand (with_subcommand (with_subcommand walking_app draw_app.top) asm_app.top) list_app.top
 
--- the same, and what is done with a node: `run`
+-- `debug`, with CONFIG and SCRIPT, and `--run FILE`
+abbrev pub debug_app : App
+debug_app =
+    with_rule (with_rule (with_rule (new_app (codes "debug")) (new_rule (codes "CONFIG"))) (new_rule (codes "SCRIPT")))
+    (option_rule (codes "FILE") (codes "run"))
+
+-- the same, and what is done with a node: `run` and `debug`
 abbrev pub dbench_app : App
-dbench_app = with_subcommand table_app run_app.top
+dbench_app = with_subcommand (with_subcommand table_app run_app.top) debug_app.top
 
 -- what is wrong with the words, or which text they ask for; nothing where they are a command
 unfoldable pub word_faults : List Text → Kinds
@@ -66,7 +72,8 @@ word_faults words = fault_of dbench_app words
 -- what a command asks for: messages in a style, each line by itself or not, by the dictionary of a file or without one, of this file or of standard input; a walk, which says why or doesn't,
 -- from where it is told or from the start, of a table over events of a file or of standard input; the names that tables may use; the table of a role; the graph or the image of a table
 -- of a file or of standard input; what such an image holds, in words; a run, which is quiet or not, and tells what was sent and the
--- totals or not, of a node over a script of a file or of standard input; a small CONFIG; or not one thing
+-- totals or not, of a node over a script of a file or of standard input; a debugger on a node, over a script or none, with the
+-- commands of a file or of standard input; a small CONFIG; or not one thing
 pub data Wanted : Type 0 where
   Read : Style → Bool → (dictionary file : Option Text) → Wanted
   Walk : (why : Bool) → (from : Option Text) → (table : Text) → (events : Option Text) → Wanted
@@ -76,6 +83,7 @@ pub data Wanted : Type 0 where
   Assemble : Option Text → Wanted
   ListImage : Option Text → Wanted
   Run : (quiet sent totals : Bool) → (config : Text) → (script : Option Text) → Wanted
+  Debug : (config : Text) → (script commands : Option Text) → Wanted
   Sample : Wanted
   Nothing : Wanted
 
@@ -91,6 +99,11 @@ abbrev pub run_wanted : (sample quiet sent totals : Bool) → (config script : O
 run_wanted true false false false None None = Sample
 run_wanted false quiet sent totals (Some config) script = Run quiet sent totals config script
 run_wanted sample quiet sent totals config script = Nothing
+
+-- what `debug` asks for: by CONFIG, SCRIPT and the file of commands
+abbrev pub debug_wanted : (config script commands : Option Text) → Wanted
+debug_wanted (Some config) script commands = Debug config script commands
+debug_wanted None script commands = Nothing
 
 -- a flag that was given has this value
 abbrev pub is_given : Option Text → Bool
@@ -111,6 +124,10 @@ run_in rows =
     (first_of (codes "CONFIG") rows)
     (first_of (codes "SCRIPT") rows)
 
+-- what `debug` asks for, by what stands behind it
+abbrev pub debug_in : List Row → Wanted
+debug_in rows = debug_wanted (first_of (codes "CONFIG") rows) (first_of (codes "SCRIPT") rows) (first_of (codes "FILE") rows)
+
 -- what a command asks for, by its name and what stands behind it
 abbrev pub wanted_of : Option (Text × List Row) → Wanted
 wanted_of None = Read Plain false None None
@@ -119,6 +136,7 @@ wanted_of (Some used) =
     else if bytes_eq used.0 (codes "asm") then Assemble (first_of (codes "TABLE") used.1)
     else if bytes_eq used.0 (codes "list") then ListImage (first_of (codes "FILE") used.1)
     else if bytes_eq used.0 (codes "run") then run_in used.1
+    else if bytes_eq used.0 (codes "debug") then debug_in used.1
     else if bytes_eq used.0 (codes "walk")
     then walk_wanted (is_given (first_of (codes "names") used.1)) (is_given (first_of (codes "why") used.1)) (first_of (codes "NAME") used.1) (first_of (codes "FROM") used.1) (first_of (codes "TABLE") used.1) (first_of (codes "EVENTS") used.1)
     else read_wanted (is_given (first_of (codes "explain") used.1)) (is_given (first_of (codes "json") used.1)) (is_given (first_of (codes "lines") used.1)) (first_of (codes "DICT") used.1) (first_of (codes "FILE") used.1)

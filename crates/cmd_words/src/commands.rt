@@ -5,6 +5,7 @@ ghost use Rattle.clap.specs.Words.{app_of, new_app, new_rule, rule_of, with_rule
 ghost use Rattle.clap.specs.declared.builder.command.Command.TheViews.{out-Command};
 ghost use Rattle.cmd_words.specs.Words.{dbench_app, flag_rule, option_rule, read_app, run_app, run_values, table_app, walk_app, walking_app};
 
+use crate::debug::debug_command;
 use crate::texts::{
     ABOUT, ASM_ABOUT, ASM_LONG_ABOUT, DRAW_ABOUT, DRAW_LONG_ABOUT, LIST_ABOUT, LIST_LONG_ABOUT,
     READ_ABOUT, READ_LONG_ABOUT, RUN_ABOUT, RUN_LONG_ABOUT, STATUSES, WALK_ABOUT, WALK_LONG_ABOUT,
@@ -16,7 +17,12 @@ use std::alloc::{AllocError, Global};
 const TABLE_HELP: &str = "The file of the table; without it, standard input";
 
 /// A command without arguments, with its help.
-fn bare<'a>(alloc: Global, name: &'a str, about: &'a str, long_about: &'a str) -> Command<'a>
+pub(crate) fn bare<'a>(
+    alloc: Global,
+    name: &'a str,
+    about: &'a str,
+    long_about: &'a str,
+) -> Command<'a>
     ensures app { app_of result ≡ new_app name.entry.now }
     ensures local { (out-Command result).has_globals ≡ false }
 {
@@ -61,7 +67,7 @@ fn flag<'a>(alloc: Global, name: &'a str, help: &'a str) -> Arg<'a>
 }
 
 /// The command with one value more.
-fn with_value<'a>(
+pub(crate) fn with_value<'a>(
     alloc: Global,
     command: Command<'a>,
     id: &'a str,
@@ -75,7 +81,7 @@ fn with_value<'a>(
 }
 
 /// The command with one option more.
-fn with_option<'a>(
+pub(crate) fn with_option<'a>(
     alloc: Global,
     command: Command<'a>,
     id: &'a str,
@@ -303,5 +309,7 @@ pub(crate) fn command<'a>(alloc: Global) -> Result<Command<'a>, AllocError>
 {
     let command = table_command(alloc)?;
     let run = run_command(alloc)?;
-    with_command(command, run)
+    let command = with_command(command, run)?;
+    let debug = debug_command(alloc)?;
+    with_command(command, debug)
 }

@@ -4,10 +4,12 @@
 //! |---|---|
 //! | `texts` | help and usage |
 //! | `commands` | the words that are understood, for `clap` |
+//! | `debug` | the words of `debug`: understood, help and usage |
 //! | `words` | what given words ask for |
 #![tactic(auto)]
 
 mod commands;
+mod debug;
 mod texts;
 mod words;
 

@@ -2,10 +2,11 @@
 ghost use Rattle.std.specs.Prelude.{◌≡◌, Some, map, option_map};
 ghost use Rattle.clap.specs.Words.{first_of, found_of, kind_of, rows_of};
 ghost use Rattle.cmd_words.specs.declared.words.WordsError.TheVariants.{NoMemory};
-ghost use Rattle.cmd_words.specs.Words.{is_given, read_wanted, run_in, run_wanted, walk_wanted, wanted_of};
+ghost use Rattle.cmd_words.specs.Words.{debug_in, debug_wanted, is_given, read_wanted, run_in, run_wanted, walk_wanted, wanted_of};
 ghost use Rattle.cmd_words.specs.Asked.{IsAsked, IsRefusal, meaning};
 
 use crate::commands::command;
+use crate::debug::DEBUG_USAGE;
 use crate::texts::{READ_USAGE, RUN_USAGE, WALK_USAGE};
 use clap::error::ErrorKind;
 use clap::{ArgMatches, Error};
@@ -63,6 +64,9 @@ pub enum Task<'a> {
     /// `run`, quiet or not, telling what was sent and the totals or not, of the first node of this file, over the script of this
     /// file or of standard input.
     Run(bool, bool, bool, &'a str, Option<&'a str>),
+    /// `debug`, of the first node of this file, over the script of this file or over none, with the commands of this file or of
+    /// standard input.
+    Debug(&'a str, Option<&'a str>, Option<&'a str>),
     /// A small CONFIG.
     Sample,
     /// Not one thing: what is told then.
@@ -205,6 +209,29 @@ fn run_task_of<'a>(found: &ArgMatches<'a>) -> Task<'a>
     )
 }
 
+/// What `debug` asks for, by CONFIG, SCRIPT and the file of commands.
+fn debug_task<'a>(
+    config: Option<&'a str>,
+    script: Option<&'a str>,
+    commands: Option<&'a str>,
+) -> Task<'a>
+    ensures { meaning result ≡ debug_wanted (option_map (λ text. text.now) config.entry) (option_map (λ text. text.now) script.entry) (option_map (λ text. text.now) commands.entry) }
+{
+    match config {
+        Some(config) => Task::Debug(config, script, commands),
+        None => Task::Nothing(DEBUG_USAGE),
+    }
+}
+
+/// What `debug` asks for.
+fn debug_task_of<'a>(found: &ArgMatches<'a>) -> Task<'a>
+    ensures { meaning result ≡ debug_in (rows_of (found_of found.now)) }
+{
+    let config = value_of(found, "CONFIG");
+    let script = value_of(found, "SCRIPT");
+    debug_task(config, script, value_of(found, "FILE"))
+}
+
 /// What a command asks for, by its name and what stands behind it.
 fn task_of<'a>(name: &str, found: &ArgMatches<'a>) -> Task<'a>
     ensures { meaning result ≡ wanted_of (Some (name.now, rows_of (found_of found.now))) }
@@ -220,6 +247,9 @@ fn task_of<'a>(name: &str, found: &ArgMatches<'a>) -> Task<'a>
     }
     if name == "run" {
         return run_task_of(found);
+    }
+    if name == "debug" {
+        return debug_task_of(found);
     }
     if name == "walk" {
         let names = is_given(value_of(found, "names"));

@@ -2,16 +2,34 @@
 #![tactic(auto)]
 
 use base_device::{Counting, Inputs};
+use base_prompt::Prompted;
 use cmd_run::{main_on, tell_no_words};
 use cmd_words::given_words;
 use std::io;
+use std::io::IsTerminal;
 use std::process::ExitCode;
 
+/// Whether the first word behind the program's name is that of a command that talks.
+fn is_dialog(words: &[String]) -> bool {
+    match words.get(1) {
+        Some(word) => word.as_str() == "debug",
+        None => false,
+    }
+}
+
 fn main(rt: HostRuntime) -> ExitCode {
-    let mut source = Counting::new(Inputs::new(&rt, rt.stdin()));
     let mut sink = Counting::new(io::writer(&rt));
     let status = match given_words(&rt) {
-        Ok(words) => main_on(rt.alloc(), &words, &mut source, &mut sink),
+        Ok(words) => {
+            let prompts = if is_dialog(&words) && rt.stdin().is_terminal() {
+                Some(rt.stderr())
+            } else {
+                None
+            };
+            let standard = Prompted::new(rt.stdin(), prompts);
+            let mut source = Counting::new(Inputs::new(&rt, standard));
+            main_on(rt.alloc(), &words, &mut source, &mut sink)
+        }
         Err(why) => tell_no_words(why, &mut sink),
     };
     ExitCode::from(status.code())

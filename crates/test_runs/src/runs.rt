@@ -32,7 +32,7 @@ fn table(alloc: Global, text: &str) -> Result<Table, Fail> {
 }
 
 /// A server of one peer and one account of 100 units.
-fn server(alloc: Global) -> Result<Config, Fail> {
+pub(crate) fn server(alloc: Global) -> Result<Config, Fail> {
     let mut peers = Vec::new(alloc);
     peers.push(Octets::from_slice(alloc, b"c.example")?)?;
     let mut accounts = Vec::new(alloc);
@@ -87,22 +87,27 @@ fn late_timer_is_stale(rt: HostRuntime) -> Result<(), Fail> {
 /// Of a session only its line's opening.
 const JOIN: &str = "join\n";
 
+const STEPS: Shown = Shown {
+    steps: true,
+    lines: false,
+    totals: false,
+};
+
+/// The log of the session.
+pub(crate) fn session_log(alloc: Global) -> Result<Vec<u8>, Fail> {
+    let mut sink = Counting::new(Vec::new(alloc));
+    let _ = run_on(alloc, server(alloc)?, SESSION.as_bytes(), STEPS, &mut sink);
+    Ok(sink.device)
+}
+
 #[test]
 fn a_log_runs_again(rt: HostRuntime) -> Result<(), Fail> {
-    let steps = Shown {
-        steps: true,
-        lines: false,
-        totals: false,
-    };
     let alloc = rt.alloc();
-    let mut first = Counting::new(Vec::new(alloc));
-    let _ = run_on(alloc, server(alloc)?, SESSION.as_bytes(), steps, &mut first);
+    let first = session_log(alloc)?;
     let mut again = Counting::new(Vec::new(alloc));
-    let status = run_on(alloc, server(alloc)?, &first.device, steps, &mut again);
+    let status = run_on(alloc, server(alloc)?, &first, STEPS, &mut again);
     assert!(rt; status == Status::Done);
-    assert!(rt;
-        first.device.len() > SESSION.len() && first.device.as_slice() == again.device.as_slice()
-    );
+    assert!(rt; first.len() > SESSION.len() && first.as_slice() == again.device.as_slice());
     Ok(())
 }
 

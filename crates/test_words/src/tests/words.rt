@@ -52,6 +52,17 @@ fn words_ask_for_a_text_or_an_input_or_are_refused(rt: HostRuntime) -> Result<()
             0,
             "settle             all of the last three",
         ),
+        (["dbench", "debug"].as_slice(), 2, "wanted: a CONFIG"),
+        (
+            ["dbench", "debug", "no/such.json"].as_slice(),
+            3,
+            "read fault: no/such.json can't be opened\n",
+        ),
+        (
+            ["dbench", "debug", "--help"].as_slice(),
+            0,
+            "Usage: dbench debug [OPTIONS] [CONFIG] [SCRIPT]",
+        ),
         (["dbench", "read", "a", "b"].as_slice(), 2, "Usage: dbench"),
         (
             ["dbench", "read", "--explain"].as_slice(),

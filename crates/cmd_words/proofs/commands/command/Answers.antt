@@ -6,4 +6,5 @@ use Rattle.cmd_words.proofs.commands.command.Goals as goal
 pub returns : goal.returns
 returns c =
     let running = ap₂ (λ (a b : App). with_subcommand a b.top) c.in_ok-command.ensures c.in_ok-run.ensures.app in
-    IfOk-weaker c.with_command.result _ _ (λ r is. is ∙ running) c.with_command.ensures
+    let debugging = ap₂ (λ (a b : App). with_subcommand a b.top) (c.in_ok-command-2.ensures ∙ running) c.in_ok-debug.ensures.app in
+    IfOk-weaker c.with_command-2.result _ _ (λ r is. is ∙ debugging) c.with_command-2.ensures

@@ -1,0 +1,4 @@
+pub mod SessionLemmas
+pub mod OpenedLemmas
+pub mod ToldLemmas
+pub mod MetLemmas

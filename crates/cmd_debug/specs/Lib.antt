@@ -1,0 +1,4 @@
+pub mod Sessions
+pub mod Opened
+pub mod Told
+pub mod Met
