@@ -1,9 +1,10 @@
 //! What a world shows: each look is a view of its log.
-ghost use Rattle.std.specs.Prelude.{◌≡◌, ◌%◌, ◌+◌, ◌<◌, ◌≤◌, IfOk, IfSome, None, Some, length, option_copied, option_map, slice_get};
+ghost use Rattle.std.specs.Prelude.{◌≡◌, ◌%◌, ◌+◌, ◌<◌, ◌≤◌, IfOk, IfSome, None, Some, length, map, option_copied, option_map, slice_get};
 ghost use Rattle.std.specs.Option.{option_and_then};
 ghost use Rattle.acct_book.specs.Book.{Paged, totals_of};
 ghost use Rattle.bench_item.specs.Keys.{home, number_at, shard_of};
 ghost use Rattle.bench_item.specs.declared.limit.TheConstants.{MAX_MACHINES, MAX_SHARDS};
+ghost use Rattle.bench_open.specs.Given.{opened_as};
 ghost use Rattle.bench_shard.specs.View.{place_in};
 ghost use Rattle.bench_core.specs.Inside.{IsShardCount};
 ghost use Rattle.bench_spec.specs.Legal.{IsLegal};
@@ -18,6 +19,7 @@ use acct_book::Page;
 use acct_totals::Totals;
 use bench_item::{Key, LineState, MAX_MACHINES, Role, home};
 use bench_log::Log;
+use bench_open::Account;
 use bench_shard::ShardState;
 use std::alloc::AllocError;
 use tab_law::LawBook;
@@ -184,6 +186,13 @@ impl Core {
         ensures bound { IfSome result (λ t. t.reserved + t.debited ≤ t.given) }
     {
         totals_in(&self.pages, self.page_count, account)
+    }
+
+    /// The accounts that the world was opened with. Takes no memory.
+    pub fn accounts(&self) -> &[Account]
+        ensures { map opened_as result.now ≡ self.now.settings.accounts }
+    {
+        &self.accounts
     }
 
     /// The table of a role. Takes no memory.
