@@ -1,5 +1,5 @@
 -- What moves a machine has its number.
-use Rattle.std.proofs.Common.{◌≡◌, ◌<◌, ◌+◌, ◌++◌, ◌∷◌, ◌∙◌, ℕ, length, Bool, true, false, List, [], Option, Some, None, refl, sym, ap, subst, append_assoc, arith, drop, take}
+use Rattle.std.proofs.Common.{◌≡◌, ◌+◌, ◌++◌, ◌∷◌, ◌∙◌, ℕ, length, Bool, true, false, List, [], Option, Some, None, refl, sym, ap, subst, append_assoc, arith, drop, take}
 use Rattle.std.specs.Prelude.{◌==◌, if◌then◌else◌, is_some, nat_lt, option_map, slice_get, unwrap_or}
 use Rattle.std.specs.Option.{option_and_then}
 use Rattle.std.specs.List.{position_or_len}
@@ -110,33 +110,15 @@ number_moves settings log key number place e legal has at moved_it =
     part_number settings past rest e.step e.item e.handled key number (MayFollow-last settings past e front)
     (subst (λ (whole : List Entry). number_of settings.node whole key ≡ Some number) split has) moved_it
 
--- an entry that moves none moves no machine of a key
-moved_none : (key : Key) (step : Step) (item : Option Item) (handled : Option Handled)
-    → machine_in (entry_of step item handled) ≡ None → is_some (moved_by key item handled) ≡ false
-moved_none key step (Some (ToMachine item)) (Some (Move moved)) none = absurd (subst IsThere none tt)
-moved_none key step (Some (ToMachine item)) (Some TooBusy) none = refl
-moved_none key step (Some (ToMachine item)) (Some (Stale state)) none = refl
-moved_none key step (Some (ToMachine item)) None none = refl
-moved_none key step None handled none = refl
-moved_none key step (Some (ToLine i)) handled none = refl
-moved_none key step (Some (Dial p g)) handled none = refl
-moved_none key step (Some (Undial p g)) handled none = refl
-moved_none key step (Some (Arm m g t)) handled none = refl
-moved_none key step (Some (Disarm m)) handled none = refl
-
 -- what a log says of a place: the number of the machine that is moved there
 machine_at : (log : List Entry) (place : ℕ) (e : Entry) (found : Option ℕ)
     → found ≡ option_and_then machine_in (slice_get log place) → slice_get log place ≡ Some e → machine_in e ≡ found
 machine_at log place e found is at = sym (is ∙ ap (λ (o : Option Entry). option_and_then machine_in o) at)
 
--- an entry that moves no machine doesn't move this one
-pub none_here : (log : List Entry) (key : Key) (place : ℕ) (e : Entry) (found : Option ℕ)
-    → found ≡ option_and_then machine_in (slice_get log place) → found ≡ None → slice_get log place ≡ Some e
-    → moves key e ≡ false
-none_here log key place e found is none at =
-    moved_none key e.step e.item e.handled (machine_at log place e found is at ∙ none)
+itself : (n : ℕ) → (n == n) ≡ true
+itself n = grind (arith, nat_tests)
 
--- nor does one that moves the machine of another number
+-- an entry that moves the machine of another number doesn't move this one
 pub other_here : (settings : Settings) (log : List Entry) (key : Key) (number machine place : ℕ) (e : Entry)
     (found : Option ℕ) → IsLegal settings log → number_of settings.node log key ≡ Some number
     → found ≡ option_and_then machine_in (slice_get log place) → found ≡ Some machine
@@ -150,6 +132,3 @@ other_here settings log key number machine place e found legal has is there apar
         sym there ∙ sym (machine_at log place e found is at) ∙ number_moves settings log key number place e legal has at it in
         let same : machine ≡ number = ap (λ (o : Option ℕ). unwrap_or o 0) one in
         absurd (false≢true (sym apart ∙ rw same (itself number)))
-
-    itself : (n : ℕ) → (n == n) ≡ true
-    itself n = grind (arith, nat_tests)
