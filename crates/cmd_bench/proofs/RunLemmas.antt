@@ -37,7 +37,7 @@ run_of config script shown core accounts text refused none is ids run =
     (subst (λ (ns : List ℕ). IsRunIn (opened (settings_of config)) script shown ns text refused) ids there)
 
 -- the reason of an opening that is refused
-reason_of : (config : Config) (error : OpeningError) (text : List ℕ) → IsErrorFor (opening_refusal config) error
+pub reason_of : (config : Config) (error : OpeningError) (text : List ℕ) → IsErrorFor (opening_refusal config) error
     → opening_text (laws_of config) error ≡ Some text → opening_refusal config ≡ Some error
 reason_of config errors.Limits text for told = for
 reason_of config errors.Names text for told = for
