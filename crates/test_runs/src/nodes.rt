@@ -158,3 +158,18 @@ fn line_for_no_node_is_bad(rt: HostRuntime) -> Result<(), Fail> {
     }
     Ok(())
 }
+
+#[test]
+fn first_node_that_is_not_opened_is_told(rt: HostRuntime) -> Result<(), Fail> {
+    let alloc = rt.alloc();
+    let mut nodes = setups(alloc, PAIR)?;
+    if let Some(setup) = nodes.get_mut(1) {
+        setup.bench.shards = 17;
+    }
+    let mut sink = Counting::new(Vec::new(alloc));
+    let status = run_nodes_on(alloc, 50, nodes, b"settle now\n", ALL, &mut sink);
+    let text =
+        "not opened: limits\n  wanted: 1 to 16 shards, 1 to 8 pages, at most 16 desks and 64 peers\n";
+    assert!(rt; status == Status::Refused && sink.device.as_slice() == text.as_bytes());
+    Ok(())
+}

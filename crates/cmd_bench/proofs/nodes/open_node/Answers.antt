@@ -10,6 +10,6 @@ returns-in-Ok g c =
     (c.in_ok-accounts.ensures ∙ ap (λ (accounts : List Account). map (λ account. account.id) accounts) c.deref.ensures.value) c.in-Ok.ensures.ok.1
 
 -- or the opening is refused
-pub returns : goal.returns
-returns g c =
+pub returns-in_ok-opening_text-in-Err : goal.returns-in_ok-opening_text-in-Err
+returns-in_ok-opening_text-in-Err g c =
     refused_is _ _ c.args.setup c.in-Err.error _ c.own_registries-own.ensures c.in-Err.ensures.fault c.in_ok-opening_text-in-Err.ensures
