@@ -1,7 +1,7 @@
 -- How a run ends, by what was told.
-use Rattle.std.proofs.Common.{◌≡◌, ◌<◌, ◌≤◌, ◌+◌, ◌∙◌, ◌⊎◌, ℕ, Bool, true, false, List, Option, arith, inl, inr, sym}
+use Rattle.std.proofs.Common.{◌≡◌, ◌∙◌, ◌⊎◌, ℕ, Bool, true, false, List, Option, arith, inl, inr, sym}
 use Rattle.std.specs.Prelude.{codes}
-use Rattle.base_device.specs.Devices.{HasFailed, HasReadCause, HasWriteCause, IsRun, TakesWhole, Tells}
+use Rattle.base_device.specs.Devices.{HasReadCause, IsRun, Tells}
 use Rattle.base_device.specs.Inputs.{IsToldUnread, IsUnread}
 use Rattle.base_device.specs.declared.status.Status.{Status}
 use Rattle.base_device.specs.declared.status.Status.TheVariants as statuses

@@ -242,6 +242,24 @@ fn read_all_nodes<I: FileSource>(
     }
 }
 
+/// Runs a script on the nodes that it is for.
+fn run_nodes_ready<O: ByteSink>(
+    alloc: Global,
+    cut: usize,
+    ready: AllReady,
+    shown: Shown,
+    sink: &mut O,
+) -> Status
+    requires idle { O.idle sink.old ≡ 0 }
+    requires failures { O.failures sink.old < 2 ^ 64 - 1 }
+    ensures run { IsNodesRunOn O.contents O.failures O.idle (replicate MAX_SHARDS all_laws) cut ready.setups.items ready.script.items shown
+        sink.old sink.new result }
+    ensures row { O.most_idle sink.new ≤ max (O.most_idle sink.old) MAX_IDLE_WRITES }
+{
+    let AllReady { setups, script } = ready;
+    run_nodes_on(alloc, cut, setups, &script, shown, sink)
+}
+
 /// Reads a CONFIG, the files that its nodes name beside it, and a script of a file or of standard input, and runs the
 /// script on all nodes. Refused are, in this order, what is read before the script, and then what `run_nodes_on` refuses.
 pub fn run_all_nodes<I: FileSource, O: ByteSink>(
@@ -264,10 +282,7 @@ pub fn run_all_nodes<I: FileSource, O: ByteSink>(
     ensures words { result ≢ Status.Usage }
 {
     match read_all_nodes(alloc, config, script, source) {
-        Ok(ready) => {
-            let AllReady { setups, script } = ready;
-            run_nodes_on(alloc, cut, setups, &script, shown, sink)
-        }
+        Ok(ready) => run_nodes_ready(alloc, cut, ready, shown, sink),
         Err(halt) => tell_halt(alloc, halt, sink),
     }
 }

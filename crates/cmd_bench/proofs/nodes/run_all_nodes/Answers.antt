@@ -10,20 +10,20 @@ use Rattle.cmd_bench.proofs.nodes.run_all_nodes.Goals as goal
 pub returns-in-Ok-clause-run : goal.returns-in-Ok-clause-run
 returns-in-Ok-clause-run g c =
     nodes_run g.I.ByteSource.reads g.I.ByteSource.failures g.O.ByteSink.contents g.O.ByteSink.failures g.O.ByteSink.idle (replicate MAX_SHARDS all_laws) c.args.cut c.in-Ok.ready.setups.items
-    c.in-Ok.ready.script.items c.args.shown c.args.source.now c.read_all_nodes.new.source c.args.sink.now c.run_nodes_on.new.sink c.run_nodes_on.result c.run_nodes_on.ensures.run c.in-Ok.ensures.sound
+    c.in-Ok.ready.script.items c.args.shown c.args.source.now c.read_all_nodes.new.source c.args.sink.now c.run_nodes_ready.new.sink c.run_nodes_ready.result c.run_nodes_ready.ensures.run c.in-Ok.ensures.sound
 
 pub returns-in-Ok-clause-met : goal.returns-in-Ok-clause-met
 returns-in-Ok-clause-met g c = λ fault. inl (record {
   setups = c.in-Ok.ready.setups.items;
   script = c.in-Ok.ready.script.items;
   inputs = c.in-Ok.ensures.ready;
-  run = c.run_nodes_on.ensures.run;
+  run = c.run_nodes_ready.ensures.run;
 })
 
 pub returns-in-Ok-clause-words : goal.returns-in-Ok-clause-words
 returns-in-Ok-clause-words g c =
     nodes_words g.O.ByteSink.contents g.O.ByteSink.failures g.O.ByteSink.idle (replicate MAX_SHARDS all_laws) c.args.cut c.in-Ok.ready.setups.items c.in-Ok.ready.script.items c.args.shown
-    c.args.sink.now c.run_nodes_on.new.sink c.run_nodes_on.result c.run_nodes_on.ensures.run
+    c.args.sink.now c.run_nodes_ready.new.sink c.run_nodes_ready.result c.run_nodes_ready.ensures.run
 
 -- or something stands in the way
 pub returns-in-Err-clause-run : goal.returns-in-Err-clause-run
