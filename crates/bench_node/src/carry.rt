@@ -1,9 +1,10 @@
 //! An item carried, and what a drop leaves to be dialled or timed.
 #![tactic(auto, using(crate::proofs::GoingLemmas::going))]
 
-ghost use Rattle.std.specs.Prelude.{◌≡◌, OnErr, OnOk, is_none, length};
+ghost use Rattle.std.specs.Prelude.{◌≡◌, ◌<◌, IfOk, OnErr, OnOk, is_none, length};
 ghost use Rattle.std.specs.List.{AllByRecursion as Each};
 ghost use Rattle.bench_node.specs.Going.{Goes};
+ghost use Rattle.bench_node.specs.Settled.{IsStill, Went};
 ghost use Rattle.role_tables.specs.Roles.{all_laws};
 ghost use Rattle.bench_spec.specs.Refusal.{refusal};
 ghost use Rattle.bench_spec.specs.Taken.{Takes};
@@ -13,7 +14,7 @@ use bench_item::{Item, Source, Step};
 use std::alloc::AllocError;
 use tab_call::Registry;
 
-/// The most steps with which one source is carried before others come.
+/// The most steps, but for the first, with which one source is carried before others come.
 const MAX_CARRIES: usize = 4_096;
 
 impl LiveNode {
@@ -39,6 +40,7 @@ impl LiveNode {
         ensures err { OnErr result (self.new ≡ self.old) }
         ensures goes { Goes self.old self.new }
         ensures same { self.new.settings ≡ self.old.settings }
+        ensures grew { OnOk result (length self.old.log < length self.new.log) }
     {
         self.try_step(registries, step)
     }
@@ -56,6 +58,7 @@ impl LiveNode {
         requires count { length registries.now ≡ self.old.settings.node.shards }
         ensures goes { Goes self.old self.new }
         ensures same { self.new.settings ≡ self.old.settings }
+        ensures grew { OnOk result (length self.old.log < length self.new.log) }
     {
         self.dials.reserve()?;
         self.take(registries, Step::Drop(source))?;
@@ -78,6 +81,7 @@ impl LiveNode {
         requires count { length registries.now ≡ self.old.settings.node.shards }
         ensures goes { Goes self.old self.new }
         ensures same { self.new.settings ≡ self.old.settings }
+        ensures grew { OnOk result (length self.old.log < length self.new.log) }
     {
         self.timers.arm(machine, generation, ticks)?;
         self.take(registries, Step::Drop(source))
@@ -89,6 +93,7 @@ impl LiveNode {
         requires count { length registries.now ≡ self.old.settings.node.shards }
         ensures goes { Goes self.old self.new }
         ensures same { self.new.settings ≡ self.old.settings }
+        ensures grew { OnOk result (length self.old.log < length self.new.log) }
     {
         match self.core.hand(source)? {
             Some(Item::Dial { .. }) => self.drop_dial(registries, source),
@@ -114,6 +119,7 @@ impl LiveNode {
         requires count { length registries.now ≡ self.old.settings.node.shards }
         ensures goes { Goes self.old self.new }
         ensures same { self.new.settings ≡ self.old.settings }
+        ensures grew { OnOk result (length self.old.log < length self.new.log) }
     {
         match source {
             Source::Shard(_) => self.drop_of_shard(registries, source),
@@ -125,6 +131,7 @@ impl LiveNode {
     fn carry_once(&mut self, registries: &[Registry], source: Source) -> Result<bool, AllocError>
         requires laws { Each (λ r. r.book ≡ all_laws) registries.now }
         requires count { length registries.now ≡ self.old.settings.node.shards }
+        ensures went { IfOk result (λ went. Went (IsStill source) went self.old self.new) }
         ensures goes { Goes self.old self.new }
         ensures same { self.new.settings ≡ self.old.settings }
     {
@@ -139,22 +146,26 @@ impl LiveNode {
         Ok(false)
     }
 
-    // Carries what a source put out, as far as it can be.
+    // Carries what a source put out, as far as it can be. Says whether something was.
     pub(crate) fn carry(
         &mut self,
         registries: &[Registry],
         source: Source,
-    ) -> Result<(), AllocError>
+    ) -> Result<bool, AllocError>
         requires laws { Each (λ r. r.book ≡ all_laws) registries.now }
         requires count { length registries.now ≡ self.old.settings.node.shards }
+        ensures went { IfOk result (λ went. Went (IsStill source) went self.old self.new) }
         ensures goes { Goes self.old self.new }
         ensures same { self.new.settings ≡ self.old.settings }
     {
+        if !self.carry_once(registries, source)? {
+            return Ok(false);
+        }
         'carries: for _ in 0..MAX_CARRIES {
             if !self.carry_once(registries, source)? {
-                return Ok(());
+                return Ok(true);
             }
         }
-        Ok(())
+        Ok(true)
     }
 }

@@ -17,7 +17,7 @@ use Rattle.tab_text.specs.Faults.{first_fault}
 use Rattle.tab_walk.specs.Starts.{from_of}
 use Rattle.tab_walk.specs.Walks.{IsWalkedOn}
 use Rattle.tab_walk.specs.declared.start.Manner.{Manner}
-use Rattle.cmd_words.specs.Words.{Wanted, Read, Walk, Names, Table, Draw, Assemble, ListImage, Run, Debug, Sample, Nothing}
+use Rattle.cmd_words.specs.Words.{Wanted, Read, Walk, Names, Table, Draw, Assemble, ListImage, Run, Debug, Sample, Live, Nothing}
 
 -- A table, or its image, and then events were read whole, and what is told is the walk of the table over the events, over all laws,
 -- in the manner that was asked for.
@@ -78,5 +78,7 @@ IsMet remaining reads failures contents write_failures idle (Debug config script
     IsDebugMet remaining reads failures contents write_failures idle script source source' sink sink' answer
 IsMet remaining reads failures contents write_failures idle Sample source source' sink sink' answer =
     (source' ≡ source) × Tells contents write_failures idle sink sink' SAMPLE.now statuses.Done answer
+IsMet remaining reads failures contents write_failures idle (Live config host seconds log) source source' sink sink' answer =
+    (source' ≡ source) × (text : List ℕ) × Tells contents write_failures idle sink sink' text statuses.Usage answer
 IsMet remaining reads failures contents write_failures idle Nothing source source' sink sink' answer =
     (source' ≡ source) × (text : List ℕ) × Tells contents write_failures idle sink sink' text statuses.Usage answer

@@ -3,11 +3,12 @@
 
 use base_device::{Counting, Inputs};
 use base_prompt::Prompted;
+use cmd_live::{live, live_one, live_words};
 use cmd_run::{main_on, tell_no_words};
 use cmd_words::given_words;
-use std::io;
 use std::io::IsTerminal;
 use std::process::ExitCode;
+use std::{io, thread};
 
 /// Whether the first word behind the program's name is that of a command that talks.
 fn is_dialog(words: &[String]) -> bool {
@@ -28,7 +29,15 @@ fn main(rt: HostRuntime) -> ExitCode {
             };
             let standard = Prompted::new(rt.stdin(), prompts);
             let mut source = Counting::new(Inputs::new(&rt, standard));
-            main_on(rt.alloc(), &words, &mut source, &mut sink)
+            match live_words(rt.alloc(), &words) {
+                Some(asked) => {
+                    let together = |livings| {
+                        thread::map_vec(&rt, livings, &|living| live_one(&rt, rt.alloc(), living))
+                    };
+                    live(&rt, asked, &mut source, &mut sink, &together)
+                }
+                None => main_on(rt.alloc(), &words, &mut source, &mut sink),
+            }
         }
         Err(why) => tell_no_words(why, &mut sink),
     };

@@ -1,7 +1,7 @@
 use Rattle.std.proofs.Common.{◌≡◌}
 use Rattle.bench_node.specs.Going.{Goes}
-use Rattle.bench_node.proofs.node.LiveNode.carry_others.Given as goal
+use Rattle.cmd_live.proofs.turns.tell_all.Given as goal
 
 -- steps were taken so far, and nothing else
 abbrev pub invariant-desks : goal.invariant-desks
-invariant-desks g l = Goes l.initial.self l.self × (l.self.settings ≡ l.initial.self.settings)
+invariant-desks l = Goes l.initial.node l.node × (l.node.settings ≡ l.initial.node.settings)
