@@ -1,3 +1,4 @@
 pub mod GoingLemmas
 pub mod OpenLemmas
 pub mod WentLemmas
+pub mod FireLemmas
