@@ -3,6 +3,7 @@ use Rattle.std.proofs.Common.{◌≡◌, ◌<◌, ◌≤◌, ◌+◌, ◌∙◌,
 use Rattle.std.proofs.lemmas.Bool.Decides.{nat_tests}
 use Rattle.bench_item.specs.declared.source.Source.TheVariants as of
 use Rattle.bench_item.specs.declared.step.Step.TheVariants as steps
+use Rattle.bench_node.specs.declared.node.TheConstants.{LINE_PLACES}
 use Rattle.bench_spec.specs.Lines.{openings}
 use Rattle.bench_spec.specs.Taken.{Run}
 use Rattle.bench_node.specs.Settled.{AreDesksStill, AreIdle, AreLinesStill, AreShardsStill, IsRefused, IsStill, Says, Went}
@@ -40,8 +41,21 @@ next_line count run below at =
     λ line some within opened. next_below (λ (n : ℕ). 0 < n → n ≤ length (openings run.log) → IsStill (of.Line n) run) count
     (λ n less positive there. below n positive less there) (λ positive there. at) line within some opened
 
+-- none is before the first
+pub no_lines : (run : Run) → AreLinesStill 1 run
+no_lines run = λ line some within opened. absurd (omega (arith, some, within))
+
+pub no_desks : (run : Run) → AreDesksStill 0 run
+no_desks run = λ desk within. absurd (omega (arith, within))
+
+pub no_shards : (run : Run) → AreShardsStill 0 run
+no_shards run = λ shard within. absurd (omega (arith, within))
+
+pub no_works : (run : Run) → AreIdle 0 run
+no_works run = λ shard within. absurd (omega (arith, within))
+
 -- no connection was opened behind those that were looked at
-pub all_lines : (count : ℕ) (run : Run) → length (openings run.log) < count → AreLinesStill count run → AreLinesStill 1025 run
+pub all_lines : (count : ℕ) (run : Run) → length (openings run.log) < count → AreLinesStill count run → AreLinesStill LINE_PLACES run
 all_lines count run few below = λ line some within opened. below line some (omega (arith, few, opened)) opened
 
 -- of a pass that added nothing, and of those before it

@@ -5,6 +5,7 @@ use Rattle.bench_item.specs.declared.source.Source.{Source}
 use Rattle.bench_item.specs.declared.source.Source.TheVariants as of
 use Rattle.bench_item.specs.declared.step.Step.{Step}
 use Rattle.bench_item.specs.declared.step.Step.TheVariants as steps
+use Rattle.bench_node.specs.declared.node.TheConstants.{LINE_PLACES}
 use Rattle.bench_spec.specs.Lines.{openings}
 use Rattle.bench_spec.specs.Refusal.{refusal}
 use Rattle.bench_spec.specs.Taken.{Run}
@@ -36,7 +37,7 @@ AreIdle count run = (shard : ℕ) → shard < count → IsRefused run (steps.Wor
 
 -- nothing that waits can be carried or handled: there are no more connections, shards and desks than these
 pub record IsSettled (run : Run) : Type 0 where
-  pub lines : AreLinesStill 1025 run
+  pub lines : AreLinesStill LINE_PLACES run
   pub clock : IsStill of.Clock run
   pub desks : AreDesksStill MAX_DESKS run
   pub shards : AreShardsStill MAX_SHARDS run

@@ -10,19 +10,19 @@
 //! | `log` | the logs written to files |
 //! | `told` | what is told of all nodes |
 //! | `words` | what the words of a command line ask for |
-//! | `live` | all of that, from words to a status |
+//! | `run` | all of that, from words to a status |
 #![tactic(auto)]
 
-mod live;
 mod log;
 mod nodes;
 mod opening;
 mod places;
 mod report;
+mod run;
 mod told;
 mod turns;
 mod words;
 
-pub use live::live;
+pub use run::live;
 pub use turns::{Lived, Living, live_one};
 pub use words::{LiveWords, live_words};
