@@ -1,5 +1,5 @@
 -- Timers fired, one after the other.
-use Rattle.std.proofs.Common.{◌≡◌, ◌∙◌, ◌<◌, ◌+◌, ◌++◌, ◌∷◌, [], ℕ, List, Option, Result, Ok, Err, OnErr, OnOk, None, Some, ap, get_or, inl, inr, length, subst, sym, take}
+use Rattle.std.proofs.Common.{◌≡◌, ◌∙◌, ◌<◌, ◌+◌, ◌++◌, ◌∷◌, [], ℕ, List, Some, ap, get_or, inr, length, subst, sym, take}
 use Rattle.std.proofs.lemmas.List.{take_more}
 use Rattle.bench_item.specs.declared.step.StepFault.{StepFault}
 use Rattle.bench_spec.specs.Refusal.{refusal}

@@ -24,8 +24,12 @@ next_below : (P : ℕ → Type 0) (count : ℕ) → ((n : ℕ) → n < count →
 next_below P count below at n within = by (n == count) refl
   where
     by : (b : Bool) → (n == count) ≡ b → P n
-    by true is = subst P (sym (grind (arith, nat_tests, is))) at
-    by false is = below n (grind (arith, nat_tests, is, within))
+    by true is =
+        let same : n ≡ count = grind (arith, nat_tests, is) in
+        subst P (sym same) at
+    by false is =
+        let less : n < count = grind (arith, nat_tests, is, within) in
+        below n less
 
 pub next_desk : (count : ℕ) (run : Run) → AreDesksStill count run → IsStill (of.Desk count) run → AreDesksStill (count + 1) run
 next_desk count run below at = next_below (λ (n : ℕ). IsStill (of.Desk n) run) count below at

@@ -1,3 +1,2 @@
 pub mod LawLemmas
-pub mod LogLemmas
 pub mod ToldLemmas

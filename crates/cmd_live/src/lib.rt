@@ -6,18 +6,14 @@
 //! | `places` | where nodes listen, and where peers are dialled |
 //! | `nodes` | the nodes of a CONFIG that are to live, opened, and their sockets |
 //! | `turns` | the loop of a node: timers, desks, sockets |
-//! | `report` | what is printed of a node, and its log as text |
-//! | `log` | the logs written to files |
 //! | `told` | what is told of all nodes |
 //! | `words` | what the words of a command line ask for |
 //! | `run` | all of that, from words to a status |
 #![tactic(auto)]
 
-mod log;
 mod nodes;
 mod opening;
 mod places;
-mod report;
 mod run;
 mod told;
 mod turns;

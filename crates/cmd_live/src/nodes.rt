@@ -4,7 +4,6 @@ ghost use Rattle.cmd_live.specs.Met.{hosts_of, is_wanted, wanted_host};
 
 use crate::opening::{Opened, Opening, Refused, open};
 use crate::places::{Listens, addresses_of, listening_at};
-use crate::report::put_host;
 use crate::turns::Living;
 use base_list::Octets;
 use base_text::put_number;
@@ -13,6 +12,7 @@ use bench_node::LiveNode;
 use bench_open::Config;
 use bench_setup::Setup;
 use config_text::NodeConfig;
+use live_report::put_host;
 use net_sockets::{Sockets, SocketsFault};
 use node_port::NodePort;
 use std::alloc::{AllocError, Global};
@@ -95,6 +95,7 @@ fn living_of<R: Net>(
 #[derive(Drop)]
 pub(crate) struct Nodes {
     pub(crate) hosts: Vec<Octets>,
+    pub(crate) nodes: Vec<NodeConfig>,
     pub(crate) livings: Vec<Living>,
 }
 
@@ -138,22 +139,31 @@ fn hosts_of(
     Ok(hosts)
 }
 
+/// Nodes that were opened, and what CONFIG says of them.
+#[derive(Drop)]
+struct Begun {
+    nodes: Vec<NodeConfig>,
+    livings: Vec<Living>,
+}
+
 /// Opens the nodes that are to live.
-fn livings_of<R: Net>(
+fn begun_of<R: Net>(
     rt: &R,
     alloc: Global,
     setups: Vec<Setup>,
     host: Option<&str>,
     seconds: u64,
-) -> Result<Vec<Living>, Refused> {
+) -> Result<Begun, Refused> {
+    let mut nodes = Vec::new(alloc);
     let mut livings = Vec::new(alloc);
     'setups: for (place, setup) in setups.into_iter().enumerate() {
         if is_wanted(&setup, host) {
             let Setup { node, bench } = setup;
             livings.push(living_of(rt, alloc, place, &node, bench, seconds)?)?;
+            nodes.push(node)?;
         }
     }
-    Ok(livings)
+    Ok(Begun { nodes, livings })
 }
 
 /// The nodes that are to live, of which there has to be one.
@@ -171,8 +181,10 @@ pub(crate) fn nodes_of<R: Net>(
     if hosts.is_empty() {
         return Err(no_node(alloc, host)?);
     }
+    let Begun { nodes, livings } = begun_of(rt, alloc, setups, host, seconds)?;
     Ok(Nodes {
-        livings: livings_of(rt, alloc, setups, host, seconds)?,
         hosts,
+        nodes,
+        livings,
     })
 }

@@ -1,6 +1,6 @@
 use Rattle.std.proofs.Common.{◌≡◌, ◌++◌, take, flat_map}
-use Rattle.cmd_live.specs.Told.{file_octet}
-use Rattle.cmd_live.proofs.report.put_file.Given as goal
+use Rattle.live_report.specs.Files.{file_octet}
+use Rattle.live_report.proofs.report.put_file.Given as goal
 
 -- the octets so far were put
 abbrev pub invariant-loop-octet : goal.invariant-loop-octet

@@ -1,6 +1,6 @@
 use Rattle.std.proofs.Common.{◌≡◌, ◌++◌, take}
 use Rattle.step_text.specs.Names.{shown}
-use Rattle.cmd_live.proofs.report.put_host.Given as goal
+use Rattle.live_report.proofs.report.put_host.Given as goal
 
 -- the octets so far were put
 abbrev pub invariant-loop-octet : goal.invariant-loop-octet

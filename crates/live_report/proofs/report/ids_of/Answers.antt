@@ -3,7 +3,7 @@ use Rattle.std.proofs.lemmas.Result.{IfOk-weaker}
 use Rattle.acct_book.specs.Book.{Opened}
 use Rattle.bench_open.specs.Given.{opened_as}
 use Rattle.bench_open.specs.declared.account.Account.{Account}
-use Rattle.cmd_live.proofs.report.ids_of.Goals as goal
+use Rattle.live_report.proofs.report.ids_of.Goals as goal
 
 -- the numbers of accounts are those with which they are opened
 opened_ids : (accounts : List Account) → map (λ (account : Opened). account.id) (map opened_as accounts) ≡ map (λ (account : Account). account.id) accounts

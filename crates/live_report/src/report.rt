@@ -3,7 +3,8 @@
 
 ghost use Rattle.std.specs.Prelude.{◌≡◌, ◌++◌, ◌∷◌, [], IfOk, OnOk, codes, flat_map, map};
 ghost use Rattle.hex.specs.Hex.{encode_lower};
-ghost use Rattle.cmd_live.specs.Told.{fault_text, file_octet, ids_of, log_text, node_text, report_text, unwritten_text};
+ghost use Rattle.live_report.specs.Files.{file_octet};
+ghost use Rattle.live_report.specs.Reports.{fault_text, ids_of, log_text, node_text, report_text, unwritten_text};
 ghost use Rattle.step_text.specs.Names.{shown, shown_octet};
 
 use base_text::{put_hex, put_number};
@@ -43,7 +44,7 @@ fn put_file_octet(out: &mut Vec<u8>, octet: u8) -> Result<(), AllocError>
 }
 
 /// Puts a host as a word.
-pub(crate) fn put_host(out: &mut Vec<u8>, host: &[u8]) -> Result<(), AllocError>
+pub fn put_host(out: &mut Vec<u8>, host: &[u8]) -> Result<(), AllocError>
     ensures { OnOk result (out.new.items ≡ out.old.items ++ shown host.now) }
 {
     for octet in host {
@@ -117,19 +118,19 @@ fn put_fault(
     }
 }
 
-/// Puts that a node's log was not written, where it was not.
+/// Puts that a node's files were not written, where they were not.
 fn put_unwritten(out: &mut Vec<u8>, host: &[u8], is_unwritten: bool) -> Result<(), AllocError>
     ensures { OnOk result (out.new.items ≡ out.old.items ++ unwritten_text host.now is_unwritten) }
 {
     if is_unwritten {
-        put_line(out, host, b": its log can't be written\n")
+        put_line(out, host, b": its files can't be written\n")
     } else {
         Ok(())
     }
 }
 
 /// Puts what is told of a node.
-pub(crate) fn put_node(
+pub fn put_node(
     alloc: Global,
     out: &mut Vec<u8>,
     host: &[u8],
@@ -145,7 +146,7 @@ pub(crate) fn put_node(
 }
 
 /// The text of a log.
-pub(crate) fn log_text(alloc: Global, core: &Core) -> Result<Vec<u8>, AllocError>
+pub fn log_text(alloc: Global, core: &Core) -> Result<Vec<u8>, AllocError>
     ensures { IfOk result (λ text. text.items ≡ log_text core.now) }
 {
     let mut out = Vec::new(alloc);

@@ -1,6 +1,6 @@
 use Rattle.std.proofs.Common.{◌≡◌, take, flat_map}
 use Rattle.bench_script.specs.Printed.{taken_text}
-use Rattle.cmd_live.proofs.report.log_text.Given as goal
+use Rattle.live_report.proofs.report.log_text.Given as goal
 
 -- the entries so far were put
 abbrev pub invariant-places : goal.invariant-places
