@@ -1,4 +1,5 @@
 pub mod GoingLemmas
 pub mod OpenLemmas
+pub mod LawLemmas
 pub mod WentLemmas
 pub mod FireLemmas

@@ -1,4 +1,6 @@
 //! A client's node and a server's, opened as a CONFIG says, and turns of both.
+#![tactic(auto, using(bench_node::proofs::LawLemmas::same_laws))]
+
 ghost use Rattle.std.specs.Prelude.{◌≡◌};
 ghost use Rattle.std.specs.List.{AllByRecursion as Each};
 ghost use Rattle.role_tables.specs.Roles.{all_laws};
