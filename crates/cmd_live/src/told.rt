@@ -115,7 +115,7 @@ pub(crate) fn tell_all<R: Files>(
         status: Status::Done,
     };
     'hosts: for place in 0..hosts.len() {
-        let Some(Ended { node, lived }) = ended_at(nodes, lived, place) else {
+        let Some(Ended { node, lived: one }) = ended_at(nodes, lived, place) else {
             return Err(AllocError);
         };
         tell_node(
@@ -125,7 +125,7 @@ pub(crate) fn tell_all<R: Files>(
             places,
             hosts[place].as_slice(),
             node,
-            lived,
+            one,
         )?;
     }
     Ok(told)
