@@ -12,22 +12,22 @@ use Rattle.hex.specs.Hex.{encode_lower}
 abbrev pub string_octet : ℕ → List ℕ
 string_octet c = if nat_lt c 32 || (c == 34) || (c == 92) then codes "\\u00" ++ encode_lower (c ∷ []) else c ∷ []
 
-abbrev pub string : List ℕ → List ℕ
+unfoldable pub string : List ℕ → List ℕ
 string text = codes "\"" ++ flat_map string_octet text ++ codes "\""
 
-abbrev pub string_or_null : Option (List ℕ) → List ℕ
+unfoldable pub string_or_null : Option (List ℕ) → List ℕ
 string_or_null None = codes "null"
 string_or_null (Some text) = string text
 
 -- a list of items, each of which stands behind a comma and a blank, but for the first
-abbrev pub bracketed : List ℕ → List ℕ
+unfoldable pub bracketed : List ℕ → List ℕ
 bracketed items = codes "[" ++ drop 2 items ++ codes "]"
 
 -- four numbers between dots
 abbrev pub numbers_text : List ℕ → List ℕ
 numbers_text numbers = flat_map (λ number. codes "." ++ decimal number) numbers
 
-abbrev pub address_text : List ℕ → List ℕ
+unfoldable pub address_text : List ℕ → List ℕ
 address_text address = codes "\"" ++ drop 1 (numbers_text address) ++ codes "\""
 
 abbrev pub peer_item : PeerConfig → List ℕ
@@ -54,22 +54,22 @@ desk_item desk = codes ", {\"repeat\": " ++ decimal desk.repeat ++ codes ", \"li
 abbrev pub desks_text : List DeskConfig → List ℕ
 desks_text desks = bracketed (flat_map desk_item desks)
 
-abbrev pub identity_text : Identity → List ℕ
+unfoldable pub identity_text : Identity → List ℕ
 identity_text identity =
     codes "\"host\": " ++ string identity.host ++ codes ",\n    \"realm\": " ++ string identity.realm
     ++ codes ",\n    \"address\": " ++ address_text identity.address
 
-abbrev pub lists_text : NodeConfig → List ℕ
+unfoldable pub lists_text : NodeConfig → List ℕ
 lists_text node =
     codes ",\n    \"peers\": " ++ peers_text node.peers ++ codes ",\n    \"accounts\": " ++ accounts_text node.accounts
     ++ codes ",\n    \"desks\": " ++ desks_text node.desks
 
-abbrev pub counts_text : NodeConfig → List ℕ
+unfoldable pub counts_text : NodeConfig → List ℕ
 counts_text node =
     codes ",\n    \"shards\": " ++ decimal node.shards ++ codes ",\n    \"pages\": " ++ decimal node.pages
     ++ codes ",\n    \"default_units\": " ++ decimal node.default_units ++ codes ",\n    \"turns\": " ++ decimal node.turns
 
-abbrev pub files_text : Files → List ℕ
+unfoldable pub files_text : Files → List ℕ
 files_text files =
     codes ",\n    \"tables\": {\"peer\": " ++ string_or_null files.tables.peer
     ++ codes ", \"client\": " ++ string_or_null files.tables.client

@@ -36,6 +36,7 @@ fn put_string_octets(out: &mut Vec<u8>, text: &[u8]) -> Result<(), AllocError>
 }
 
 /// Puts a label and a string.
+#[tactic(auto, unfolding(crate::specs::Json::string))]
 pub(crate) fn put_string(out: &mut Vec<u8>, label: &[u8], text: &[u8]) -> Result<(), AllocError>
     ensures { OnOk result (out.new.items ≡ out.old.items ++ label.now ++ string text.now) }
 {
@@ -46,6 +47,7 @@ pub(crate) fn put_string(out: &mut Vec<u8>, label: &[u8], text: &[u8]) -> Result
 }
 
 /// Puts a label and a string, `null` where there is none.
+#[tactic(auto, unfolding(crate::specs::Json::string_or_null))]
 pub(crate) fn put_string_or_null(
     out: &mut Vec<u8>,
     label: &[u8],
@@ -63,6 +65,7 @@ pub(crate) fn put_string_or_null(
 }
 
 /// Puts a label and a list, of items each of which stands behind a comma and a blank.
+#[tactic(auto, unfolding(crate::specs::Json::bracketed))]
 pub(crate) fn put_bracketed(out: &mut Vec<u8>, label: &[u8], items: &[u8]) -> Result<(), AllocError>
     ensures { OnOk result (out.new.items ≡ out.old.items ++ label.now ++ bracketed items.now) }
 {

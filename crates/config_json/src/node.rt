@@ -10,6 +10,7 @@ use dia_write::Identity;
 use std::alloc::{AllocError, Global};
 
 /// Puts who a node is.
+#[tactic(auto, unfolding(crate::specs::Json::identity_text))]
 fn put_identity(
     alloc: Global,
     out: &mut Vec<u8>,
@@ -23,6 +24,7 @@ fn put_identity(
 }
 
 /// Puts the lists of a node.
+#[tactic(auto, unfolding(crate::specs::Json::lists_text))]
 fn put_lists(alloc: Global, out: &mut Vec<u8>, node: &NodeConfig) -> Result<(), AllocError>
     ensures { OnOk result (out.new.items ≡ out.old.items ++ lists_text node.now) }
 {
@@ -32,6 +34,7 @@ fn put_lists(alloc: Global, out: &mut Vec<u8>, node: &NodeConfig) -> Result<(), 
 }
 
 /// Puts the numbers of a node.
+#[tactic(auto, unfolding(crate::specs::Json::counts_text))]
 fn put_counts(out: &mut Vec<u8>, node: &NodeConfig) -> Result<(), AllocError>
     ensures { OnOk result (out.new.items ≡ out.old.items ++ counts_text node.now) }
 {
@@ -42,6 +45,7 @@ fn put_counts(out: &mut Vec<u8>, node: &NodeConfig) -> Result<(), AllocError>
 }
 
 /// Puts the files that a node names.
+#[tactic(auto, unfolding(crate::specs::Json::files_text))]
 fn put_files(out: &mut Vec<u8>, files: &Files) -> Result<(), AllocError>
     ensures { OnOk result (out.new.items ≡ out.old.items ++ files_text files.now) }
 {

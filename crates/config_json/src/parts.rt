@@ -20,6 +20,7 @@ fn put_numbers(out: &mut Vec<u8>, numbers: &[u8]) -> Result<(), AllocError>
 }
 
 /// Puts a label and an address.
+#[tactic(auto, unfolding(crate::specs::Json::address_text))]
 pub(crate) fn put_address(
     alloc: Global,
     out: &mut Vec<u8>,
