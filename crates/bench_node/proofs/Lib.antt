@@ -1,5 +1,2 @@
 pub mod GoingLemmas
 pub mod OpenLemmas
-pub mod LawLemmas
-pub mod WentLemmas
-pub mod FireLemmas

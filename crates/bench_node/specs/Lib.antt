@@ -1,4 +1,2 @@
 pub mod Going
 pub mod Telling
-pub mod Settled
-pub mod Firings

@@ -1,10 +1,9 @@
 //! An item carried, and what a drop leaves to be dialled or timed.
 #![tactic(auto, using(crate::proofs::GoingLemmas::going))]
 
-ghost use Rattle.std.specs.Prelude.{◌≡◌, ◌<◌, IfOk, OnErr, OnOk, is_none, length};
+ghost use Rattle.std.specs.Prelude.{◌≡◌, OnErr, OnOk, is_none, length};
 ghost use Rattle.std.specs.List.{AllByRecursion as Each};
 ghost use Rattle.bench_node.specs.Going.{Goes};
-ghost use Rattle.bench_node.specs.Settled.{IsStill, Went};
 ghost use Rattle.role_tables.specs.Roles.{all_laws};
 ghost use Rattle.bench_spec.specs.Refusal.{refusal};
 ghost use Rattle.bench_spec.specs.Taken.{Takes};
@@ -14,7 +13,7 @@ use bench_item::{Item, Source, Step};
 use std::alloc::AllocError;
 use tab_call::Registry;
 
-/// The most steps, but for the first, with which one source is carried before others come.
+/// The most steps with which one source is carried before others come.
 const MAX_CARRIES: usize = 4_096;
 
 impl LiveNode {
@@ -40,7 +39,6 @@ impl LiveNode {
         ensures err { OnErr result (self.new ≡ self.old) }
         ensures goes { Goes self.old self.new }
         ensures same { self.new.settings ≡ self.old.settings }
-        ensures grew { OnOk result (length self.old.log < length self.new.log) }
     {
         self.try_step(registries, step)
     }
@@ -58,7 +56,6 @@ impl LiveNode {
         requires count { length registries.now ≡ self.old.settings.node.shards }
         ensures goes { Goes self.old self.new }
         ensures same { self.new.settings ≡ self.old.settings }
-        ensures grew { OnOk result (length self.old.log < length self.new.log) }
     {
         self.dials.reserve()?;
         self.take(registries, Step::Drop(source))?;
@@ -81,7 +78,6 @@ impl LiveNode {
         requires count { length registries.now ≡ self.old.settings.node.shards }
         ensures goes { Goes self.old self.new }
         ensures same { self.new.settings ≡ self.old.settings }
-        ensures grew { OnOk result (length self.old.log < length self.new.log) }
     {
         self.timers.arm(machine, generation, ticks)?;
         self.take(registries, Step::Drop(source))
@@ -93,7 +89,6 @@ impl LiveNode {
         requires count { length registries.now ≡ self.old.settings.node.shards }
         ensures goes { Goes self.old self.new }
         ensures same { self.new.settings ≡ self.old.settings }
-        ensures grew { OnOk result (length self.old.log < length self.new.log) }
     {
         match self.core.hand(source)? {
             Some(Item::Dial { .. }) => self.drop_dial(registries, source),
@@ -119,7 +114,6 @@ impl LiveNode {
         requires count { length registries.now ≡ self.old.settings.node.shards }
         ensures goes { Goes self.old self.new }
         ensures same { self.new.settings ≡ self.old.settings }
-        ensures grew { OnOk result (length self.old.log < length self.new.log) }
     {
         match source {
             Source::Shard(_) => self.drop_of_shard(registries, source),
@@ -131,7 +125,6 @@ impl LiveNode {
     fn carry_once(&mut self, registries: &[Registry], source: Source) -> Result<bool, AllocError>
         requires laws { Each (λ r. r.book ≡ all_laws) registries.now }
         requires count { length registries.now ≡ self.old.settings.node.shards }
-        ensures went { IfOk result (λ went. Went (IsStill source) went self.old self.new) }
         ensures goes { Goes self.old self.new }
         ensures same { self.new.settings ≡ self.old.settings }
     {
@@ -146,26 +139,22 @@ impl LiveNode {
         Ok(false)
     }
 
-    // Carries what a source put out, as far as it can be. Says whether something was.
+    // Carries what a source put out, as far as it can be.
     pub(crate) fn carry(
         &mut self,
         registries: &[Registry],
         source: Source,
-    ) -> Result<bool, AllocError>
+    ) -> Result<(), AllocError>
         requires laws { Each (λ r. r.book ≡ all_laws) registries.now }
         requires count { length registries.now ≡ self.old.settings.node.shards }
-        ensures went { IfOk result (λ went. Went (IsStill source) went self.old self.new) }
         ensures goes { Goes self.old self.new }
         ensures same { self.new.settings ≡ self.old.settings }
     {
-        if !self.carry_once(registries, source)? {
-            return Ok(false);
-        }
         'carries: for _ in 0..MAX_CARRIES {
             if !self.carry_once(registries, source)? {
-                return Ok(true);
+                return Ok(());
             }
         }
-        Ok(true)
+        Ok(())
     }
 }

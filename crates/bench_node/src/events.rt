@@ -35,6 +35,17 @@ impl LiveNode {
         }
     }
 
+    // The same of a connection.
+    fn happens_on(&mut self, line: u32, step: Step) -> Result<(), StepFault>
+        ensures ok { OnOk result (Takes self.old self.new step) }
+        ensures fault { IfErr result (λ f. f ≡ fault_of self.old step) }
+        ensures err { OnErr result (self.new ≡ self.old) }
+    {
+        self.happens(step)?;
+        self.touch(line);
+        Ok(())
+    }
+
     /// A connection was accepted. Answers its number; none where the step is refused, and then nothing changed.
     pub fn joined(&mut self) -> Option<u64>
         ensures taken { IfSome result (λ line. Takes self.old self.new steps.Joined × (line ≡ length (openings self.new.log))) }
@@ -52,7 +63,7 @@ impl LiveNode {
         ensures fault { IfErr result (λ f. f ≡ fault_of self.old (steps.Dialled line)) }
         ensures err { OnErr result (self.new ≡ self.old) }
     {
-        self.happens(Step::Dialled(line))
+        self.happens_on(line, Step::Dialled(line))
     }
 
     /// Octets came on a connection.
@@ -72,7 +83,7 @@ impl LiveNode {
         let Ok(piece) = Octets::from_slice(self.alloc, piece) else {
             return Err(StepFault::NoMemory);
         };
-        self.happens(Step::Came { line, piece })
+        self.happens_on(line, Step::Came { line, piece })
     }
 
     /// A connection was lost, or its dial refused.
@@ -81,7 +92,7 @@ impl LiveNode {
         ensures fault { IfErr result (λ f. f ≡ fault_of self.old (steps.Lost line)) }
         ensures err { OnErr result (self.new ≡ self.old) }
     {
-        self.happens(Step::Lost(line))
+        self.happens_on(line, Step::Lost(line))
     }
 
     // A connection that can be dialled nowhere is lost. Says whether it is.

@@ -28,6 +28,8 @@ pub struct LiveNode {
     pub(crate) core: Core,
     // Where a move is decided.
     pub(crate) room: Box<Stepped>,
+    // Of each connection, by its number, whether something happened there since all that it put out was carried.
+    pub(crate) touched: Vec<bool>,
     // The timers that are armed, over the moments that are handed in.
     pub(crate) timers: Wheel,
     pub(crate) dials: Dials,
@@ -40,6 +42,7 @@ impl Drop for LiveNode {
             alloc: _,
             core,
             room,
+            touched,
             timers,
             dials,
         } = self;
@@ -69,6 +72,7 @@ impl LiveNode {
             alloc,
             core,
             room: Box::new(alloc, Stepped::new())?,
+            touched: vec![in alloc; false; LINE_PLACES]?,
             timers: Wheel::new(alloc),
             dials: Dials::new(alloc, peers),
         })
@@ -79,5 +83,31 @@ impl LiveNode {
         ensures { result.now ≡ self.now }
     {
         &self.core
+    }
+
+    // Something happened on a connection.
+    pub(crate) fn touch(&mut self, line: u32)
+        ensures { self.new ≡ self.old }
+    {
+        if let Some(touched) = self.touched.get_mut(line as usize) {
+            *touched = true;
+        }
+    }
+
+    // Whether something happened on a connection since all that it put out was carried.
+    pub(crate) fn is_touched(&self, line: u32) -> bool {
+        match self.touched.get(line as usize) {
+            Some(touched) => *touched,
+            None => false,
+        }
+    }
+
+    // All that a connection put out was carried.
+    pub(crate) fn rest(&mut self, line: u32)
+        ensures { self.new ≡ self.old }
+    {
+        if let Some(touched) = self.touched.get_mut(line as usize) {
+            *touched = false;
+        }
     }
 }

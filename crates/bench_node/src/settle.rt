@@ -1,163 +1,140 @@
 //! All that waits is carried and handled.
 #![tactic(auto, using(crate::proofs::GoingLemmas::going))]
 
-ghost use Rattle.std.specs.Prelude.{◌≡◌, ◌⊎◌, ◌||◌, IfOk, OnOk, length};
+ghost use Rattle.std.specs.Prelude.{◌≡◌, length};
 ghost use Rattle.std.specs.List.{AllByRecursion as Each};
-ghost use Rattle.bench_item.specs.declared.source.Source.TheVariants.{Clock};
-ghost use Rattle.bench_item.specs.declared.step.Step.TheVariants as steps;
 ghost use Rattle.bench_node.specs.Going.{Goes};
-ghost use Rattle.bench_node.specs.Settled.{AreDesksStill, AreIdle, AreLinesStill, AreShardsStill, IsFull, IsRefused, IsSettled, Says, Went};
 ghost use Rattle.role_tables.specs.Roles.{all_laws};
 
 use crate::node::{LINE_PLACES, LiveNode};
-use bench_item::{MAX_DESKS, MAX_ENTRIES, MAX_SHARDS, MAX_WAITING, Source, Step};
+use bench_item::{MAX_ENTRIES, MAX_SHARDS, MAX_WAITING, Source, Step, StepFault};
 use std::alloc::AllocError;
 use tab_call::Registry;
 
-// Whether one of two is.
-fn either(one: bool, other: bool) -> bool
-    ensures { result ≡ (one || other) }
-{
-    one || other
-}
-
 impl LiveNode {
-    // Carries what the connections put out. Says whether something was.
-    fn carry_lines(&mut self, registries: &[Registry]) -> Result<bool, AllocError>
+    // Whether a connection has nothing left that it put out.
+    fn is_carried(&self, line: u32) -> bool {
+        let at = Source::Line(line);
+        matches!(self.core.refusal(&Step::Lift(at)), Some(StepFault::Nothing))
+            && matches!(self.core.refusal(&Step::Drop(at)), Some(StepFault::Nothing))
+    }
+
+    // Carries what a connection put out, where something happened there.
+    fn carry_line(&mut self, registries: &[Registry], line: u32) -> Result<(), AllocError>
         requires laws { Each (λ r. r.book ≡ all_laws) registries.now }
         requires count { length registries.now ≡ self.old.settings.node.shards }
-        ensures went { IfOk result (λ went. Went (AreLinesStill LINE_PLACES) went self.old self.new) }
         ensures goes { Goes self.old self.new }
         ensures same { self.new.settings ≡ self.old.settings }
     {
-        let mut went = false;
+        if !self.is_touched(line) {
+            return Ok(());
+        }
+        self.carry(registries, Source::Line(line))?;
+        if self.is_carried(line) {
+            self.rest(line);
+        }
+        Ok(())
+    }
+
+    // Carries what the connections put out on which something happened.
+    fn carry_lines(&mut self, registries: &[Registry]) -> Result<(), AllocError>
+        requires laws { Each (λ r. r.book ≡ all_laws) registries.now }
+        requires count { length registries.now ≡ self.old.settings.node.shards }
+        ensures goes { Goes self.old self.new }
+        ensures same { self.new.settings ≡ self.old.settings }
+    {
         'lines: for line in 1..LINE_PLACES as u32 {
-            if line as usize > self.core.lines() {
-                return Ok(went);
-            }
-            went = either(went, self.carry(registries, Source::Line(line))?);
+            self.carry_line(registries, line)?;
         }
-        Ok(went)
+        Ok(())
     }
 
-    // Carries what desks put out. Says whether something was.
-    fn carry_desks(&mut self, registries: &[Registry]) -> Result<bool, AllocError>
+    // Carries what shards put out.
+    fn carry_shards(&mut self, registries: &[Registry]) -> Result<(), AllocError>
         requires laws { Each (λ r. r.book ≡ all_laws) registries.now }
         requires count { length registries.now ≡ self.old.settings.node.shards }
-        ensures went { IfOk result (λ went. Went (AreDesksStill MAX_DESKS) went self.old self.new) }
         ensures goes { Goes self.old self.new }
         ensures same { self.new.settings ≡ self.old.settings }
     {
-        let mut went = false;
-        'desks: for desk in 0..MAX_DESKS as u32 {
-            went = either(went, self.carry(registries, Source::Desk(desk))?);
+        'shards: for shard in 0..self.core.shards().min(MAX_SHARDS) as u32 {
+            self.carry(registries, Source::Shard(shard))?;
         }
-        Ok(went)
+        Ok(())
     }
 
-    // Carries what shards put out. Says whether something was.
-    fn carry_shards(&mut self, registries: &[Registry]) -> Result<bool, AllocError>
+    // Carries what desks and the clock put out.
+    fn carry_others(&mut self, registries: &[Registry]) -> Result<(), AllocError>
         requires laws { Each (λ r. r.book ≡ all_laws) registries.now }
         requires count { length registries.now ≡ self.old.settings.node.shards }
-        ensures went { IfOk result (λ went. Went (AreShardsStill MAX_SHARDS) went self.old self.new) }
         ensures goes { Goes self.old self.new }
         ensures same { self.new.settings ≡ self.old.settings }
     {
-        let mut went = false;
-        'shards: for shard in 0..MAX_SHARDS as u32 {
-            went = either(went, self.carry(registries, Source::Shard(shard))?);
+        self.carry(registries, Source::Clock)?;
+        'desks: for desk in 0..self.core.desks() {
+            self.carry(registries, Source::Desk(desk))?;
         }
-        Ok(went)
+        Ok(())
     }
 
-    // Has a shard handle an item that waits there. Says whether it did.
-    fn work_once(&mut self, registries: &[Registry], shard: u32) -> Result<bool, AllocError>
+    // Has a shard handle what waits there, as far as it can.
+    fn work(&mut self, registries: &[Registry], shard: u32) -> Result<(), AllocError>
         requires laws { Each (λ r. r.book ≡ all_laws) registries.now }
         requires count { length registries.now ≡ self.old.settings.node.shards }
-        ensures went { IfOk result (λ went. Went (λ run. IsRefused run (steps.Work shard)) went self.old self.new) }
         ensures goes { Goes self.old self.new }
         ensures same { self.new.settings ≡ self.old.settings }
     {
-        if !self.is_free(&Step::Work(shard)) {
-            return Ok(false);
-        }
-        self.take(registries, Step::Work(shard))?;
-        Ok(true)
-    }
-
-    // Has a shard handle what waits there, as far as it can. Says whether something was.
-    fn work(&mut self, registries: &[Registry], shard: u32) -> Result<bool, AllocError>
-        requires laws { Each (λ r. r.book ≡ all_laws) registries.now }
-        requires count { length registries.now ≡ self.old.settings.node.shards }
-        ensures went { IfOk result (λ went. Went (λ run. IsRefused run (steps.Work shard)) went self.old self.new) }
-        ensures goes { Goes self.old self.new }
-        ensures same { self.new.settings ≡ self.old.settings }
-    {
-        if !self.work_once(registries, shard)? {
-            return Ok(false);
-        }
         'items: for _ in 0..MAX_WAITING {
-            if !self.work_once(registries, shard)? {
-                return Ok(true);
+            if !self.is_free(&Step::Work(shard)) {
+                return Ok(());
             }
+            self.take(registries, Step::Work(shard))?;
         }
-        Ok(true)
+        Ok(())
     }
 
-    // Has each shard handle what waits there. Says whether something was.
-    fn work_all(&mut self, registries: &[Registry]) -> Result<bool, AllocError>
+    // Has each shard handle what waits there.
+    fn work_all(&mut self, registries: &[Registry]) -> Result<(), AllocError>
         requires laws { Each (λ r. r.book ≡ all_laws) registries.now }
         requires count { length registries.now ≡ self.old.settings.node.shards }
-        ensures went { IfOk result (λ went. Went (AreIdle MAX_SHARDS) went self.old self.new) }
         ensures goes { Goes self.old self.new }
         ensures same { self.new.settings ≡ self.old.settings }
     {
-        let mut went = false;
-        'shards: for shard in 0..MAX_SHARDS as u32 {
-            went = either(went, self.work(registries, shard)?);
+        'shards: for shard in 0..self.core.shards().min(MAX_SHARDS) as u32 {
+            self.work(registries, shard)?;
         }
-        Ok(went)
+        Ok(())
     }
 
     // Carries and handles once what waits at each place. Says whether something was.
     fn pass(&mut self, registries: &[Registry]) -> Result<bool, AllocError>
         requires laws { Each (λ r. r.book ≡ all_laws) registries.now }
         requires count { length registries.now ≡ self.old.settings.node.shards }
-        ensures went { IfOk result (λ went. Went IsSettled went self.old self.new) }
         ensures goes { Goes self.old self.new }
         ensures same { self.new.settings ≡ self.old.settings }
     {
-        let by_lines = self.carry_lines(registries)?;
-        let by_clock = self.carry(registries, Source::Clock)?;
-        let by_desks = self.carry_desks(registries)?;
-        let by_shards = self.carry_shards(registries)?;
-        let by_work = self.work_all(registries)?;
-        Ok(either(
-            either(either(either(by_lines, by_clock), by_desks), by_shards),
-            by_work,
-        ))
+        let before = self.core.place();
+        self.carry_lines(registries)?;
+        self.carry_others(registries)?;
+        self.carry_shards(registries)?;
+        self.work_all(registries)?;
+        Ok(self.core.place() != before)
     }
 
-    /// Carries and handles all that waits, until nothing is left that can be, or the log is full: what a full inbox
-    /// holds back stays where it is. Says whether something was. Want of memory ends it; what was done until then
-    /// stays.
+    /// Carries and handles all that waits, until nothing moves: what a full inbox or a full log holds back stays
+    /// where it is. Says whether something was. Want of memory ends it; what was done until then stays.
     pub fn settle(&mut self, registries: &[Registry]) -> Result<bool, AllocError>
         requires laws { Each (λ r. r.book ≡ all_laws) registries.now }
         requires count { length registries.now ≡ self.old.settings.node.shards }
-        ensures settled { OnOk result (IsSettled self.new ⊎ IsFull self.new) }
-        ensures says { IfOk result (λ moved. Says moved self.old self.new) }
         ensures goes { Goes self.old self.new }
         ensures same { self.new.settings ≡ self.old.settings }
     {
         let mut moved = false;
-        let mut passes = 0;
         // Each pass but the last adds an entry, and a log has no more than these.
-        'passes: while passes < MAX_ENTRIES {
+        'passes: for _ in 0..MAX_ENTRIES {
             if !self.pass(registries)? {
-                return Ok(moved);
+                break;
             }
             moved = true;
-            passes += 1;
         }
         Ok(moved)
     }

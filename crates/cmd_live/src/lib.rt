@@ -7,8 +7,7 @@
 //! | `nodes` | the nodes of a CONFIG that are to live, opened, and their sockets |
 //! | `turns` | the loop of a node: timers, desks, sockets |
 //! | `told` | what is told of all nodes |
-//! | `words` | what the words of a command line ask for |
-//! | `run` | all of that, from words to a status |
+//! | `run` | all of that, to a status |
 #![tactic(auto)]
 
 mod nodes;
@@ -17,8 +16,6 @@ mod places;
 mod run;
 mod told;
 mod turns;
-mod words;
 
-pub use run::live;
+pub use run::{LiveWords, live};
 pub use turns::{Lived, Living, live_one};
-pub use words::{LiveWords, live_words};

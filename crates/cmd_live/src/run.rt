@@ -1,4 +1,4 @@
-//! `live`, from words to a status.
+//! `live`, from what its words ask for to a status.
 ghost use Rattle.std.specs.Prelude.{◌≡◌, ◌<◌, ◌≤◌, ◌+◌, ◌-◌, ◌*◌, ◌^◌, IfOk, None, length, max, option_map};
 ghost use Rattle.cmd_live.specs.Met.{IsLiveMet, hosts_of};
 ghost use Rattle.cmd_live.specs.Told.{AreTold, seconds_of};
@@ -7,7 +7,6 @@ use crate::nodes::{Nodes, nodes_of};
 use crate::opening::Refused;
 use crate::told::{Told, tell_all};
 use crate::turns::{Lived, Living};
-use crate::words::LiveWords;
 use base_device::{ByteSink, FileSource, MAX_IDLE_WRITES, MAX_READS, Status, tell};
 use base_text::number_of;
 use bench_setup::{Setup, read_nodes, tell_halt};
@@ -18,6 +17,19 @@ use std::net::Net;
 use std::rt::Files;
 
 const BAD_SECONDS: &str = "wanted: a number of seconds behind --seconds\n";
+
+/// What the words of `live` ask for.
+#[derive(Clone, Copy)]
+pub struct LiveWords<'a> {
+    /// The file of the nodes.
+    pub config: &'a str,
+    /// The host of the one node that lives; without it all do.
+    pub node: Option<&'a str>,
+    /// How many seconds at most.
+    pub seconds: Option<&'a str>,
+    /// The folder where logs are written.
+    pub log: Option<&'a str>,
+}
 
 /// What is told where no log can be written to a folder.
 fn no_folder(alloc: Global, folder: &str) -> Result<Refused, AllocError> {

@@ -1,10 +1,9 @@
 //! The loop of a node: timers, desks, sockets.
 #![tactic(auto, using(crate::proofs::LawLemmas::same_laws))]
 
-ghost use Rattle.std.specs.Prelude.{◌≡◌, ◌⊎◌, OnOk, length};
+ghost use Rattle.std.specs.Prelude.{◌≡◌, length};
 ghost use Rattle.std.specs.List.{AllByRecursion as Each};
 ghost use Rattle.bench_node.specs.Going.{Goes};
-ghost use Rattle.bench_node.specs.Settled.{IsFull, IsSettled};
 ghost use Rattle.role_tables.specs.Roles.{all_laws};
 
 use crate::opening::registry_count;
@@ -67,8 +66,7 @@ fn stir(
     moment: u64,
 ) -> Result<bool, SocketsFault>
     requires { Each (λ r. r.book ≡ all_laws) registries.now }
-    ensures goes { Goes node.old node.new }
-    ensures settled { OnOk result (IsSettled node.new ⊎ IsFull node.new) }
+    ensures { Goes node.old node.new }
 {
     // There is one for each shard.
     if registries.len() != node.core().shards() {
@@ -77,7 +75,7 @@ fn stir(
     let fired = node.advance(registries, moment)?;
     let told = tell_all(node, desks, registries)?;
     let moved = node.settle(registries)?;
-    Ok(!fired.is_empty() || told || moved)
+    Ok(fired || told || moved)
 }
 
 /// Makes the turns of a node.

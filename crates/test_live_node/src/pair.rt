@@ -1,5 +1,5 @@
 //! A client's node and a server's, opened as a CONFIG says, and turns of both.
-#![tactic(auto, using(bench_node::proofs::LawLemmas::same_laws))]
+#![tactic(auto, using(crate::proofs::LawLemmas::same_laws))]
 
 ghost use Rattle.std.specs.Prelude.{◌≡◌};
 ghost use Rattle.std.specs.List.{AllByRecursion as Each};

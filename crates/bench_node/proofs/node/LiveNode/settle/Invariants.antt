@@ -1,16 +1,7 @@
-use Rattle.std.proofs.Common.{◌≡◌, ◌≤◌, ◌-◌, length}
+use Rattle.std.proofs.Common.{◌≡◌}
 use Rattle.bench_node.specs.Going.{Goes}
-use Rattle.bench_node.specs.Settled.{Says}
 use Rattle.bench_node.proofs.node.LiveNode.settle.Given as goal
 
--- each pass so far added an entry
+-- steps were taken so far, and nothing else
 abbrev pub invariant-passes : goal.invariant-passes
-invariant-passes g l = record {
-  goes : Goes l.initial.self l.self;
-  same : l.self.settings ≡ l.initial.self.settings;
-  many : l.passes ≤ length l.self.log;
-  says : Says l.moved l.initial.self l.self;
-}
-
-abbrev pub decreases-passes : goal.decreases-passes
-decreases-passes g l = 1048576 - l.passes
+invariant-passes g l = Goes l.initial.self l.self × (l.self.settings ≡ l.initial.self.settings)

@@ -1,12 +1,7 @@
 use Rattle.std.proofs.Common.{◌≡◌}
 use Rattle.bench_node.specs.Going.{Goes}
-use Rattle.bench_node.specs.Settled.{AreIdle, Went}
 use Rattle.bench_node.proofs.node.LiveNode.work_all.Given as goal
 
--- steps were taken so far, or there was nothing to do
+-- steps were taken so far, and nothing else
 abbrev pub invariant-shards : goal.invariant-shards
-invariant-shards g l = record {
-  goes : Goes l.initial.self l.self;
-  same : l.self.settings ≡ l.initial.self.settings;
-  went : Went (AreIdle l.shard) l.went l.initial.self l.self;
-}
+invariant-shards g l = Goes l.initial.self l.self × (l.self.settings ≡ l.initial.self.settings)
