@@ -95,7 +95,6 @@ fn living_of<R: Net>(
 #[derive(Drop)]
 pub(crate) struct Nodes {
     pub(crate) hosts: Vec<Octets>,
-    pub(crate) nodes: Vec<NodeConfig>,
     pub(crate) livings: Vec<Living>,
 }
 
@@ -139,31 +138,22 @@ fn hosts_of(
     Ok(hosts)
 }
 
-/// Nodes that were opened, and what CONFIG says of them.
-#[derive(Drop)]
-struct Begun {
-    nodes: Vec<NodeConfig>,
-    livings: Vec<Living>,
-}
-
 /// Opens the nodes that are to live.
-fn begun_of<R: Net>(
+fn livings_of<R: Net>(
     rt: &R,
     alloc: Global,
     setups: Vec<Setup>,
     host: Option<&str>,
     seconds: u64,
-) -> Result<Begun, Refused> {
-    let mut nodes = Vec::new(alloc);
+) -> Result<Vec<Living>, Refused> {
     let mut livings = Vec::new(alloc);
     'setups: for (place, setup) in setups.into_iter().enumerate() {
         if is_wanted(&setup, host) {
             let Setup { node, bench } = setup;
             livings.push(living_of(rt, alloc, place, &node, bench, seconds)?)?;
-            nodes.push(node)?;
         }
     }
-    Ok(Begun { nodes, livings })
+    Ok(livings)
 }
 
 /// The nodes that are to live, of which there has to be one.
@@ -181,10 +171,8 @@ pub(crate) fn nodes_of<R: Net>(
     if hosts.is_empty() {
         return Err(no_node(alloc, host)?);
     }
-    let Begun { nodes, livings } = begun_of(rt, alloc, setups, host, seconds)?;
     Ok(Nodes {
+        livings: livings_of(rt, alloc, setups, host, seconds)?,
         hosts,
-        nodes,
-        livings,
     })
 }

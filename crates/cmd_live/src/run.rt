@@ -10,7 +10,6 @@ use crate::turns::{Lived, Living};
 use base_device::{ByteSink, FileSource, MAX_IDLE_WRITES, MAX_READS, Status, tell};
 use base_text::number_of;
 use bench_setup::{Setup, read_nodes, tell_halt};
-use live_report::Places;
 use std::alloc::{AllocError, AllocGlobal, Global};
 use std::fs::create_dir_all;
 use std::net::Net;
@@ -48,35 +47,20 @@ fn make_folder<R: Files>(rt: &R, alloc: Global, folder: Option<&str>) -> Result<
     Ok(())
 }
 
-/// Where files are written, where they are.
-fn places_of(words: LiveWords<'_>) -> Option<Places<'_>> {
-    match words.log {
-        Some(folder) => Some(Places {
-            folder,
-            config: words.config,
-        }),
-        None => None,
-    }
-}
-
 /// The nodes live, and are told of.
 fn live_all<R: Files, F: Fn(Vec<Living>) -> Result<Vec<Option<Lived>>, AllocError>>(
     rt: &R,
     alloc: Global,
     nodes: Nodes,
-    places: Option<Places<'_>>,
+    folder: Option<&str>,
     together: &F,
 ) -> Result<Told, Refused>
     requires { F.IsAlwaysCallable together.now }
     ensures { IfOk result (λ told. AreTold nodes.hosts.items told.text.items told.status) }
 {
-    let Nodes {
-        hosts,
-        nodes,
-        livings,
-    } = nodes;
+    let Nodes { hosts, livings } = nodes;
     let lived = together(livings)?;
-    Ok(tell_all(rt, alloc, places, &hosts, &nodes, &lived)?)
+    Ok(tell_all(rt, alloc, folder, &hosts, &lived)?)
 }
 
 /// The seconds that are wanted; without the word as many as a number tells.
@@ -104,7 +88,7 @@ fn live_setups<R: Net + Files, F: Fn(Vec<Living>) -> Result<Vec<Option<Lived>>, 
 {
     make_folder(rt, alloc, words.log)?;
     let nodes = nodes_of(rt, alloc, setups, words.node, seconds)?;
-    live_all(rt, alloc, nodes, places_of(words), together)
+    live_all(rt, alloc, nodes, words.log, together)
 }
 
 /// Reads a CONFIG and the files that its nodes name, has its nodes live, or the one that is wanted, over TCP, for the

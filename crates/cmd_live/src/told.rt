@@ -6,8 +6,7 @@ use crate::turns::Lived;
 use base_device::Status;
 use base_list::Octets;
 use bench_core::Core;
-use config_text::NodeConfig;
-use live_report::{Places, is_unwritten, put_node};
+use live_report::{is_unwritten, put_node};
 use net_sockets::SocketsFault;
 use std::alloc::{AllocError, Global};
 use std::rt::Files;
@@ -63,38 +62,26 @@ fn tell_of(
     Ok(())
 }
 
-/// Tells of one node more, and writes its files where that is wanted.
+/// Tells of one node more, and writes its log where that is wanted.
 fn tell_node<R: Files>(
     rt: &R,
     alloc: Global,
     told: &mut Told,
-    places: Option<Places<'_>>,
+    folder: Option<&str>,
     host: &[u8],
-    node: &NodeConfig,
     lived: &Lived,
 ) -> Result<(), AllocError>
     ensures { OnOk result (TellsOf host.now told.old.text.items told.new.text.items told.old.status told.new.status) }
 {
     let core = lived.living.sockets.node().node.core();
-    let is_unwritten = is_unwritten(rt, alloc, places, host, node, core)?;
+    let is_unwritten = is_unwritten(rt, alloc, folder, host, core)?;
     tell_of(alloc, told, host, core, lived.fault, is_unwritten)
 }
 
-/// A node that was to live, and what became of it.
-#[derive(Clone, Copy)]
-struct Ended<'a> {
-    node: &'a NodeConfig,
-    lived: &'a Lived,
-}
-
 /// The node at a place, if it lived.
-fn ended_at<'a>(
-    nodes: &'a [NodeConfig],
-    lived: &'a [Option<Lived>],
-    place: usize,
-) -> Option<Ended<'a>> {
-    match (nodes.get(place), lived.get(place)) {
-        (Some(node), Some(Some(lived))) => Some(Ended { node, lived }),
+fn lived_at(lived: &[Option<Lived>], place: usize) -> Option<&Lived> {
+    match lived.get(place) {
+        Some(Some(one)) => Some(one),
         _ => None,
     }
 }
@@ -103,9 +90,8 @@ fn ended_at<'a>(
 pub(crate) fn tell_all<R: Files>(
     rt: &R,
     alloc: Global,
-    places: Option<Places<'_>>,
+    folder: Option<&str>,
     hosts: &[Octets],
-    nodes: &[NodeConfig],
     lived: &[Option<Lived>],
 ) -> Result<Told, AllocError>
     ensures { IfOk result (λ told. AreTold hosts.now told.text.items told.status) }
@@ -115,18 +101,10 @@ pub(crate) fn tell_all<R: Files>(
         status: Status::Done,
     };
     'hosts: for place in 0..hosts.len() {
-        let Some(Ended { node, lived: one }) = ended_at(nodes, lived, place) else {
+        let Some(one) = lived_at(lived, place) else {
             return Err(AllocError);
         };
-        tell_node(
-            rt,
-            alloc,
-            &mut told,
-            places,
-            hosts[place].as_slice(),
-            node,
-            one,
-        )?;
+        tell_node(rt, alloc, &mut told, folder, hosts[place].as_slice(), one)?;
     }
     Ok(told)
 }

@@ -20,12 +20,12 @@ desk told Start is open, and its session waits for no answer; `#n` in a text is 
 It ends by itself: after the node's `turns`, or after --seconds. A turn waits at most 10 milliseconds. Timers count in seconds.
 
 At the end each node is told: `node HOST ok N`, where N is how many entries its log has, and `account ID given G reserved R debited D
-unpaid U` for each account. With --log each log is written to DIR/HOST.log, and a CONFIG to DIR/HOST.json: `run` and `debug` take both and
-do the same again, step by step.
+unpaid U` for each account. With --log each log is written to DIR/HOST.log, a script that `run` and `debug` take: on a CONFIG whose first
+node is that one it does the same again, step by step.
 
   dbench live examples/live/pair.json
   dbench live --log logs --seconds 5 examples/live/pair.json
-  dbench run logs/s.example.json logs/s.example.log
+  dbench run examples/live/pair.json logs/s.example.log
   dbench live --node s.example --seconds 60 examples/live/pair.json
 
 Nothing is run where something is wrong: `nodes[0].desks[1][2]: bad text` is a text that its desk can't tell, `nodes[0].listen` where no
@@ -70,6 +70,6 @@ pub(crate) fn live_command<'a>(alloc: Global) -> Result<Command<'a>, AllocError>
         command,
         "DIR",
         "log",
-        "Write each node's log and a CONFIG there, HOST.log and HOST.json",
+        "Write each node's log to a file there, HOST.log",
     )
 }

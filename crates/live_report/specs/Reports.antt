@@ -23,10 +23,10 @@ fault_text host None = []
 fault_text host (Some faults.Refused) = codes "node " ++ shown host ++ codes ": the system refuses a socket\n"
 fault_text host (Some faults.NoMemory) = codes "node " ++ shown host ++ codes ": no memory\n"
 
--- that its files were to be written, and are not
+-- that its log was to be written, and is not
 abbrev pub unwritten_text : (host : List ℕ) → Bool → List ℕ
 unwritten_text host false = []
-unwritten_text host true = codes "node " ++ shown host ++ codes ": its files can't be written\n"
+unwritten_text host true = codes "node " ++ shown host ++ codes ": its log can't be written\n"
 
 -- what is told of a node
 abbrev pub node_text : Run → (host : List ℕ) → Option SocketsFault → (unwritten : Bool) → List ℕ

@@ -118,12 +118,12 @@ fn put_fault(
     }
 }
 
-/// Puts that a node's files were not written, where they were not.
+/// Puts that a node's log was not written, where it was not.
 fn put_unwritten(out: &mut Vec<u8>, host: &[u8], is_unwritten: bool) -> Result<(), AllocError>
     ensures { OnOk result (out.new.items ≡ out.old.items ++ unwritten_text host.now is_unwritten) }
 {
     if is_unwritten {
-        put_line(out, host, b": its files can't be written\n")
+        put_line(out, host, b": its log can't be written\n")
     } else {
         Ok(())
     }

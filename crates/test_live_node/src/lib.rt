@@ -1,4 +1,4 @@
-//! Tests of live nodes without sockets, what one sent is carried to the other by the test; and of a node as text.
+//! Tests of live nodes without sockets: what one sent is carried to the other by the test.
 #![tactic(auto)]
 
 #[cfg(test)]
@@ -7,5 +7,3 @@ mod pair;
 mod rows;
 #[cfg(test)]
 mod tests;
-#[cfg(test)]
-mod texts;

@@ -1,7 +1,7 @@
 //! Two nodes of a CONFIG over loopback, at a port that the system chooses. They end after their turns.
 
 use base_device::{Counting, Inputs, Status};
-use bench_setup::{Setup, read_first};
+use bench_setup::{Setup, read_nodes};
 use cmd_bench::{Shown, run_on};
 use cmd_live::{LiveWords, live, live_one};
 use std::alloc::Global;
@@ -32,13 +32,10 @@ fn config(alloc: Global, port: u16) -> Result<String, Fail> {
     Ok(format!(in alloc; "{{\"nodes\": [{server}, {client}]}}")?)
 }
 
-// Whether the log of a node, as a script on the node of the CONFIG beside it, prints itself.
-fn prints_itself(rt: &HostRuntime, config: &str, log: &str) -> Result<bool, Fail> {
-    let mut source = Counting::new(Inputs::new(rt, rt.stdin()));
-    let Ok(Setup { node: _, bench }) = read_first(rt.alloc(), config, &mut source) else {
-        return Ok(false);
-    };
-    let log = fs::read(rt, log)?;
+// Whether the log of a node, as a script, prints itself.
+fn prints_itself(rt: &HostRuntime, setup: Setup, path: &str) -> Result<bool, Fail> {
+    let log = fs::read(rt, path)?;
+    let Setup { node: _, bench } = setup;
     let mut sink = Counting::new(Vec::new(rt.alloc()));
     let status = run_on(rt.alloc(), bench, &log, STEPS, &mut sink);
     Ok(status == Status::Done && !log.is_empty() && sink.device.as_slice() == log.as_slice())
@@ -72,12 +69,19 @@ fn a_session_is_charged_over_loopback(rt: HostRuntime) -> Result<(), Fail> {
     assert!(rt; status == Status::Done, "ended");
     let account: &[u8] = b"account 100 given 100 reserved 0 debited 85 unpaid 0";
     assert!(rt; second_line(&sink.device) == account, "charged");
+    let mut setups = match read_nodes(alloc, "loopback.json", &mut source) {
+        Ok(setups) => setups.into_iter(),
+        Err(_) => return Err(Fail::new("a CONFIG")),
+    };
+    let (Some(server), Some(client)) = (setups.next(), setups.next()) else {
+        return Err(Fail::new("two nodes"));
+    };
     assert!(rt;
-        prints_itself(&rt, "loopback/s.example.json", "loopback/s.example.log")?,
+        prints_itself(&rt, server, "loopback/s.example.log")?,
         "the server's log"
     );
     assert!(rt;
-        prints_itself(&rt, "loopback/c.example.json", "loopback/c.example.log")?,
+        prints_itself(&rt, client, "loopback/c.example.log")?,
         "the client's log"
     );
     Ok(())
