@@ -1,5 +1,5 @@
 -- The text of a log, entry by entry.
-use Rattle.std.proofs.Common.{◌≡◌, ◌<◌, ◌+◌, ◌++◌, ◌∷◌, ◌∙◌, ℕ, List, [], Option, None, Some, ap, append-nil, arith, length, suc, take, zero}
+use Rattle.std.proofs.Common.{◌≡◌, ◌<◌, ◌+◌, ◌++◌, ◌∷◌, ◌∙◌, ℕ, List, [], None, Some, Result, Ok, Err, OnOk, ap, append-nil, append_assoc, arith, length, suc, take, zero}
 use Rattle.std.specs.Prelude.{flat_map, slice_get}
 use Rattle.std.proofs.lemmas.Grind.{flat_map-append}
 use Rattle.std.proofs.lemmas.List.{take_more}
@@ -17,5 +17,10 @@ pub is_there : {X : Type 0} (xs : List X) (i : ℕ) → i < length xs → slice_
 is_there [] i within is = absurd (omega (arith, within))
 is_there (x ∷ xs) zero within is = absurd cc
 is_there (x ∷ xs) (suc i) within is = is_there xs i (omega (arith, within)) is
+
+-- a line of a node is one text behind what was put
+pub line_ok : {T E : Type 0} (r : Result T E) (o a b t q : List ℕ) → OnOk r (q ≡ o ++ a ++ b ++ t) → OnOk r (q ≡ o ++ (a ++ b ++ t))
+line_ok (Ok done) o a b t q is = is ∙ ap (λ (z : List ℕ). z ++ t) (append_assoc o a b) ∙ append_assoc o (a ++ b) t
+line_ok (Err e) o a b t q is = tt
 
 pub ruleset entries = (one_more, is_there)

@@ -122,10 +122,9 @@ fn put_fault(
 fn put_unwritten(out: &mut Vec<u8>, host: &[u8], is_unwritten: bool) -> Result<(), AllocError>
     ensures { OnOk result (out.new.items ≡ out.old.items ++ unwritten_text host.now is_unwritten) }
 {
-    if is_unwritten {
-        put_line(out, host, b": its log can't be written\n")
-    } else {
-        Ok(())
+    match is_unwritten {
+        true => put_line(out, host, b": its log can't be written\n"),
+        false => Ok(()),
     }
 }
 
