@@ -123,7 +123,7 @@ fn desks_of(
         match Desk::new(
             alloc,
             core,
-            number as u32,
+            number.min(u32::MAX as usize) as u32,
             lines.as_slice(),
             *repeat,
             node.turns,

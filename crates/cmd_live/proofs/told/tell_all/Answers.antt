@@ -6,15 +6,15 @@ use Rattle.cmd_live.proofs.told.tell_all.Goals as goal
 
 -- none is
 pub hosts-init : goal.hosts-init
-hosts-init c = nothing
+hosts-init g c = nothing
 
 -- one more is
 pub hosts-preserved : goal.hosts-preserved
-hosts-preserved c =
+hosts-preserved g c =
     told_next c.args.hosts.now c.hosts.place _ _ _ _ _ _ _ c.hosts-test.true c.index-hosts-place.is c.as_slice.ensures c.hosts.invariant c.in_ok-tell_node.ensures
 
 -- all are
 pub returns : goal.returns
-returns c =
+returns g c =
     subst (λ (hosts : List (List ℕ)). AreTold hosts c.hosts.told.text.items c.hosts.told.status)
     (take_all c.hosts.place c.args.hosts.now (omega arith)) c.hosts.invariant

@@ -4,4 +4,4 @@ use Rattle.cmd_live.proofs.told.tell_all.Given as goal
 
 -- the nodes so far are told of
 abbrev pub invariant-hosts : goal.invariant-hosts
-invariant-hosts l = AreTold (take l.place l.hosts) l.told.text.items l.told.status
+invariant-hosts g l = AreTold (take l.place l.hosts) l.told.text.items l.told.status
