@@ -1,12 +1,13 @@
-use Rattle.std.proofs.Common.{◌≡◌, List, ℕ, arith, subst, take}
+use Rattle.std.proofs.Common.{◌≡◌, List, [], ℕ, arith, subst, sym, take}
 use Rattle.std.proofs.lemmas.List.{take_all}
+use Rattle.base_device.specs.declared.status.Status.TheVariants as statuses
 use Rattle.cmd_live.specs.Told.{AreTold, nothing}
 use Rattle.cmd_live.proofs.ToldLemmas.{told_next}
 use Rattle.cmd_live.proofs.told.tell_all.Goals as goal
 
 -- none is
 pub hosts-init : goal.hosts-init
-hosts-init g c = nothing
+hosts-init g c = subst (λ (text : List ℕ). AreTold [] text statuses.Done) (sym c.new.ensures.items) nothing
 
 -- one more is
 pub hosts-preserved : goal.hosts-preserved
