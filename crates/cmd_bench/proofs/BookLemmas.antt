@@ -25,7 +25,7 @@ all_same first (book ∷ books) same =
     ap (λ b. b ∷ books) (sym ((is_same_book-Decides first book).0 parts.0)) ∙ ap (λ bs. first ∷ bs) (all_same first books parts.1)
 
 -- where nothing is in the way there is a book for each shard, all of the same laws
-same_books : (config : Config) (books : List Laws) → opening_refusal (config_of config books) ≡ None
+pub same_books : (config : Config) (books : List Laws) → opening_refusal (config_of config books) ≡ None
     → books ≡ replicate config.shards (laws_of (config_of config books))
 same_books config books none =
     let handed = config_of config books in

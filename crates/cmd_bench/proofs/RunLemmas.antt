@@ -1,5 +1,5 @@
 -- A script's run on a bench that was opened is that of the configuration; an opening that is refused is what is told.
-use Rattle.std.proofs.Common.{◌≡◌, ◌∙◌, ℕ, Bool, true, false, List, Option, Some, None, ap, refl, subst, sym}
+use Rattle.std.proofs.Common.{◌≡◌, ◌∙◌, ℕ, Bool, true, false, List, Option, Some, None, ap, subst, sym}
 use Rattle.std.specs.Prelude.{IfOk, Result, Ok, Err, map, option_map}
 use Rattle.std.specs.Option.{option_and_then, option_or}
 use Rattle.bench_open.specs.Faults.{IsErrorFor}
@@ -7,8 +7,8 @@ use Rattle.bench_spec.specs.Opening.{Config, laws_of, opening_refusal, settings_
 use Rattle.bench_spec.specs.Taken.{Run, opened}
 use Rattle.bench_spec.specs.declared.opening.OpeningError.{OpeningError}
 use Rattle.bench_spec.specs.declared.opening.OpeningError.TheVariants as errors
-use Rattle.script_text.specs.RunLines.{first_bad_run, run_script_of}
-use Rattle.cmd_bench.specs.Told.{IsBenchRun, IsRunIn, RunText, bad_text, opening_text, refusal_of}
+use Rattle.script_text.specs.RunLines.{first_bad_run}
+use Rattle.cmd_bench.specs.Told.{IsBenchRun, IsRunIn, bad_text, opening_text, refusal_of}
 use Rattle.cmd_bench.specs.declared.opening.Outcome.{Outcome}
 use Rattle.cmd_bench.specs.declared.shown.Shown.{Shown}
 
@@ -37,7 +37,7 @@ run_of config script shown core accounts text refused none is ids run =
     (subst (λ (ns : List ℕ). IsRunIn (opened (settings_of config)) script shown ns text refused) ids there)
 
 -- the reason of an opening that is refused
-reason_of : (config : Config) (error : OpeningError) (text : List ℕ) → IsErrorFor (opening_refusal config) error
+pub reason_of : (config : Config) (error : OpeningError) (text : List ℕ) → IsErrorFor (opening_refusal config) error
     → opening_text (laws_of config) error ≡ Some text → opening_refusal config ≡ Some error
 reason_of config errors.Limits text for told = for
 reason_of config errors.Names text for told = for

@@ -35,12 +35,12 @@ const BAD_ACCOUNT: &str =
 
 /// What is told of a run, and whether it is a refusal.
 #[derive(Drop)]
-struct Outcome {
-    text: Vec<u8>,
-    refused: bool,
+pub(crate) struct Outcome {
+    pub(crate) text: Vec<u8>,
+    pub(crate) refused: bool,
 }
 
-fn refusal(text: Vec<u8>) -> Outcome
+pub(crate) fn refusal(text: Vec<u8>) -> Outcome
     ensures { result ≡ record { text = text; refused = true } }
 {
     Outcome {
@@ -111,7 +111,7 @@ fn run_in(
 }
 
 /// The numbers of accounts.
-fn numbers_of(alloc: Global, accounts: &[Account]) -> Result<Vec<u64>, AllocError>
+pub(crate) fn numbers_of(alloc: Global, accounts: &[Account]) -> Result<Vec<u64>, AllocError>
     ensures { IfOk result (λ numbers. numbers.items ≡ map (λ account. account.id) accounts.now) }
 {
     accounts.iter().map(|account| account.id).collect(alloc)
@@ -179,7 +179,7 @@ fn run_all(
 }
 
 /// The status of a run.
-fn run_status(refused: bool) -> Status
+pub(crate) fn run_status(refused: bool) -> Status
     ensures { result ≡ run_status refused }
 {
     if refused {

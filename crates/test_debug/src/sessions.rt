@@ -445,11 +445,15 @@ fn a_session_is_spread_over_two_shards(rt: HostRuntime) -> Result<(), Fail> {
         script: SPREAD,
         commands: "goto 15
 show s:c1;1
+show p:c.example
+totals 100
 go",
         sent: 140,
     };
     let wanted = "at 15
 s:c1;1 Open r0=100 r1=1 r2=2001 r3=60 r4=3 r8=1 r15=1
+p:c.example R-Open r1=1 r3=1 r4=1 r5=1 r14=4096 r15=1
+given 100 reserved 60 debited 0 unpaid 0
 end at 20
 0100008c40000110000000040000000700000007000001074000000c63313b310000010c4000000c000007d10000010840000011732e6578616d706c65000000000001284000000f6578616d706c6500000001024000000c00000004000001a04000000c000000010000019f4000000c00000000000001af40000018000001a140000010000000000000003c";
     assert!(rt; printed(rt.alloc(), &session)?.as_slice() == wanted.as_bytes());
@@ -624,9 +628,12 @@ queues
 goto 11
 queues
 history p:c.example
+accounts
 go
 queues
-queues 1";
+accounts
+queues 1
+accounts 1";
 
 /// What that is answered.
 const QUEUED_ANSWERS: &str = "\
@@ -646,9 +653,12 @@ shard 0 hand p:c.example Disarm
 8 work 0
   p:c.example R-Rcv-Message R-Open R-Open row 23
     To-Session 0 1 7 7 1 1 1 100 0 60 3
+account 100 given 100 reserved 0 debited 0 unpaid 0
 end at 15
 shard 0 outbox p:c.example Send-Message 1=1 2=7 3=7 4=2 5=1 6=1 10=3 12=2001 13=60
 shard 0 outbox s:c1;1 Arm 1 600
+account 100 given 100 reserved 60 debited 0 unpaid 0
+fault 1
 fault 1
 ";
 
@@ -713,5 +723,346 @@ queues",
         sent: 0,
     };
     assert!(rt; printed(rt.alloc(), &session)?.as_slice() == TIMED_ANSWERS.as_bytes());
+    Ok(())
+}
+
+/// The last step is taken back alone.
+const UNDONE_COMMANDS: &str = "\
+go
+back
+totals 100
+accounts
+show s:c1;1
+history s:c1;1
+why s:c1;1
+queues
+where
+step
+totals 100
+history s:c1;1";
+
+/// What that is answered.
+const UNDONE_ANSWERS: &str = "\
+end at 15
+at 14
+given 100 reserved 0 debited 0 unpaid 0
+account 100 given 100 reserved 0 debited 0 unpaid 0
+fault 3
+fault 3
+fault 3
+shard 0 inbox s:c1;1 Initial 1=1 2=7 3=7 4=1 5=1 6=1 7=100 9=60 10=3
+at 14 script 14 of 15
+work 0
+  s:c1;1 Initial Idle Open row 3
+    Reserve 60 = 60 0
+    To-Peer 0 1 7 7 2 1 1 0 0 0 3 0 2001 60
+    Arm 1 600
+given 100 reserved 60 debited 0 unpaid 0
+15 work 0
+  s:c1;1 Initial Idle Open row 3
+    Reserve 60 = 60 0
+    To-Peer 0 1 7 7 2 1 1 0 0 0 3 0 2001 60
+    Arm 1 600
+";
+
+#[test]
+fn the_last_step_is_taken_back_alone(rt: HostRuntime) -> Result<(), Fail> {
+    let session = Session {
+        shards: 1,
+        joined: false,
+        script: SCRIPT,
+        commands: UNDONE_COMMANDS,
+        sent: 0,
+    };
+    assert!(rt; printed(rt.alloc(), &session)?.as_slice() == UNDONE_ANSWERS.as_bytes());
+    Ok(())
+}
+
+/// A connection is dialled and lost before it is there; its timer has fired by then (RFC 6733 section 5.6).
+const DIALLED: &str = "\
+told 0 p:c.example Start
+lift desk 0
+drop desk 0
+work 0
+lift shard 0
+drop shard 0
+lift shard 0
+drop shard 0
+fired p:c.example 1
+lost 1
+lift line 1
+drop line 1
+work 0
+lift clock
+drop clock
+work 0
+";
+
+/// What is commanded: the stale firing is met by kind and by machine, and not by state, row or value.
+const DIALLED_COMMANDS: &str = "\
+break kind Timeout
+go
+rgo
+step
+goto 0
+clear 1
+break state p:c.example Closed
+go
+show p:c.example
+go
+rgo
+break row peer 3
+clear 2
+goto 0
+go
+clear 3
+break value p:c.example r15=2
+goto 0
+go
+go
+break machine p:c.example
+clear 4
+rgo
+rgo
+step
+rgo
+rgo
+history p:c.example
+why p:c.example
+go
+why p:c.example";
+
+/// What that is answered.
+const DIALLED_ANSWERS: &str = "\
+break 1
+stopped at 16 by 1
+stopped at 15 by 1
+work 0
+  p:c.example Timeout Closed Closed stale
+at 0
+cleared 1
+break 2
+stopped at 13 by 2
+p:c.example Closed r2=1 r15=2
+end at 16
+stopped at 12 by 2
+break 3
+cleared 2
+at 0
+stopped at 13 by 3
+cleared 3
+break 4
+at 0
+stopped at 13 by 4
+end at 16
+break 5
+cleared 4
+stopped at 15 by 5
+stopped at 12 by 5
+work 0
+  p:c.example I-Rcv-Conn-Nack Wait-Conn-Ack Closed row 3
+    Disarm
+stopped at 12 by 5
+stopped at 3 by 5
+fault 3
+stopped at 4 by 5
+4 work 0
+  p:c.example Start Closed Wait-Conn-Ack row 0
+    Dial 0 1
+    Arm 1 30
+event Start
+  Closed               Start            I-Snd-Conn-Req                    Wait-Conn-Ack
+  row 0: always
+";
+
+#[test]
+fn stale_items_meet_kinds_and_machines(rt: HostRuntime) -> Result<(), Fail> {
+    let session = Session {
+        shards: 1,
+        joined: false,
+        script: DIALLED,
+        commands: DIALLED_COMMANDS,
+        sent: 0,
+    };
+    assert!(rt; printed(rt.alloc(), &session)?.as_slice() == DIALLED_ANSWERS.as_bytes());
+    Ok(())
+}
+
+/// What waits on the way of a connection that is dialled and lost.
+const LOST_COMMANDS: &str = "\
+goto 5
+queues
+lines
+goto 6
+lines
+goto 8
+timers
+goto 9
+queues
+timers
+goto 10
+queues
+lines
+goto 14
+queues
+goto 15
+queues
+sent 1
+goto 0
+queues
+timers
+lines
+accounts";
+
+/// What that is answered.
+const LOST_ANSWERS: &str = "\
+at 5
+shard 0 outbox p:c.example Arm 1 30
+shard 0 hand p:c.example Dial 1
+at 6
+line 1 dialling c.example sent 0
+at 8
+timer p:c.example 1
+at 9
+clock outbox p:c.example Timeout
+at 10
+line 1 outbox p:c.example I-Rcv-Conn-Nack 1=1
+clock outbox p:c.example Timeout
+line 1 closed sent 0
+at 14
+shard 0 outbox p:c.example Disarm
+clock hand p:c.example Timeout
+at 15
+shard 0 outbox p:c.example Disarm
+shard 0 inbox p:c.example Timeout
+at 0
+account 100 given 100 reserved 0 debited 0 unpaid 0
+";
+
+#[test]
+fn a_connection_is_dialled_and_lost(rt: HostRuntime) -> Result<(), Fail> {
+    let session = Session {
+        shards: 1,
+        joined: false,
+        script: DIALLED,
+        commands: LOST_COMMANDS,
+        sent: 0,
+    };
+    assert!(rt; printed(rt.alloc(), &session)?.as_slice() == LOST_ANSWERS.as_bytes());
+    Ok(())
+}
+
+/// Commands where no step was taken and none is asked for, and numbers at their limits and past them.
+const EDGE_COMMANDS: &str = "\
+where
+step
+go
+back
+rgo
+goto 0
+goto 18446744073709551615
+goto 18446744073709551616
+show p:c.example
+history p:c.example
+why p:c.example
+why s:c1;1
+queues
+timers
+lines
+sent 1
+sent 4294967296
+break row server 31
+break row server 32
+break value s:c1;1 r63=18446744073709551615
+break value s:c1;1 r64=0
+break value s:c1;1 r63=18446744073709551616
+break state s:c1;1 R-Open
+break machine x
+break nothing
+list server 32
+clear 18446744073709551616
+totals 0
+show
+help me";
+
+/// What that is answered.
+const EDGE_ANSWERS: &str = "\
+at 0 script 0 of 0
+end
+end at 0
+fault 5
+fault 5
+at 0
+end at 0
+fault 2
+p:c.example Closed
+fault 3
+fault 3
+fault 2
+fault 2
+break 1
+fault 10
+break 2
+fault 2
+fault 2
+fault 1
+fault 1
+fault 1
+fault 10
+fault 2
+fault 9
+fault 1
+fault 1
+";
+
+#[test]
+fn limits_are_kept_where_nothing_is_done(rt: HostRuntime) -> Result<(), Fail> {
+    let session = Session {
+        shards: 1,
+        joined: false,
+        script: "",
+        commands: EDGE_COMMANDS,
+        sent: 0,
+    };
+    assert!(rt; printed(rt.alloc(), &session)?.as_slice() == EDGE_ANSWERS.as_bytes());
+    Ok(())
+}
+
+/// A line for each command.
+const HELP_LINES: &str = "\
+step                      the next step of the script
+back                      the last step is taken back
+go                        steps up to a breakpoint, or to the end of the script
+rgo                       back to the last entry that meets a breakpoint
+goto N                    to the place where N steps are taken
+break row ROLE R          stop at row R of a table: peer, client or server
+break state KEY STATE     stop where a machine comes to stand in a state
+break kind KIND           stop where an event of a kind is handled
+break machine KEY         stop where an item for a machine is handled
+break value KEY rR=V      stop where a register comes to have a value
+clear B                   without breakpoint B
+show KEY                  where a machine stands: state, registers that aren't 0
+history KEY               the moves of a machine
+why KEY                   its last move: event, row, guards
+list ROLE R               row R of a table
+totals ACCOUNT            what stands on an account
+accounts                  what stands on each
+queues                    what waits in each outbox, hand and inbox
+timers                    which timers are armed
+lines                     where each connection stands
+sent L                    what connection L has sent
+where                     the place, and the place in the script
+";
+
+#[test]
+fn each_command_has_a_line_of_help(rt: HostRuntime) -> Result<(), Fail> {
+    let session = Session {
+        shards: 1,
+        joined: false,
+        script: "",
+        commands: "help",
+        sent: 0,
+    };
+    assert!(rt; printed(rt.alloc(), &session)?.as_slice() == HELP_LINES.as_bytes());
     Ok(())
 }
