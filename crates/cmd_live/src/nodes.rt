@@ -124,11 +124,7 @@ fn add_wanted(
 }
 
 /// The hosts of the nodes that are to live.
-fn hosts_of(
-    alloc: Global,
-    setups: &[Setup],
-    host: Option<&str>,
-) -> Result<Vec<Octets>, AllocError>
+fn hosts_of(alloc: Global, setups: &[Setup], host: Option<&str>) -> Result<Vec<Octets>, AllocError>
     ensures { IfOk result (λ hosts. hosts.items ≡ hosts_of (option_map (λ host. host.now) host.entry) setups.now) }
 {
     let mut hosts = Vec::new(alloc);

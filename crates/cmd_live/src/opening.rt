@@ -54,7 +54,11 @@ impl<T: Drop> From<AllocFailed<T>> for Refused {
 }
 
 /// The first name of a table that the laws lack, and what is near it.
-fn lacking_text(alloc: Global, registries: &[Registry], name: &[u8]) -> Result<Vec<u8>, AllocError> {
+fn lacking_text(
+    alloc: Global,
+    registries: &[Registry],
+    name: &[u8],
+) -> Result<Vec<u8>, AllocError> {
     match registries.first() {
         Some(registry) => unbound_text(alloc, registry.laws(), None, name),
         None => unbound_text(alloc, &LawBook::new(alloc), None, name),

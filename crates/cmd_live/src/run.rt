@@ -102,13 +102,7 @@ pub fn live<
     I: FileSource,
     O: ByteSink,
     F: Fn(Vec<Living>) -> Result<Vec<Option<Lived>>, AllocError>,
->(
-    rt: &R,
-    words: LiveWords<'_>,
-    source: &mut I,
-    sink: &mut O,
-    together: &F,
-) -> Status
+>(rt: &R, words: LiveWords<'_>, source: &mut I, sink: &mut O, together: &F) -> Status
     requires callable { F.IsAlwaysCallable together.now }
     requires reads { I.reads source.old + 257 * MAX_READS < 2 ^ 64 }
     requires read_failures { I.failures source.old < 2 ^ 64 - 1 }

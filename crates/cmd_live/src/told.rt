@@ -35,13 +35,7 @@ fn worse(status: Status, fault: Option<SocketsFault>, is_unwritten: bool) -> Sta
     match fault {
         Some(SocketsFault::NoMemory) => Status::NoMemory,
         Some(SocketsFault::Refused) => failed(status),
-        None => {
-            if is_unwritten {
-                failed(status)
-            } else {
-                status
-            }
-        }
+        None => { if is_unwritten { failed(status) } else { status } }
     }
 }
 

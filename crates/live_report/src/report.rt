@@ -78,12 +78,7 @@ fn ids_of(alloc: Global, core: &Core) -> Result<Vec<u64>, AllocError>
 }
 
 /// Puts how many entries a node's log has, and what stands on its accounts.
-fn put_report(
-    alloc: Global,
-    out: &mut Vec<u8>,
-    host: &[u8],
-    core: &Core,
-) -> Result<(), AllocError>
+fn put_report(alloc: Global, out: &mut Vec<u8>, host: &[u8], core: &Core) -> Result<(), AllocError>
     ensures { OnOk result (out.new.items ≡ out.old.items ++ report_text core.now host.now) }
 {
     let ids = ids_of(alloc, core)?;
@@ -104,11 +99,7 @@ fn put_line(out: &mut Vec<u8>, host: &[u8], told: &[u8]) -> Result<(), AllocErro
 }
 
 /// Puts why a node's sockets went no further, where they did not.
-fn put_fault(
-    out: &mut Vec<u8>,
-    host: &[u8],
-    fault: Option<SocketsFault>,
-) -> Result<(), AllocError>
+fn put_fault(out: &mut Vec<u8>, host: &[u8], fault: Option<SocketsFault>) -> Result<(), AllocError>
     ensures { OnOk result (out.new.items ≡ out.old.items ++ fault_text host.now fault) }
 {
     match fault {

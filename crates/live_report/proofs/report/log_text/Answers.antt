@@ -16,6 +16,6 @@ places-preserved c =
     let within : at < length log = omega (arith, c.places-test.true, c.place-place-end.ensures) in
     elim c.match-branch-2.branch [
       | in-Some+in_ok-put_taken w ↦
-        rw (w.out-is, w.in_ok-put_taken.ensures, c.places.invariant, one_more (taken_text c.args.core.now) log at w.in-Some.entry (found ∙ w.in-Some.is)) refl
+          rw (w.out-is, w.in_ok-put_taken.ensures, c.places.invariant, one_more (taken_text c.args.core.now) log at w.in-Some.entry (found ∙ w.in-Some.is)) refl
       | in_default w ↦ absurd (is_there log at within (found ∙ w.in_default.is))
     ]
