@@ -19,22 +19,6 @@ use Rattle.bench_undo.specs.declared.undo.Undo.TheVariants.{Worked}
 abbrev pub work_entry : ℕ → MachineItem → Handled → Entry
 work_entry shard item handled = record { step = WorkStep shard; item = Some (ToMachine item); handled = Some handled }
 
--- the shard may handle the item of an entry
-abbrev pub FitsEntry : ShardView → Entry → Type 0
-FitsEntry v e = by e.item e.handled
-  where
-    by : Option Item → Option Handled → Type 0
-    by (Some (ToMachine item)) (Some handled) = Fits v item handled
-    by item handled = ⊥
-
--- the shard once it handled the item of an entry
-abbrev pub after_entry : ShardView → Entry → List Item → ShardView
-after_entry v e posts = by e.item e.handled
-  where
-    by : Option Item → Option Handled → ShardView
-    by (Some (ToMachine item)) (Some handled) = after_work v item handled posts
-    by item handled = v
-
 -- a page with another book
 abbrev pub Holds : Paged → Paged → Book → Type 0
 Holds old new book = (new.number ≡ old.number) × (new.pages ≡ old.pages) × (new.book ≡ book)

@@ -7,7 +7,7 @@ use Rattle.bench_core.specs.Inside.{settings_in}
 use Rattle.bench_core.specs.declared.keeping.Core.TheInside.{Inside}
 use Rattle.bench_core.proofs.keeping.Core.table.Goals as goal
 
-same : (w : Inside) (role : Role) → move.table_of w.roles role ≡ table_of (settings_in w) role
+pub same : (w : Inside) (role : Role) → move.table_of w.roles role ≡ table_of (settings_in w) role
 same w Peer = refl
 same w Client = refl
 same w Server = refl
