@@ -22,7 +22,7 @@ pub unreachable-requires : goal.unreachable-requires
 unreachable-requires c =
     let w = c.self.inside in
     let could = subst (λ run. refusal run.settings run.log run.paused (steps.Drop c.args.source) ≡ None) (sym c.self.view_is) c.requires in
-    let hand = rw (c.deref.ensures.value, c.deref-2.ensures.value, c.deref-3.ensures.value) at (c.in_ok-hand_copy.ensures (stored_in w)) in
+    let hand = rw (c.deref.ensures.value, c.deref-2.ensures.value, c.deref-3.ensures.value) at (c.in_ok-item.ensures (stored_in w)) in
     drop-hand (settings_in w) w.log.entries (paused_in w) (stored_in w) w.undo.records c.args.source c.self.invariant.whole could (sym hand ∙ c.in-None.is)
 
 pub drop_at-requires-clause-held : goal.drop_at-requires-clause-held
@@ -38,7 +38,7 @@ pub drop_at-requires-clause-room : goal.drop_at-requires-clause-room
 drop_at-requires-clause-room c =
     let w = c.self.inside in
     let could = subst (λ run. refusal run.settings run.log run.paused (steps.Drop c.args.source) ≡ None) (sym c.self.view_is) c.requires in
-    let hand = rw (c.deref.ensures.value, c.deref-2.ensures.value, c.deref-3.ensures.value) at (c.in_ok-hand_copy.ensures (stored_in w)) in
+    let hand = rw (c.deref.ensures.value, c.deref-2.ensures.value, c.deref-3.ensures.value) at (c.in_ok-item.ensures (stored_in w)) in
     subst (λ shards. lacks_room shards w.lines.lines c.in-Some.item ≡ false) (sym c.deref_mut.ensures.value)
     (drop-room (settings_in w) w.log.entries (paused_in w) (stored_in w) w.undo.records c.args.source c.in-Some.item c.self.invariant.whole c.self.invariant.shards.0 could (sym hand ∙ c.in-Some.is))
 
@@ -77,7 +77,7 @@ could c = subst (λ run. refusal run.settings run.log run.paused (steps.Drop c.a
 
 held : (c : goal.After-put-2) → hand_of c.args.source (stored_in c.self.inside) ≡ Some c.in-Some.item
 held c =
-    let hand = rw (c.deref.ensures.value, c.deref-2.ensures.value, c.deref-3.ensures.value) at (c.in_ok-hand_copy.ensures (stored_in c.self.inside)) in
+    let hand = rw (c.deref.ensures.value, c.deref-2.ensures.value, c.deref-3.ensures.value) at (c.in_ok-item.ensures (stored_in c.self.inside)) in
     sym hand ∙ c.in-Some.is
 
 -- the log has the entry

@@ -3,8 +3,7 @@ use Rattle.bench_item.specs.declared.key.Role.{Role}
 use Rattle.bench_move.specs.Tables as move
 use Rattle.bench_spec.specs.World.{names_of}
 use Rattle.bench_core.specs.Naming.{all_named}
-use Rattle.bench_core.proofs.NameLemmas.{named-log}
-use Rattle.bench_core.proofs.keeping.Core.table.Answers.{same}
+use Rattle.bench_core.proofs.NameLemmas.{named-log, table-same}
 use Rattle.bench_core.proofs.keeping.Core.names.Goals as goal
 
 pub returns-clause-kinds : goal.returns-clause-kinds
@@ -14,7 +13,7 @@ returns-clause-kinds c =
 pub returns-clause-states : goal.returns-clause-states
 returns-clause-states c =
     subst (λ run. (role : Role) → (move.table_of c.self.inside.roles role).states ≡ (names_of run.settings run.log).states role) c.self.view_is
-    (λ role. ap (λ t. t.states) (same c.self.inside role))
+    (λ role. ap (λ t. t.states) (table-same c.self.inside role))
 
 pub returns-clause-machines : goal.returns-clause-machines
 returns-clause-machines c =
