@@ -1,15 +1,14 @@
 -- What a shard's work writes.
-use Rattle.std.specs.Prelude.{◌≡◌, ℕ, List, [], ◌∷◌, ◌++◌, fold, length, Option, Some}
+use Rattle.std.specs.Prelude.{◌≡◌, ℕ, List, [], ◌∷◌, ◌++◌, fold, length, Some}
 use Rattle.acct_book.specs.Book.{Book, Paged, after}
 use Rattle.bench_item.specs.declared.entry.Entry.{Entry}
 use Rattle.bench_item.specs.declared.entry.Handled.{Handled}
-use Rattle.bench_item.specs.declared.item.Item.{Item}
 use Rattle.bench_item.specs.declared.item.Item.TheVariants.{ToMachine}
 use Rattle.bench_item.specs.declared.item.MachineItem.{MachineItem}
 use Rattle.bench_item.specs.declared.step.Step.TheVariants.{Work as WorkStep}
 use Rattle.bench_move.specs.Tables.{Tables}
 use Rattle.bench_shard.specs.View.{ShardView}
-use Rattle.bench_shard.specs.Works.{Fits, IsWork, after_work, taken_back}
+use Rattle.bench_shard.specs.Works.{IsWork, after_work, taken_back}
 use Rattle.bench_shard.specs.declared.work.ShardRecord.{ShardRecord}
 use Rattle.bench_shard.specs.declared.work.Work.{Work}
 use Rattle.bench_undo.specs.declared.undo.Undo.{Undo}

@@ -31,10 +31,12 @@ fn are_line_steps_refused<B: TakesSteps>(
     line: u32,
 ) -> Result<bool, AllocError> {
     let piece = Octets::from_slice(alloc, b"\x02")?;
-    Ok(is_refused(world, Step::Dialled(line))
-        && is_refused(world, Step::Lost(line))
-        && is_refused(world, Step::Came { line, piece })
-        && is_carrying_refused(world, Source::Line(line)))
+    Ok(
+        is_refused(world, Step::Dialled(line))
+            && is_refused(world, Step::Lost(line))
+            && is_refused(world, Step::Came { line, piece })
+            && is_carrying_refused(world, Source::Line(line)),
+    )
 }
 
 /// Tries a shard, a desk and a timer of that number.
@@ -43,7 +45,13 @@ fn are_others_refused<B: TakesSteps>(world: &mut B, number: u32) -> bool {
     is_refused(world, Step::Work(number))
         && is_carrying_refused(world, Source::Shard(number))
         && is_carrying_refused(world, Source::Desk(number))
-        && is_refused(world, Step::Fired { machine, generation: 1 })
+        && is_refused(
+            world,
+            Step::Fired {
+                machine,
+                generation: 1,
+            },
+        )
 }
 
 /// Tries steps, as far as they may not be taken: whether each is refused, for its reason, and no entry is added.

@@ -1,7 +1,5 @@
-use Rattle.std.proofs.Common.{◌≡◌, ◌∙◌, Some, ap, false, subst, sym}
-use Rattle.std.specs.Prelude.{OnOk}
+use Rattle.std.proofs.Common.{◌≡◌, ◌∙◌, ap, false, subst, sym}
 use Rattle.bench_item.specs.declared.item.Item.TheVariants.{ToMachine}
-use Rattle.bench_views.specs.Stored.{Stored}
 use Rattle.bench_carry.specs.Dropped.{Arrives, meaning_to, with_arrived}
 use Rattle.bench_carry.specs.Hands.{is_home_crowded, lacks_room}
 use Rattle.bench_carry.proofs.HandLemmas.{event-is}

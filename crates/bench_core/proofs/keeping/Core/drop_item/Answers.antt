@@ -5,7 +5,6 @@ use Rattle.bench_item.specs.declared.step.Step.TheVariants as steps
 use Rattle.bench_spec.specs.Refusal.{refusal}
 use Rattle.bench_spec.specs.Rules.{listening}
 use Rattle.bench_spec.specs.Taken.{Takes}
-use Rattle.bench_spec.proofs.BookLemmas.{entry_of}
 use Rattle.line_message.specs.Hearing.{Hearing}
 use Rattle.bench_views.specs.Looks.{hand_of}
 use Rattle.bench_views.specs.Stored.{Stored, meaning_of}
