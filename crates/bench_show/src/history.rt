@@ -101,6 +101,28 @@ fn moving_entry(
 }
 
 /// Puts the entry at a place behind its number, where it moves a machine.
+fn put_entry(
+    alloc: Global,
+    out: &mut Vec<u8>,
+    core: &Core,
+    key: &Key,
+    place: usize,
+) -> Result<(), AllocError>
+    requires { place < MAX_ENTRIES }
+    ensures { OnOk result ((entry : LogEntry) → slice_get core.now.log place ≡ Some entry
+        → out.new.items ≡ out.old.items ++ told_of core.now key.now (place + 1, entry)) }
+{
+    let Some(entry) = core.log().entry(place, alloc)? else {
+        return Ok(());
+    };
+    if moves(key, &entry) {
+        put_numbered(alloc, out, core, place as u64 + 1, &entry)
+    } else {
+        Ok(())
+    }
+}
+
+/// The same, and reads the entry only where it may move the machine: to clear the room for an entry takes longer than to look.
 fn put_move(
     alloc: Global,
     out: &mut Vec<u8>,
@@ -114,9 +136,10 @@ fn put_move(
     ensures { OnOk result ((entry : LogEntry) → slice_get core.now.log place ≡ Some entry
         → out.new.items ≡ out.old.items ++ told_of core.now key.now (place + 1, entry)) }
 {
-    match moving_entry(alloc, core, key, number, place)? {
-        Some(entry) => put_numbered(alloc, out, core, place as u64 + 1, &entry),
-        None => Ok(()),
+    if may_move(core, key, number, place) {
+        put_entry(alloc, out, core, key, place)
+    } else {
+        Ok(())
     }
 }
 
