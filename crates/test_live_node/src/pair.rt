@@ -1,6 +1,4 @@
 //! A client's node and a server's, opened as a CONFIG says, and turns of both.
-#![tactic(auto, using(crate::proofs::LawLemmas::same_laws))]
-
 ghost use Rattle.std.specs.Prelude.{◌≡◌};
 ghost use Rattle.std.specs.List.{AllByRecursion as Each};
 ghost use Rattle.role_tables.specs.Roles.{all_laws};
@@ -35,7 +33,8 @@ fn desks_of(
     let mut desks = Vec::new(alloc);
     for (number, desk) in node.desks.as_slice().iter().enumerate() {
         let lines = desk.lines.as_slice();
-        match Desk::new(alloc, core, number as u32, lines, desk.repeat, patience) {
+        let number = number.min(u32::MAX as usize) as u32;
+        match Desk::new(alloc, core, number, lines, desk.repeat, patience) {
             Ok(desk) => desks.push(desk)?,
             Err(_) => return Err(AllocError),
         }
@@ -179,6 +178,34 @@ pub struct Turns {
     pub turns: u64,
 }
 
+// A row for each turn.
+fn turn_all(turns: Turns, registries: &[Registry]) -> Result<Vec<u8>, AllocError>
+    requires { Each (λ r. r.book ≡ all_laws) registries.now }
+{
+    let Turns {
+        alloc,
+        server,
+        client,
+        turns,
+    } = turns;
+    let mut server = opened(alloc, registries, server, None, 5)?;
+    let mut client = opened(alloc, registries, client, Some(somewhere()), 5)?;
+    let mut got = Got {
+        by_server: 0,
+        by_client: 0,
+    };
+    let mut rows = Vec::new(alloc);
+    for _ in 0..turns {
+        stir(&mut client, registries, 0)?;
+        connect(&mut client.live, &mut server.live);
+        settle(&mut client.live, registries)?;
+        carry_all(&mut client.live, &mut server.live, registries, &mut got)?;
+        put_client(alloc, &mut rows, client.live.core())?;
+        put_server(alloc, &mut rows, server.live.core())?;
+    }
+    Ok(rows)
+}
+
 impl WithCalls for Turns {
     type Answer = Vec<u8>;
 
@@ -186,30 +213,8 @@ impl WithCalls for Turns {
 
     ghost answers = { λ _ _ _. Unit {0} };
 
-    /// A row for each turn.
     fn run(self, registries: Vec<Registry>) -> Result<Vec<u8>, AllocError> {
-        let Turns {
-            alloc,
-            server,
-            client,
-            turns,
-        } = self;
-        let mut server = opened(alloc, &registries, server, None, 5)?;
-        let mut client = opened(alloc, &registries, client, Some(somewhere()), 5)?;
-        let mut got = Got {
-            by_server: 0,
-            by_client: 0,
-        };
-        let mut rows = Vec::new(alloc);
-        for _ in 0..turns {
-            stir(&mut client, &registries, 0)?;
-            connect(&mut client.live, &mut server.live);
-            settle(&mut client.live, &registries)?;
-            carry_all(&mut client.live, &mut server.live, &registries, &mut got)?;
-            put_client(alloc, &mut rows, client.live.core())?;
-            put_server(alloc, &mut rows, server.live.core())?;
-        }
-        Ok(rows)
+        turn_all(self, &registries)
     }
 }
 
@@ -222,6 +227,28 @@ pub struct Alone {
     pub moments: [u64; 4],
 }
 
+// A row for each moment.
+fn stand(alone: Alone, registries: &[Registry]) -> Result<Vec<u8>, AllocError>
+    requires { Each (λ r. r.book ≡ all_laws) registries.now }
+{
+    let Alone {
+        alloc,
+        client,
+        address,
+        moments,
+    } = alone;
+    let mut client = opened(alloc, registries, client, address, 2)?;
+    let mut rows = Vec::new(alloc);
+    for moment in moments {
+        stir(&mut client, registries, moment)?;
+        let _ = client.live.next_dial();
+        settle(&mut client.live, registries)?;
+        put_client(alloc, &mut rows, client.live.core())?;
+        rows.extend_from_slice(b"\n")?;
+    }
+    Ok(rows)
+}
+
 impl WithCalls for Alone {
     type Answer = Vec<u8>;
 
@@ -229,23 +256,7 @@ impl WithCalls for Alone {
 
     ghost answers = { λ _ _ _. Unit {0} };
 
-    /// A row for each moment.
     fn run(self, registries: Vec<Registry>) -> Result<Vec<u8>, AllocError> {
-        let Alone {
-            alloc,
-            client,
-            address,
-            moments,
-        } = self;
-        let mut client = opened(alloc, &registries, client, address, 2)?;
-        let mut rows = Vec::new(alloc);
-        for moment in moments {
-            stir(&mut client, &registries, moment)?;
-            let _ = client.live.next_dial();
-            settle(&mut client.live, &registries)?;
-            put_client(alloc, &mut rows, client.live.core())?;
-            rows.extend_from_slice(b"\n")?;
-        }
-        Ok(rows)
+        stand(self, &registries)
     }
 }
