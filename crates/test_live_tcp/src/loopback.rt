@@ -32,6 +32,15 @@ fn config(alloc: Global, port: u16) -> Result<String, Fail> {
     Ok(format!(in alloc; "{{\"nodes\": [{server}, {client}]}}")?)
 }
 
+// The nodes of the CONFIG.
+fn nodes(rt: &HostRuntime) -> Result<Vec<Setup>, Fail> {
+    let mut source = Counting::new(Inputs::new(rt, rt.stdin()));
+    match read_nodes(rt.alloc(), "loopback.json", &mut source) {
+        Ok(setups) => Ok(setups),
+        Err(_) => Err(Fail::new("a CONFIG")),
+    }
+}
+
 // Whether the log of a node, as a script, prints itself.
 fn prints_itself(rt: &HostRuntime, setup: Setup, path: &str) -> Result<bool, Fail> {
     let log = fs::read(rt, path)?;
@@ -69,10 +78,7 @@ fn a_session_is_charged_over_loopback(rt: HostRuntime) -> Result<(), Fail> {
     assert!(rt; status == Status::Done, "ended");
     let account: &[u8] = b"account 100 given 100 reserved 0 debited 85 unpaid 0";
     assert!(rt; second_line(&sink.device) == account, "charged");
-    let mut setups = match read_nodes(alloc, "loopback.json", &mut source) {
-        Ok(setups) => setups.into_iter(),
-        Err(_) => return Err(Fail::new("a CONFIG")),
-    };
+    let mut setups = nodes(&rt)?.into_iter();
     let (Some(server), Some(client)) = (setups.next(), setups.next()) else {
         return Err(Fail::new("two nodes"));
     };
