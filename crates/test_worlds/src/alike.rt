@@ -19,7 +19,7 @@ impl Drop for Seen {
 }
 
 /// What a bench shows now.
-fn seen<B: TakesSteps>(alloc: Global, world: &B) -> Result<Seen, AllocError> {
+fn seen_of<B: TakesSteps>(alloc: Global, world: &B) -> Result<Seen, AllocError> {
     Ok(Seen {
         shown: all_of(alloc, world.core())?,
         log: log_of(alloc, world.core())?,
@@ -37,7 +37,7 @@ fn is_run_again<B: TakesSteps>(alloc: Global, from: &B, to: &mut B) -> Result<bo
     for place in 0..from.core().place() {
         all = all && is_added(alloc, from.core(), place, to)?;
     }
-    Ok(all && is_same(&seen(alloc, from)?, &seen(alloc, to)?))
+    Ok(all && is_same(&seen_of(alloc, from)?, &seen_of(alloc, to)?))
 }
 
 /// The entries of a bench.
@@ -57,17 +57,17 @@ fn is_retraced<B: TakesSteps>(
     world: &mut B,
     start: &Seen,
 ) -> Result<bool, AllocError> {
-    let end = seen(alloc, world)?;
+    let end = seen_of(alloc, world)?;
     let entries = entries_of(alloc, world)?;
     let mut all = true;
     for _ in 0..entries.len() {
         all = all && world.back();
     }
-    all = all && !world.back() && is_same(&seen(alloc, world)?, start);
+    all = all && !world.back() && is_same(&seen_of(alloc, world)?, start);
     for entry in entries {
         all = all && world.replay(entry).is_ok();
     }
-    Ok(all && is_same(&seen(alloc, world)?, &end))
+    Ok(all && is_same(&seen_of(alloc, world)?, &end))
 }
 
 /// The log of the last bench that was played, on the last that was opened alike, which is gone then.
@@ -81,7 +81,7 @@ fn runs_last_again<B: TakesSteps + Drop>(
     let Some(world) = play.worlds.get_mut(place) else {
         return Ok(false);
     };
-    let start = seen(play.alloc, &fresh)?;
+    let start = seen_of(play.alloc, &fresh)?;
     Ok(is_run_again(play.alloc, world, &mut fresh)? && is_retraced(play.alloc, world, &start)?)
 }
 
