@@ -2,12 +2,16 @@
 
 # Makes a benchmark a crate of the workspace `work`: its program, and the files of other crates that it takes in as its own. Each line of
 # bench/NAME/taken names a crate and some of its files and folders; what bench/NAME/more/FILE.txt has stands below the text of FILE, so
-# that a benchmark can measure apart what is private there.
+# that a benchmark can measure apart what is private there. What bench/NAME/proofs has of a proof, as FILE.txt, is the program's.
 add_program() {
     local name=$1 work=$2 src=$top/bench/$1 own=$2/crates/bench_of_$1 crate paths path
     mkdir -p "$own/src"
     cp "$src/main.rt.txt" "$own/src/main.rt"
     echo "bench_of_$name: $(cat "$src/deps")" >>"$work/crates.txt"
+    if [ -d "$src/proofs" ]; then
+        cp -r "$src/proofs" "$own/"
+        find "$own/proofs" -name '*.txt' -exec bash -c 'mv "$1" "${1%.txt}"' _ {} \;
+    fi
     [ -f "$src/taken" ] || return 0
     while read -r crate paths; do
         for path in $paths; do

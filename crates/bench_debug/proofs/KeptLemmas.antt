@@ -77,6 +77,7 @@ replies_same old new commands.Lines (Text text) h = same_as old new h.1
 replies_same old new (commands.Sent line) (Text text) h = same_as old new h.1
 replies_same old new (commands.ListRow role row) (Text text) h = same_as old new h.1
 replies_same old new (commands.TotalsOf account) (AreTotals totals) h = same_as old new h.1
+replies_same old new commands.Accounts (Text text) h = same_as old new h.1
 replies_same old new commands.Where (IsAt place next last) h = same_as old new h.3
 replies_same old new commands.Help Help h = same_as old new h
 replies_same old new command reply h = absurd h
@@ -100,7 +101,6 @@ commands_same old new commands.Go result h = goes_same old new result h
 commands_same old new commands.ReverseGo result h = goes_back_same old new result h
 commands_same old new (commands.Goto place) result h = goes_to_same old new place result (nat_le place (place_of old)) h
 commands_same old new (commands.Why key) result h = whys_same old new key result h
-commands_same old new commands.Accounts result h = same_as old new h.1
 commands_same old new command result h = answers_same old new command result h
 
 does_same : (old new : Debugging) (read : Result Command CommandFault) (result : Result Reply CommandFault) → DoesRead old new read result

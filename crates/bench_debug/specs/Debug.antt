@@ -8,6 +8,7 @@ use Rattle.bench_item.specs.declared.key.Role.{Role}
 use Rattle.bench_item.specs.declared.limit.TheConstants.{MAX_BREAKPOINTS}
 use Rattle.bench_item.specs.declared.entry.Moved.{Moved}
 use Rattle.bench_script.specs.Printed.{taken_text}
+use Rattle.bench_show.specs.Accounts.{accounts_text}
 use Rattle.bench_show.specs.History.{LastMove, MovesNone, history_text, move_in}
 use Rattle.bench_show.specs.Lines.{lines_text}
 use Rattle.bench_show.specs.Queues.{queues_text}
@@ -22,7 +23,7 @@ use Rattle.debug_text.specs.declared.command.Breakpoint.TheVariants.{Row}
 use Rattle.debug_text.specs.declared.command.Command.{Command}
 use Rattle.debug_text.specs.declared.command.Command.TheVariants as commands
 use Rattle.debug_text.specs.declared.command.CommandFault.{CommandFault}
-use Rattle.debug_text.specs.declared.command.CommandFault.TheVariants.{AtStart, BadNumber, NoMemory, NoSuchAccount, NoSuchBreakpoint, NoSuchMachine, NoSuchRow, StepRefused, TooManyBreakpoints, UnknownCommand}
+use Rattle.debug_text.specs.declared.command.CommandFault.TheVariants.{AtStart, BadNumber, NoMemory, NoSuchAccount, NoSuchBreakpoint, NoSuchMachine, NoSuchRow, StepRefused, TooManyBreakpoints}
 use Rattle.debug_text.specs.declared.reply.Reply.{Reply}
 use Rattle.debug_text.specs.declared.reply.Reply.TheVariants.{Text, End, At, StoppedAt, EndAt, WasSet, WasCleared, Stands, AreTotals, IsAt, Help}
 use Rattle.script_text.specs.declared.asked.Asked.{Asked}
@@ -287,6 +288,7 @@ Replies old new (commands.Sent line) (Text text) = Tells ((shown old.world).sent
 Replies old new (commands.ListRow role row) (Text text) = (Some text ≡ row_text (table_of old.world.settings role) row) × (new ≡ old)
 Replies old new (commands.TotalsOf account) (AreTotals totals) =
     ((shown old.world).totals_at account ≡ Some totals) × (new ≡ old)
+Replies old new commands.Accounts (Text text) = (text ≡ accounts_text old.world) × (new ≡ old)
 Replies old new commands.Where (IsAt place next last) =
     (place ≡ place_of old) × (next ≡ old.next) × (last ≡ length old.script) × (new ≡ old)
 Replies old new commands.Help Help = new ≡ old
@@ -298,10 +300,6 @@ abbrev pub Answers : Debugging → Debugging → Command → Result Reply Comman
 Answers old new command (Ok reply) = (command_refusal old command ≡ None) × Replies old new command reply
 Answers old new command (Err fault) = (unwrap_or (command_refusal old command) NoMemory ≡ fault) × (new ≡ old)
 
--- a command that this debugger doesn't do yet: it is unknown
-abbrev pub IsUnknown : Debugging → Debugging → Result Reply CommandFault → Type 0
-IsUnknown old new result = (result ≡ Err UnknownCommand) × (new ≡ old)
-
 -- every command
 abbrev pub Commands : Debugging → Debugging → Command → Result Reply CommandFault → Type 0
 Commands old new commands.Step result = Steps old new result
@@ -309,7 +307,6 @@ Commands old new commands.Go result = Goes old new result
 Commands old new commands.ReverseGo result = GoesBackMet old new result
 Commands old new (commands.Goto place) result = GoesTo old new place result
 Commands old new (commands.Why key) result = Whys old new key result
-Commands old new commands.Accounts result = IsUnknown old new result
 Commands old new command result = Answers old new command result
 
 -- a line: a command that is done, or the fault of the line; or memory was wanting to read it

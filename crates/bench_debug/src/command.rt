@@ -11,7 +11,9 @@ use crate::debugger::Debugger;
 use base_list::Octets;
 use bench_item::{Entry, Key, Role};
 use bench_script::line_count;
-use bench_show::{last_move, put_history, put_line_states, put_queues, put_timers, put_why};
+use bench_show::{
+    last_move, put_accounts, put_history, put_line_states, put_queues, put_timers, put_why,
+};
 use debug_text::{Command, CommandFault, Reply, read_command};
 use sent_text::put_messages;
 use std::alloc::AllocError;
@@ -21,7 +23,7 @@ use tab_print::print_row;
 impl Debugger {
     ghost use Rattle.bench_debug.specs.Debug.{Answers, Commands, Does, Whys};
     ghost use Rattle.bench_debug.specs.Seen.{seen};
-    ghost use Rattle.debug_text.specs.declared.command.Command.TheVariants.{Back, History, Lines, ListRow, Queues, Sent, Show, Timers, TotalsOf, Where};
+    ghost use Rattle.debug_text.specs.declared.command.Command.TheVariants.{Accounts, Back, History, Lines, ListRow, Queues, Sent, Show, Timers, TotalsOf, Where};
 
     /// `back`
     fn back(&mut self) -> Result<Reply, CommandFault>
@@ -165,6 +167,17 @@ impl Debugger {
         }
     }
 
+    /// `accounts`
+    fn accounts(&self) -> Result<Reply, CommandFault>
+        ensures { Answers (seen self.now) (seen self.now) Accounts result }
+    {
+        let mut text = Vec::new(self.alloc);
+        match put_accounts(&mut text, &self.core) {
+            Ok(()) => Ok(Reply::Text(Octets::new(text))),
+            Err(_) => Err(CommandFault::NoMemory),
+        }
+    }
+
     /// `where`
     fn place_and_script(&self) -> Reply
         ensures { Answers (seen self.now) (seen self.now) Where (Ok result) }
@@ -198,10 +211,9 @@ impl Debugger {
             Command::Lines => self.lines(),
             Command::Sent(line) => self.sent(line),
             Command::TotalsOf(account) => self.totals(account),
+            Command::Accounts => self.accounts(),
             Command::Where => Ok(self.place_and_script()),
             Command::Help => Ok(Reply::Help),
-            // Not done yet.
-            Command::Accounts => Err(CommandFault::UnknownCommand),
         }
     }
 

@@ -1,5 +1,6 @@
 pub mod PlaceLemmas
 pub mod CountLemmas
+pub mod NumberLemmas
 pub mod HistoryLemmas
 pub mod WhyLemmas
 pub mod LineLemmas

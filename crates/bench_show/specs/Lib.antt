@@ -3,3 +3,4 @@ pub mod Why
 pub mod Lines
 pub mod Timers
 pub mod Queues
+pub mod Accounts

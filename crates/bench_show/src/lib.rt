@@ -8,8 +8,10 @@
 //! | `lines` | where connections stand |
 //! | `timers` | the timers that are armed |
 //! | `queues` | what waits in outboxes, hands and inboxes |
+//! | `accounts` | what stands on accounts |
 #![tactic(auto)]
 
+mod accounts;
 mod history;
 mod key;
 mod lines;
@@ -17,6 +19,7 @@ mod queues;
 mod timers;
 mod why;
 
+pub use accounts::put_accounts;
 pub use history::{last_move, put_history};
 pub use key::is_same_key;
 pub use lines::put_line_states;

@@ -1,7 +1,7 @@
 -- How a run ends, by what was told.
-use Rattle.std.proofs.Common.{◌≡◌, ◌<◌, ◌≤◌, ◌+◌, ◌∙◌, ◌⊎◌, ℕ, Bool, true, false, List, Option, arith, inl, inr, sym}
+use Rattle.std.proofs.Common.{◌≡◌, ◌∙◌, ◌⊎◌, ℕ, Bool, true, false, List, Option, arith, inl, inr, sym}
 use Rattle.std.specs.Prelude.{codes}
-use Rattle.base_device.specs.Devices.{HasFailed, HasReadCause, HasWriteCause, IsRun, TakesWhole, Tells}
+use Rattle.base_device.specs.Devices.{HasReadCause, IsRun, Tells}
 use Rattle.base_device.specs.Inputs.{IsToldUnread, IsUnread}
 use Rattle.base_device.specs.declared.status.Status.{Status}
 use Rattle.base_device.specs.declared.status.Status.TheVariants as statuses
@@ -11,7 +11,7 @@ use Rattle.bench_setup.specs.Halts.{IsHalt, IsToldHalt}
 use Rattle.bench_setup.specs.declared.halt.Halt.{Halt}
 use Rattle.bench_setup.specs.declared.halt.Halt.TheVariants as halts
 use Rattle.bench_spec.specs.Opening.{Config}
-use Rattle.cmd_bench.specs.Met.{IsRunMet}
+use Rattle.cmd_bench.specs.Met.{IsRunMet, TellsRefused}
 use Rattle.cmd_bench.specs.Told.{IsRunOn, run_status}
 use Rattle.cmd_bench.specs.declared.shown.Shown.{Shown}
 
@@ -93,8 +93,30 @@ halt_met remaining reads read_failures contents write_failures idle shown source
     inr (inl (record { text = text.items; refused = is.1; told = told }))
 halt_met remaining reads read_failures contents write_failures idle shown source source' sink sink' halts.NoMemory answer told is unlike = inr (inr told)
 
+-- and so it is whatever would be done else
+unread_ends : {O : Type 0} (contents : O → Option (List ℕ)) (write_failures idle : O → ℕ) (sink sink' : O) (why : InputError) (answer : Status)
+    → IsToldUnread contents write_failures idle sink sink' why answer → (answer ≡ statuses.Fault → ⊥)
+    → Tells contents write_failures idle sink sink' (codes "no memory\n") statuses.NoMemory answer
+unread_ends contents write_failures idle sink sink' (input.NotOpened opened) answer told unlike =
+    absurd (elim told.1 [ inl whole ↦ unlike whole.1 | inr fault ↦ unlike fault.1 ])
+unread_ends contents write_failures idle sink sink' input.Failed answer told unlike =
+    absurd (elim told.1 [ inl whole ↦ unlike whole.1 | inr fault ↦ unlike fault.1 ])
+unread_ends contents write_failures idle sink sink' input.NoEnd answer told unlike =
+    absurd (elim told.1 [ inl whole ↦ unlike whole.1 | inr fault ↦ unlike fault.1 ])
+unread_ends contents write_failures idle sink sink' input.NoMemory answer told unlike = told
+
+pub halt_ends : {I O : Type 0} (remaining : I → Option (List ℕ)) (reads read_failures : I → ℕ) (contents : O → Option (List ℕ)) (write_failures idle : O → ℕ) (source source' : I) (sink sink' : O) (halt : Halt) (answer : Status)
+    → IsToldHalt contents write_failures idle sink sink' halt answer → IsHalt remaining reads read_failures source source' halt → (answer ≡ statuses.Fault → ⊥)
+    → TellsRefused remaining reads read_failures contents write_failures idle source' sink sink' answer
+    ⊎ Tells contents write_failures idle sink sink' (codes "no memory\n") statuses.NoMemory answer
+halt_ends remaining reads read_failures contents write_failures idle source source' sink sink' (halts.Unread name why) answer told is unlike =
+    inr (unread_ends contents write_failures idle sink sink' why answer told unlike)
+halt_ends remaining reads read_failures contents write_failures idle source source' sink sink' (halts.Refused text) answer told is unlike =
+    inl (record { text = text.items; refused = is.1; told = told })
+halt_ends remaining reads read_failures contents write_failures idle source source' sink sink' halts.NoMemory answer told is unlike = inr told
+
 -- what is told with a status that asks for no other words
-told_words : {O : Type 0} (contents : O → Option (List ℕ)) (write_failures idle : O → ℕ) (sink sink' : O) (text : List ℕ) (status answer : Status)
+pub told_words : {O : Type 0} (contents : O → Option (List ℕ)) (write_failures idle : O → ℕ) (sink sink' : O) (text : List ℕ) (status answer : Status)
     → Tells contents write_failures idle sink sink' text status answer → (status ≡ statuses.Usage → ⊥) → answer ≡ statuses.Usage → ⊥
 told_words contents write_failures idle sink sink' text status answer (inl (whole, is)) unlike usage = unlike (sym is ∙ usage)
 told_words contents write_failures idle sink sink' text status answer (inr (cause, is)) unlike usage = let faulted : statuses.Fault ≡ statuses.Usage = sym is ∙ usage in cc
@@ -115,7 +137,7 @@ halt_words contents write_failures idle sink sink' halts.NoMemory answer told =
     told_words contents write_failures idle sink sink' (codes "no memory\n") statuses.NoMemory answer told (λ h. cc)
 
 -- a run is done or refused, which is neither a fault nor asks for other words
-status_is : (refused : Bool) → (run_status refused ≡ statuses.Fault → ⊥) × (run_status refused ≡ statuses.Usage → ⊥)
+pub status_is : (refused : Bool) → (run_status refused ≡ statuses.Fault → ⊥) × (run_status refused ≡ statuses.Usage → ⊥)
 status_is true = (λ h. cc, λ h. cc)
 status_is false = (λ h. cc, λ h. cc)
 

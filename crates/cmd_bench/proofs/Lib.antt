@@ -1,3 +1,5 @@
 pub mod RunLemmas
 pub mod EndLemmas
 pub mod BookLemmas
+pub mod OpenLemmas
+pub mod NodeEndLemmas

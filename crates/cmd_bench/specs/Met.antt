@@ -1,5 +1,5 @@
 -- What `run` does: files are read, and a script is run on a bench, or something is refused before.
-use Rattle.std.specs.Prelude.{◌≡◌, ◌⊎◌, ℕ, List, Option, codes}
+use Rattle.std.specs.Prelude.{◌⊎◌, ℕ, List, Option, codes}
 use Rattle.base_device.specs.Devices.{Tells}
 use Rattle.base_device.specs.Inputs.{IsInput}
 use Rattle.base_device.specs.declared.status.Status.{Status}

@@ -5,12 +5,15 @@
 //! | `shown` | what is printed of a run |
 //! | `opening` | a bench opened with callbacks of all roles, a script run on it, and that told |
 //! | `running` | all of that, from the names of files to a status |
+//! | `nodes` | the same on all nodes of a CONFIG |
 #![tactic(auto)]
 
+mod nodes;
 mod opening;
 mod running;
 mod shown;
 
-pub use opening::{bad_line, opening_text, run_on};
+pub use nodes::{run_all_nodes, run_nodes_on};
+pub use opening::{bad_line, opening_text, opening_text_at, run_on, unbound_at};
 pub use running::{run, tell_sample};
 pub use shown::Shown;

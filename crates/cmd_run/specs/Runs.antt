@@ -6,6 +6,7 @@ use Rattle.base_device.specs.declared.status.Status.{Status}
 use Rattle.base_device.specs.declared.status.Status.TheVariants as statuses
 use Rattle.cmd_bench.specs.Met.{IsRunMet}
 use Rattle.cmd_debug.specs.Met.{IsDebugMet}
+use Rattle.cmd_bench.specs.Nodes.{IsNodesMet}
 use Rattle.cmd_read.specs.Reads.{ReadsWith, TellsNoMemory}
 use Rattle.config_text.specs.declared.sample.TheConstants.{SAMPLE}
 use Rattle.image_text.specs.Listed.{IsListedOn}
@@ -17,7 +18,7 @@ use Rattle.tab_text.specs.Faults.{first_fault}
 use Rattle.tab_walk.specs.Starts.{from_of}
 use Rattle.tab_walk.specs.Walks.{IsWalkedOn}
 use Rattle.tab_walk.specs.declared.start.Manner.{Manner}
-use Rattle.cmd_words.specs.Words.{Wanted, Read, Walk, Names, Table, Draw, Assemble, ListImage, Run, Debug, Sample, Nothing}
+use Rattle.cmd_words.specs.Words.{Wanted, Read, Walk, Names, Table, Draw, Assemble, ListImage, Run, Debug, Sample, Nothing, Nodes}
 
 -- A table, or its image, and then events were read whole, and what is told is the walk of the table over the events, over all laws,
 -- in the manner that was asked for.
@@ -76,6 +77,8 @@ IsMet remaining reads failures contents write_failures idle (Run quiet sent tota
     IsRunMet remaining reads failures contents write_failures idle (record { steps = not quiet; lines = sent; totals = totals }) source source' sink sink' answer
 IsMet remaining reads failures contents write_failures idle (Debug config script commands) source source' sink sink' answer =
     IsDebugMet remaining reads failures contents write_failures idle script source source' sink sink' answer
+IsMet remaining reads failures contents write_failures idle (Nodes quiet sent totals cut config script) source source' sink sink' answer =
+    IsNodesMet remaining reads failures contents write_failures idle cut (record { steps = not quiet; lines = sent; totals = totals }) source source' sink sink' answer
 IsMet remaining reads failures contents write_failures idle Sample source source' sink sink' answer =
     (source' ≡ source) × Tells contents write_failures idle sink sink' SAMPLE.now statuses.Done answer
 IsMet remaining reads failures contents write_failures idle Nothing source source' sink sink' answer =

@@ -1,5 +1,5 @@
 //! One run of the program: from words, an input and an output to a status.
-ghost use Rattle.std.specs.Prelude.{◌≡◌, ◌≢◌, ◌⊎◌, ◌<◌, ◌≤◌, ◌+◌, ◌*◌, ◌-◌, ◌^◌, [], None, map, max, option_map};
+ghost use Rattle.std.specs.Prelude.{◌≡◌, ◌≢◌, ◌⊎◌, ◌<◌, ◌≤◌, ◌+◌, ◌*◌, ◌-◌, ◌^◌, [], None, map, max, not, option_map};
 ghost use Rattle.base_device.specs.Devices.{IsRun, Tells};
 ghost use Rattle.cmd_words.specs.Asked.{meaning};
 ghost use Rattle.cmd_read.specs.Reads.{TellsNoMemory};
@@ -12,7 +12,7 @@ use crate::draw::draw;
 use crate::list::list;
 use crate::walk::{tell_names, tell_table, walk};
 use base_device::{ByteSink, FileSource, MAX_IDLE_WRITES, MAX_READS, Status, tell};
-use cmd_bench::{Shown, run as run_script, tell_sample};
+use cmd_bench::{Shown, run as run_script, run_all_nodes, tell_sample};
 use cmd_debug::debug;
 use cmd_read::read;
 use cmd_words::{Asked, NoWords, Task, WordsError, parse_words};
@@ -32,6 +32,17 @@ pub fn tell_no_words<O: ByteSink>(why: NoWords, sink: &mut O) -> Status
     }
 }
 
+/// What is printed of a run.
+fn shown_of(quiet: bool, sent: bool, totals: bool) -> Shown
+    ensures { result ≡ record { steps = not quiet; lines = sent; totals = totals } }
+{
+    Shown {
+        steps: !quiet,
+        lines: sent,
+        totals,
+    }
+}
+
 /// Does what a command asks for.
 fn run<I: FileSource, O: ByteSink>(
     alloc: Global,
@@ -39,11 +50,11 @@ fn run<I: FileSource, O: ByteSink>(
     source: &mut I,
     sink: &mut O,
 ) -> Status
-    requires reads { I.reads source.old + 7 * MAX_READS < 2 ^ 64 }
+    requires reads { I.reads source.old + 258 * MAX_READS < 2 ^ 64 }
     requires read_failures { I.failures source.old < 2 ^ 64 - 1 }
     requires idle { O.idle sink.old ≡ 0 }
     requires write_failures { O.failures sink.old < 2 ^ 64 - 1 }
-    ensures reads { I.reads source.new ≤ I.reads source.old + 7 * MAX_READS }
+    ensures reads { I.reads source.new ≤ I.reads source.old + 258 * MAX_READS }
     ensures row { O.most_idle sink.new ≤ max (O.most_idle sink.old) MAX_IDLE_WRITES }
     ensures run { IsRun I.reads I.failures O.failures O.idle source.old source.new sink.old sink.new result }
     ensures met { result ≢ Status.Fault
@@ -63,15 +74,15 @@ fn run<I: FileSource, O: ByteSink>(
         Task::Assemble(table) => assemble(alloc, table, source, sink),
         Task::ListImage(image) => list(alloc, image, source, sink),
         Task::Run(quiet, sent, totals, config, script) => {
-            let shown = Shown {
-                steps: !quiet,
-                lines: sent,
-                totals,
-            };
+            let shown = shown_of(quiet, sent, totals);
             run_script(alloc, config, script, shown, source, sink)
         }
         Task::Debug(config, script, commands) => {
             debug(alloc, config, script, commands, source, sink)
+        }
+        Task::Nodes(quiet, sent, totals, cut, config, script) => {
+            let shown = shown_of(quiet, sent, totals);
+            run_all_nodes(alloc, cut as usize, config, script, shown, source, sink)
         }
         Task::Sample => tell_sample(sink),
         Task::Nothing(usage) => tell(sink, usage.as_bytes(), Status::Usage),
@@ -86,13 +97,13 @@ pub fn main_on<S: AsStr, I: FileSource, O: ByteSink>(
     source: &mut I,
     sink: &mut O,
 ) -> Status
-    requires reads { I.reads source.old + 7 * MAX_READS < 2 ^ 64 }
+    requires reads { I.reads source.old + 258 * MAX_READS < 2 ^ 64 }
     requires read_failures { I.failures source.old < 2 ^ 64 - 1 }
     requires idle { O.idle sink.old ≡ 0 }
     requires write_failures { O.failures sink.old < 2 ^ 64 - 1 }
 
-    // The bounds on reads, of which a debugger has those of seven inputs, and on writes in a row that take nothing.
-    ensures reads { I.reads source.new ≤ I.reads source.old + 7 * MAX_READS }
+    // The bounds on reads, of which a run of all nodes has those of 258 inputs, and on writes in a row that take nothing.
+    ensures reads { I.reads source.new ≤ I.reads source.old + 258 * MAX_READS }
     ensures row { O.most_idle sink.new ≤ max (O.most_idle sink.old) MAX_IDLE_WRITES }
 
     // A fault comes only where a device failed or a bound was met, and a device's failure is told.

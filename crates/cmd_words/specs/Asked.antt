@@ -3,7 +3,7 @@ use Rattle.std.specs.Prelude.{◌≡◌, ◌≢◌, ◌⊎◌, List, [], option_
 use Rattle.clap.specs.Words.{Text}
 use Rattle.clap.specs.declared.error.kind.ErrorKind.{ErrorKind}
 use Rattle.clap.specs.declared.error.kind.ErrorKind.TheVariants.{DisplayHelp, DisplayVersion, OutOfMemory}
-use Rattle.cmd_words.specs.Words.{AreRefused, AskForText, Wanted, Read, Walk, Names, Table, Draw, Assemble, ListImage, Run, Debug, Sample, Nothing, wanted, word_faults}
+use Rattle.cmd_words.specs.Words.{AreRefused, AskForText, Wanted, Read, Walk, Names, Table, Draw, Assemble, ListImage, Run, Debug, Sample, Nothing, wanted, word_faults, Nodes}
 use Rattle.cmd_words.specs.declared.words.Task.{Task}
 use Rattle.cmd_words.specs.declared.words.Task.TheVariants as tasks
 use Rattle.cmd_words.specs.declared.words.Asked.{Asked}
@@ -24,6 +24,8 @@ meaning (tasks.ListImage image) = ListImage (option_map (λ name. name.now) imag
 meaning (tasks.Run quiet sent totals config script) = Run quiet sent totals config.now (option_map (λ name. name.now) script)
 meaning (tasks.Debug config script commands) =
     Debug config.now (option_map (λ name. name.now) script) (option_map (λ name. name.now) commands)
+meaning (tasks.Nodes quiet sent totals cut config script) =
+    Nodes quiet sent totals cut config.now (option_map (λ name. name.now) script)
 meaning tasks.Sample = Sample
 meaning (tasks.Nothing usage) = Nothing
 

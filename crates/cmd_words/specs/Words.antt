@@ -1,7 +1,8 @@
 -- Which words on the command line are understood, in the words of `clap`, and what they ask for.
-use Rattle.std.specs.Prelude.{◌≢◌, ◌⊎◌, Bool, true, false, List, Option, Some, None, codes, if◌then◌else◌}
+use Rattle.std.specs.Prelude.{◌≢◌, ◌⊎◌, ℕ, Bool, true, false, List, Option, Some, None, codes, nat_lt, if◌then◌else◌}
 use Rattle.std.specs.Option.{option_map_or}
 use Rattle.std.specs.Str.{bytes_eq}
+use Rattle.base_text.specs.Numbers.{number_of}
 use Rattle.clap.specs.Words.{App, IsAmong, Kinds, Row, Rule, Text, fault_of, first_of, new_app, new_rule, subcommand_of, with_rule, with_subcommand}
 use Rattle.clap.specs.Simple.{on_top}
 use Rattle.clap.specs.declared.builder.action.ArgAction.TheVariants.{SetTrue}
@@ -42,9 +43,13 @@ list_app = with_rule (new_app (codes "list")) (new_rule (codes "FILE"))
 abbrev pub run_values : App
 run_values = with_rule (with_rule (new_app (codes "run")) (new_rule (codes "CONFIG"))) (new_rule (codes "SCRIPT"))
 
--- and `--quiet`, `--sent` and `--totals`, or `--sample`
+-- and `--quiet`, `--sent` and `--totals`
+abbrev pub run_flags : App
+run_flags = with_rule (with_rule (with_rule run_values (flag_rule (codes "quiet"))) (flag_rule (codes "sent"))) (flag_rule (codes "totals"))
+
+-- and `--nodes` with `--cut`, or `--sample`
 abbrev pub run_app : App
-run_app = with_rule (with_rule (with_rule (with_rule run_values (flag_rule (codes "quiet"))) (flag_rule (codes "sent"))) (flag_rule (codes "totals"))) (flag_rule (codes "sample"))
+run_app = with_rule (with_rule (with_rule run_flags (flag_rule (codes "nodes"))) (option_rule (codes "N") (codes "cut"))) (flag_rule (codes "sample"))
 
 -- `dbench`, with a version, of which a command is required: `read` and `walk`
 abbrev pub walking_app : App
@@ -84,6 +89,7 @@ pub data Wanted : Type 0 where
   ListImage : Option Text → Wanted
   Run : (quiet sent totals : Bool) → (config : Text) → (script : Option Text) → Wanted
   Debug : (config : Text) → (script commands : Option Text) → Wanted
+  Nodes : (quiet sent totals : Bool) → (cut : ℕ) → (config : Text) → (script : Option Text) → Wanted
   Sample : Wanted
   Nothing : Wanted
 
@@ -105,6 +111,25 @@ abbrev pub debug_wanted : (config script commands : Option Text) → Wanted
 debug_wanted (Some config) script commands = Debug config script commands
 debug_wanted None script commands = Nothing
 
+-- in pieces of how many octets: without `--cut` of no fewer than there can be, and else of one at least
+abbrev pub positive : Option ℕ → Option ℕ
+positive None = None
+positive (Some size) = if nat_lt 0 size then Some size else None
+
+abbrev pub cut_of : Option Text → Option ℕ
+cut_of None = Some 18446744073709551615
+cut_of (Some text) = positive (number_of text)
+
+-- what `run --nodes` asks for: a run of all nodes, whose octets come in pieces of so many
+abbrev pub nodes_wanted : (sample quiet sent totals : Bool) → (cut : Option ℕ) → (config script : Option Text) → Wanted
+nodes_wanted false quiet sent totals (Some cut) (Some config) script = Nodes quiet sent totals cut config script
+nodes_wanted sample quiet sent totals cut config script = Nothing
+
+-- what goes without `--cut` alone
+abbrev pub uncut : Option Text → Wanted → Wanted
+uncut None wanted = wanted
+uncut (Some text) wanted = Nothing
+
 -- a flag that was given has this value
 abbrev pub is_given : Option Text → Bool
 is_given value = option_map_or (λ text. bytes_eq text (codes "true")) value false
@@ -117,8 +142,8 @@ read_wanted false true by_line dictionary file = Read Json by_line dictionary fi
 read_wanted true true by_line dictionary file = Nothing
 
 -- what `run` asks for, by what stands behind it
-abbrev pub run_in : List Row → Wanted
-run_in rows =
+abbrev pub one_in : List Row → Wanted
+one_in rows =
     run_wanted (is_given (first_of (codes "sample") rows)) (is_given (first_of (codes "quiet") rows)) (is_given (first_of (codes "sent") rows))
     (is_given (first_of (codes "totals") rows))
     (first_of (codes "CONFIG") rows)
@@ -127,6 +152,17 @@ run_in rows =
 -- what `debug` asks for, by what stands behind it
 abbrev pub debug_in : List Row → Wanted
 debug_in rows = debug_wanted (first_of (codes "CONFIG") rows) (first_of (codes "SCRIPT") rows) (first_of (codes "FILE") rows)
+
+abbrev pub all_in : List Row → Wanted
+all_in rows =
+    nodes_wanted (is_given (first_of (codes "sample") rows)) (is_given (first_of (codes "quiet") rows)) (is_given (first_of (codes "sent") rows))
+    (is_given (first_of (codes "totals") rows))
+    (cut_of (first_of (codes "N") rows))
+    (first_of (codes "CONFIG") rows)
+    (first_of (codes "SCRIPT") rows)
+
+abbrev pub run_in : List Row → Wanted
+run_in rows = if is_given (first_of (codes "nodes") rows) then all_in rows else uncut (first_of (codes "N") rows) (one_in rows)
 
 -- what a command asks for, by its name and what stands behind it
 abbrev pub wanted_of : Option (Text × List Row) → Wanted

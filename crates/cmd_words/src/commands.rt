@@ -227,6 +227,19 @@ fn run_command<'a>(alloc: Global) -> Result<Command<'a>, AllocError>
         "totals",
         "Print at the end what stands on each account",
     )?;
+    let command = with_flag(
+        alloc,
+        command,
+        "nodes",
+        "Run every node of CONFIG; a line of SCRIPT is HOST and a line of its script, or settle, which carries octets between them",
+    )?;
+    let command = with_option(
+        alloc,
+        command,
+        "N",
+        "cut",
+        "Carry octets between nodes in pieces of N",
+    )?;
     with_flag(alloc, command, "sample", "Print a small CONFIG")
 }
 

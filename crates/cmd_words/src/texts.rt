@@ -143,6 +143,10 @@ one for each account, `account ID given G reserved R debited D unpaid U`. With -
   dbench run examples/runs/server.json examples/runs/session.script
   dbench run --quiet --sent node.json script | grep '^line 1' | cut -d' ' -f4 | dbench read --explain
 
+With --nodes every node of CONFIG runs. A line of SCRIPT is then HOST and a line as above, for that node alone, or `settle`: each node in turn
+settles, what it dials is opened at the node of that host, if it has `listen`, and what it sent comes at the other end, until nothing is left.
+What is printed has the host in front, and is a script for --nodes again. With --cut N octets come in pieces of N.
+
 Nothing is run where something is wrong: `bad line N` is the first line of SCRIPT that has another form, from 1; CONFIG, its tables
 and its dictionary are told with what was wanted.";
 
@@ -171,6 +175,7 @@ pub(crate) const RUN_USAGE: &str = "\
 wanted one of: a CONFIG, --sample
 
 Usage: dbench run [--quiet] [--sent] [--totals] CONFIG [SCRIPT]
+       dbench run --nodes [--cut N] [--quiet] [--sent] [--totals] CONFIG [SCRIPT]
        dbench run --sample
 
 For more information, try '--help'.

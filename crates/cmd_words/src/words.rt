@@ -2,12 +2,13 @@
 ghost use Rattle.std.specs.Prelude.{◌≡◌, Some, map, option_map};
 ghost use Rattle.clap.specs.Words.{first_of, found_of, kind_of, rows_of};
 ghost use Rattle.cmd_words.specs.declared.words.WordsError.TheVariants.{NoMemory};
-ghost use Rattle.cmd_words.specs.Words.{debug_in, debug_wanted, is_given, read_wanted, run_in, run_wanted, walk_wanted, wanted_of};
+ghost use Rattle.cmd_words.specs.Words.{debug_in, debug_wanted, is_given, read_wanted, run_in, run_wanted, walk_wanted, wanted_of, cut_of, nodes_wanted, uncut};
 ghost use Rattle.cmd_words.specs.Asked.{IsAsked, IsRefusal, meaning};
 
 use crate::commands::command;
 use crate::debug::DEBUG_USAGE;
 use crate::texts::{READ_USAGE, RUN_USAGE, WALK_USAGE};
+use base_text::number_of;
 use clap::error::ErrorKind;
 use clap::{ArgMatches, Error};
 use msg_input::Style;
@@ -67,6 +68,9 @@ pub enum Task<'a> {
     /// `debug`, of the first node of this file, over the script of this file or over none, with the commands of this file or of
     /// standard input.
     Debug(&'a str, Option<&'a str>, Option<&'a str>),
+    /// `run --nodes`, quiet or not, telling what was sent and the totals or not, in pieces of so many octets, of the nodes of this
+    /// file, over the script of this file or of standard input.
+    Nodes(bool, bool, bool, u64, &'a str, Option<&'a str>),
     /// A small CONFIG.
     Sample,
     /// Not one thing: what is told then.
@@ -183,6 +187,47 @@ fn run_task<'a>(
     }
 }
 
+/// In pieces of how many octets; none where that is no number from 1 on.
+fn cut_of(text: Option<&str>) -> Option<u64>
+    ensures { result ≡ cut_of (option_map (λ text. text.now) text.entry) }
+{
+    let Some(text) = text else {
+        return Some(u64::MAX);
+    };
+    match number_of(text.as_bytes()) {
+        Some(size) => { if size > 0 { Some(size) } else { None } }
+        None => None,
+    }
+}
+
+/// What `run --nodes` asks for, by its flags, `--cut`, CONFIG and SCRIPT.
+fn nodes_task<'a>(
+    sample: bool,
+    quiet: bool,
+    sent: bool,
+    totals: bool,
+    cut: Option<u64>,
+    config: Option<&'a str>,
+    script: Option<&'a str>,
+) -> Task<'a>
+    ensures { meaning result ≡ nodes_wanted sample quiet sent totals cut (option_map (λ text. text.now) config.entry) (option_map (λ text. text.now) script.entry) }
+{
+    match (sample, cut, config) {
+        (false, Some(cut), Some(config)) => Task::Nodes(quiet, sent, totals, cut, config, script),
+        _ => Task::Nothing(RUN_USAGE),
+    }
+}
+
+/// What goes without `--cut` alone.
+fn uncut<'a>(cut: Option<&str>, task: Task<'a>) -> Task<'a>
+    ensures { meaning result ≡ uncut (option_map (λ text. text.now) cut.entry) (meaning task.entry) }
+{
+    match cut {
+        None => task,
+        Some(_) => Task::Nothing(RUN_USAGE),
+    }
+}
+
 /// The value of an argument, if it has one.
 fn value_of<'a>(found: &ArgMatches<'a>, id: &str) -> Option<&'a str>
     ensures { option_map (λ text. text.now) result ≡ first_of id.now (rows_of (found_of found.now)) }
@@ -199,14 +244,12 @@ fn run_task_of<'a>(found: &ArgMatches<'a>) -> Task<'a>
     let sent = is_given(value_of(found, "sent"));
     let totals = is_given(value_of(found, "totals"));
     let config = value_of(found, "CONFIG");
-    run_task(
-        sample,
-        quiet,
-        sent,
-        totals,
-        config,
-        value_of(found, "SCRIPT"),
-    )
+    let script = value_of(found, "SCRIPT");
+    let cut = value_of(found, "N");
+    if is_given(value_of(found, "nodes")) {
+        return nodes_task(sample, quiet, sent, totals, cut_of(cut), config, script);
+    }
+    uncut(cut, run_task(sample, quiet, sent, totals, config, script))
 }
 
 /// What `debug` asks for, by CONFIG, SCRIPT and the file of commands.

@@ -70,14 +70,14 @@ fn put_answers(
 
 /// A session of a debugger.
 #[derive(Clone, Copy)]
-struct Session {
-    shards: u64,
+pub(crate) struct Session {
+    pub(crate) shards: u64,
     /// Whether a connection is accepted before the debugger is made.
-    joined: bool,
-    script: &'static str,
-    commands: &'static str,
+    pub(crate) joined: bool,
+    pub(crate) script: &'static str,
+    pub(crate) commands: &'static str,
     /// So many of the last octets that connection 1 sent are printed at the end.
-    sent: usize,
+    pub(crate) sent: usize,
 }
 
 /// Puts the last octets that connection 1 sent.
@@ -88,7 +88,7 @@ fn put_sent(core: &Core, count: usize, out: &mut Vec<u8>) -> Result<(), Fail> {
 }
 
 /// What a session prints.
-fn printed(alloc: Global, session: &Session) -> Result<Vec<u8>, Fail> {
+pub(crate) fn printed(alloc: Global, session: &Session) -> Result<Vec<u8>, Fail> {
     let laws = all_laws(alloc)?;
     let mut registries = Vec::new(alloc);
     for _shard in 0..session.shards {
@@ -171,7 +171,7 @@ fn opened_and_debugged(
 }
 
 /// A connection, capabilities exchanged, and a session that asks for 60 units (RFC 6733 section 5.3, RFC 8506 section 5.2.1).
-const SCRIPT: &str = "\
+pub(crate) const SCRIPT: &str = "\
 join
 came 1 0100006c800001010000000000000001000000010000010840000011632e6578616d706c65000000000001284000000f6578616d706c6500000001014000000e00017f00000100000000010a4000000c000000000000010d0000000978000000000001024000000c00000004010000bcc0000110000000040000000700000007000001074000000c63313b310000010840000011632e6578616d706c65000000000001284000000f6578616d706c65000000011b4000000f6578616d706c6500000001024000000c00000004000001cd4000000b78407900000001a04000000c000000010000019f4000000c00000000000001bb40000020000001c24000000c00000000000001bc4000000b31303000000001b540000018000001a140000010000000000000003c
 lift line 1
@@ -445,11 +445,15 @@ fn a_session_is_spread_over_two_shards(rt: HostRuntime) -> Result<(), Fail> {
         script: SPREAD,
         commands: "goto 15
 show s:c1;1
+show p:c.example
+totals 100
 go",
         sent: 140,
     };
     let wanted = "at 15
 s:c1;1 Open r0=100 r1=1 r2=2001 r3=60 r4=3 r8=1 r15=1
+p:c.example R-Open r1=1 r3=1 r4=1 r5=1 r14=4096 r15=1
+given 100 reserved 60 debited 0 unpaid 0
 end at 20
 0100008c40000110000000040000000700000007000001074000000c63313b310000010c4000000c000007d10000010840000011732e6578616d706c65000000000001284000000f6578616d706c6500000001024000000c00000004000001a04000000c000000010000019f4000000c00000000000001af40000018000001a140000010000000000000003c";
     assert!(rt; printed(rt.alloc(), &session)?.as_slice() == wanted.as_bytes());
@@ -545,173 +549,5 @@ fn thirty_two_breakpoints_are_set_at_a_time(rt: HostRuntime) -> Result<(), Fail>
         sent: 0,
     };
     assert!(rt; printed(rt.alloc(), &session)?.as_slice() == MANY_ANSWERS.as_bytes());
-    Ok(())
-}
-
-/// What is told of a session that has moved, and of one that has not.
-const TOLD_COMMANDS: &str = "\
-lines
-go
-history s:c1;1
-why s:c1;1
-lines
-history s:c1;2
-why s:c1;2
-why c:c1;1
-sent 1
-sent 0
-sent 2
-sent x
-sent";
-
-/// What that is answered.
-const TOLD_ANSWERS: &str = "\
-end at 15
-15 work 0
-  s:c1;1 Initial Idle Open row 3
-    Reserve 60 = 60 0
-    To-Peer 0 1 7 7 2 1 1 0 0 0 3 0 2001 60
-    Arm 1 600
-15 work 0
-  s:c1;1 Initial Idle Open row 3
-    Reserve 60 = 60 0
-    To-Peer 0 1 7 7 2 1 1 0 0 0 3 0 2001 60
-    Arm 1 600
-event Initial 1=1 2=7 3=7 4=1 5=1 6=1 7=100 9=60 10=3 12=2001 13=60
-  Idle   Initial when enough                     Open-Account, Reserve, Snd-CCA, Start-Tcc                                          Open
-  row 0: repeat no
-  row 1: old no
-  row 2: grouped no enough yes
-  row 3: enough yes
-line 1 open sent 124
-fault 3
-fault 3
-fault 3
-message 1 at octet 0: CEA Capabilities-Exchange-Answer ----, version 1, length 124, command 257, application 0, hop-by-hop 1, end-to-end 1
-  20: 268 Result-Code -M- 12 2001 DIAMETER_SUCCESS
-  32: 264 Origin-Host -M- 17 \"s.example\"
-  52: 296 Origin-Realm -M- 15 \"example\"
-  68: 257 Host-IP-Address -M- 14 192.0.2.1
-  84: 266 Vendor-Id -M- 12 0
-  96: 269 Product-Name --- 14 \"dbench\"
-  112: 258 Auth-Application-Id -M- 12 4
-fault 2
-fault 2
-fault 2
-fault 1
-";
-
-#[test]
-fn moves_are_told(rt: HostRuntime) -> Result<(), Fail> {
-    let session = Session {
-        shards: 1,
-        joined: false,
-        script: SCRIPT,
-        commands: TOLD_COMMANDS,
-        sent: 0,
-    };
-    assert!(rt; printed(rt.alloc(), &session)?.as_slice() == TOLD_ANSWERS.as_bytes());
-    Ok(())
-}
-
-/// What waits on the way of a request.
-const QUEUED_COMMANDS: &str = "\
-queues
-goto 3
-queues
-goto 4
-queues
-goto 11
-queues
-history p:c.example
-go
-queues
-queues 1";
-
-/// What that is answered.
-const QUEUED_ANSWERS: &str = "\
-at 3
-line 1 outbox p:c.example R-Rcv-Message 1=1 2=7 3=7 4=1 5=1 6=1 7=100 9=60 10=3
-line 1 hand p:c.example R-Conn-CER 1=1 2=1 3=1 5=1
-at 4
-line 1 outbox p:c.example R-Rcv-Message 1=1 2=7 3=7 4=1 5=1 6=1 7=100 9=60 10=3
-shard 0 inbox p:c.example R-Conn-CER 1=1 2=1 3=1 5=1
-at 11
-shard 0 outbox s:c1;1 Initial 1=1 2=7 3=7 4=1 5=1 6=1 7=100 9=60 10=3
-shard 0 hand p:c.example Disarm
-5 work 0
-  p:c.example R-Conn-CER Closed R-Open row 1
-    Snd-CEA 0 1 1 1 2001
-    Disarm
-8 work 0
-  p:c.example R-Rcv-Message R-Open R-Open row 23
-    To-Session 0 1 7 7 1 1 1 100 0 60 3
-end at 15
-shard 0 outbox p:c.example Send-Message 1=1 2=7 3=7 4=2 5=1 6=1 10=3 12=2001 13=60
-shard 0 outbox s:c1;1 Arm 1 600
-fault 1
-";
-
-#[test]
-fn what_waits_is_shown(rt: HostRuntime) -> Result<(), Fail> {
-    let session = Session {
-        shards: 1,
-        joined: false,
-        script: SCRIPT,
-        commands: QUEUED_COMMANDS,
-        sent: 0,
-    };
-    assert!(rt; printed(rt.alloc(), &session)?.as_slice() == QUEUED_ANSWERS.as_bytes());
-    Ok(())
-}
-
-/// A request for 60 units, and a timer that is armed and fires (RFC 8506 section 13).
-const TIMED: &str = "\
-told 0 c:x;2 Begin 7=100 9=60 10=3
-lift desk 0
-drop desk 0
-work 0
-lift shard 0
-drop shard 0
-lift shard 0
-drop shard 0
-fired c:x;2 1
-";
-
-/// What that is answered.
-const TIMED_ANSWERS: &str = "\
-at 1
-desk 0 outbox c:x;2 Begin 7=100 9=60 10=3
-at 4
-shard 0 outbox p:c.example Send-Message 2=1 4=1 5=1 6=1 7=100 9=60 10=3
-shard 0 outbox c:x;2 Arm 1 10
-at 8
-timer c:x;2 1
-shard 0 inbox p:c.example Send-Message 2=1 4=1 5=1 6=1 7=100 9=60 10=3
-end at 9
-shard 0 inbox p:c.example Send-Message 2=1 4=1 5=1 6=1 7=100 9=60 10=3
-clock outbox c:x;2 Tx
-";
-
-#[test]
-fn timers_are_shown(rt: HostRuntime) -> Result<(), Fail> {
-    let session = Session {
-        shards: 1,
-        joined: false,
-        script: TIMED,
-        commands: "goto 1
-queues
-goto 4
-queues
-timers
-goto 8
-timers
-queues
-go
-timers
-queues",
-        sent: 0,
-    };
-    assert!(rt; printed(rt.alloc(), &session)?.as_slice() == TIMED_ANSWERS.as_bytes());
     Ok(())
 }

@@ -4,6 +4,8 @@
 #[cfg(test)]
 mod debugs;
 #[cfg(test)]
+mod nodes;
+#[cfg(test)]
 mod runs;
 #[cfg(test)]
 mod scripts;

@@ -48,6 +48,31 @@ fn words_ask_for_a_text_or_an_input_or_are_refused(rt: HostRuntime) -> Result<()
             "wanted one of: a CONFIG, --sample",
         ),
         (
+            ["dbench", "run", "--nodes"].as_slice(),
+            2,
+            "wanted one of: a CONFIG, --sample",
+        ),
+        (
+            ["dbench", "run", "--nodes", "no/such.json"].as_slice(),
+            3,
+            "read fault: no/such.json can't be opened\n",
+        ),
+        (
+            ["dbench", "run", "--nodes", "--cut", "50", "no/such.json"].as_slice(),
+            3,
+            "read fault: no/such.json can't be opened\n",
+        ),
+        (
+            ["dbench", "run", "--nodes", "--cut", "0", "no/such.json"].as_slice(),
+            2,
+            "wanted one of: a CONFIG, --sample",
+        ),
+        (
+            ["dbench", "run", "--cut", "50", "no/such.json"].as_slice(),
+            2,
+            "wanted one of: a CONFIG, --sample",
+        ),
+        (
             ["dbench", "run", "--help"].as_slice(),
             0,
             "settle             all of the last three",

@@ -1,0 +1,41 @@
+use Rattle.std.proofs.Common.{inl, inr}
+use Rattle.std.specs.Prelude.{replicate}
+use Rattle.bench_item.specs.declared.limit.TheConstants.{MAX_SHARDS}
+use Rattle.role_tables.specs.Roles.{all_laws}
+use Rattle.cmd_bench.proofs.EndLemmas.{halt_ends, halt_run, halt_words}
+use Rattle.cmd_bench.proofs.NodeEndLemmas.{nodes_run, nodes_words}
+use Rattle.cmd_bench.proofs.nodes.run_all_nodes.Goals as goal
+
+-- a script is run
+pub returns-in-Ok-clause-run : goal.returns-in-Ok-clause-run
+returns-in-Ok-clause-run g c =
+    nodes_run g.I.ByteSource.reads g.I.ByteSource.failures g.O.ByteSink.contents g.O.ByteSink.failures g.O.ByteSink.idle (replicate MAX_SHARDS all_laws) c.args.cut c.in-Ok.ready.setups.items
+    c.in-Ok.ready.script.items c.args.shown c.args.source.now c.read_all_nodes.new.source c.args.sink.now c.run_nodes_ready.new.sink c.run_nodes_ready.result c.run_nodes_ready.ensures.run c.in-Ok.ensures.sound
+
+pub returns-in-Ok-clause-met : goal.returns-in-Ok-clause-met
+returns-in-Ok-clause-met g c = λ fault. inl (record {
+  setups = c.in-Ok.ready.setups.items;
+  script = c.in-Ok.ready.script.items;
+  inputs = c.in-Ok.ensures.ready;
+  run = c.run_nodes_ready.ensures.run;
+})
+
+pub returns-in-Ok-clause-words : goal.returns-in-Ok-clause-words
+returns-in-Ok-clause-words g c =
+    nodes_words g.O.ByteSink.contents g.O.ByteSink.failures g.O.ByteSink.idle (replicate MAX_SHARDS all_laws) c.args.cut c.in-Ok.ready.setups.items c.in-Ok.ready.script.items c.args.shown
+    c.args.sink.now c.run_nodes_ready.new.sink c.run_nodes_ready.result c.run_nodes_ready.ensures.run
+
+-- or something stands in the way
+pub returns-in-Err-clause-run : goal.returns-in-Err-clause-run
+returns-in-Err-clause-run g c =
+    halt_run g.I.ByteSource.remaining g.I.ByteSource.reads g.I.ByteSource.failures g.O.ByteSink.contents g.O.ByteSink.failures g.O.ByteSink.idle c.args.source.now c.read_all_nodes.new.source c.args.sink.now
+    c.tell_halt.new.sink c.in-Err.halt c.tell_halt.result c.tell_halt.ensures.told c.in-Err.ensures.halt
+
+pub returns-in-Err-clause-met : goal.returns-in-Err-clause-met
+returns-in-Err-clause-met g c = λ fault. inr
+    (halt_ends g.I.ByteSource.remaining g.I.ByteSource.reads g.I.ByteSource.failures g.O.ByteSink.contents g.O.ByteSink.failures g.O.ByteSink.idle c.args.source.now c.read_all_nodes.new.source c.args.sink.now
+    c.tell_halt.new.sink c.in-Err.halt c.tell_halt.result c.tell_halt.ensures.told c.in-Err.ensures.halt fault)
+
+pub returns-in-Err-clause-words : goal.returns-in-Err-clause-words
+returns-in-Err-clause-words g c =
+    halt_words g.O.ByteSink.contents g.O.ByteSink.failures g.O.ByteSink.idle c.args.sink.now c.tell_halt.new.sink c.in-Err.halt c.tell_halt.result c.tell_halt.ensures.told
