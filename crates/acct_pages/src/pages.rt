@@ -6,7 +6,7 @@ ghost use Rattle.acct_book.specs.Book.{Paged};
 use acct_book::Page;
 use std::alloc::{AllocError, Global};
 use std::marker::Model;
-use std::sync::{Mutex, Wait};
+use std::sync::{Mutex, MutexGuard, Wait};
 
 /// Lends a page to the closure.
 fn lend<T, F: FnOnce(&mut Page) -> T>(page: &mut Page, f: F) -> T
@@ -93,6 +93,14 @@ impl Pages {
     {
         let mut page = self.locks[number as usize].lock(rt);
         lend(&mut page, f)
+    }
+
+    /// Takes the lock of a page. It is held as long as the guard is there. Waits for the lock: whoever holds it is to take no other one, and
+    /// not this one again.
+    pub fn lock<R: Wait>(&self, rt: &R, number: u64) -> MutexGuard<'_, Page>
+        requires { number < self.now }
+    {
+        self.locks[number as usize].lock(rt)
     }
 
     /// The pages without their locks, in order of their numbers. Takes no memory.

@@ -5,16 +5,28 @@ use Rattle.std.specs.Option.{option_and_then, option_map_or}
 use Rattle.std.proofs.lemmas.Bool.Decides.{nat_tests}
 use Rattle.std.proofs.lemmas.Option.{none-some, option_and_then_some}
 use Rattle.bench_item.specs.declared.item.Item.{Item}
+use Rattle.bench_item.specs.declared.item.Item.TheVariants.{Arm, Dial, Disarm, ToLine, ToMachine, Undial}
+use Rattle.bench_item.specs.declared.item.MachineItem.{MachineItem}
 use Rattle.bench_item.specs.declared.source.Source.{Source}
 use Rattle.bench_item.specs.declared.source.Source.TheVariants.{Clock, Desk, Line, Shard}
 use Rattle.bench_line.specs.Line.{LineView}
 use Rattle.bench_line.specs.Lines.{line_at}
+use Rattle.bench_log.specs.Targets.{event_in}
 use Rattle.bench_queue.specs.Outbox.{OutboxState, OutboxView, hand_out, has_hand}
 use Rattle.bench_shard.specs.View.{ShardView}
 use Rattle.bench_views.specs.Looks.{dropped_on, hand_of}
 use Rattle.bench_views.specs.Stored.{Stored}
 use Rattle.bench_carry.specs.Hands.{CanBeDropped, with_hands}
 use Rattle.bench_carry.specs.Seen.{views_of}
+
+-- an item for a machine is its event
+pub event-is : (item : Item) (event : MachineItem) → event_in item ≡ Some event → item ≡ ToMachine event
+event-is (ToMachine i) event is = cc
+event-is (ToLine i) event is = absurd (none-some event is)
+event-is (Dial peer generation) event is = absurd (none-some event is)
+event-is (Undial peer generation) event is = absurd (none-some event is)
+event-is (Arm machine generation ticks) event is = absurd (none-some event is)
+event-is (Disarm machine) event is = absurd (none-some event is)
 
 -- nothing stands behind a front of a list
 front-lacks : {X : Type 0} (n : ℕ) (xs : List X) (k : ℕ) → n ≤ k → slice_get (take n xs) k ≡ None

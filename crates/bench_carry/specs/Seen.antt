@@ -1,5 +1,5 @@
 -- The parts of a bench from which items are carried on.
-use Rattle.std.specs.Prelude.{◌≡◌, ℕ, suc, true, List, Some, map, slice_get}
+use Rattle.std.specs.Prelude.{◌≡◌, suc, true, List, Some, map, slice_get}
 use Rattle.bench_item.specs.declared.source.Source.{Source}
 use Rattle.bench_item.specs.declared.source.Source.TheVariants.{Clock, Desk, Line, Shard}
 use Rattle.bench_line.specs.Line.{LineView}

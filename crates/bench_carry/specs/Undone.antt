@@ -1,6 +1,6 @@
 -- What takes a step back.
 use Rattle.std.specs.Prelude.{ℕ, ◌-◌, suc, length, take}
-use Rattle.acct_book.specs.Book.{Book, taken_back}
+use Rattle.acct_book.specs.Book.{Book}
 use Rattle.tick_wheel.specs.Timers.{with_timer}
 use Rattle.bench_item.specs.declared.source.Source.{Source}
 use Rattle.bench_item.specs.declared.source.Source.TheVariants.{Clock, Desk, Line, Shard}

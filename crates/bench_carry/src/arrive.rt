@@ -4,6 +4,7 @@ ghost use Rattle.bench_item.specs.declared.limit.TheConstants.{MAX_SHARDS};
 ghost use Rattle.bench_item.specs.declared.source.Source.{Source};
 ghost use Rattle.bench_item.specs.Keys.{home};
 ghost use Rattle.bench_item.specs.Lines.{Delivered, Undialled};
+ghost use Rattle.bench_log.specs.Targets.{event_in};
 ghost use Rattle.bench_line.specs.Lines.{one_more, with_step};
 ghost use Rattle.bench_queue.specs.Inbox.{put_in};
 ghost use Rattle.bench_shard.specs.View.{with_inbox};
@@ -17,29 +18,30 @@ ghost use Rattle.bench_carry.specs.Hands.{is_home_crowded, lacks_room};
 ghost use Rattle.bench_carry.specs.Placed.{IsPlaced};
 ghost use Rattle.bench_carry.specs.Undone.{unarrived};
 
-use bench_item::{Item, LineItem, MachineItem, home};
+use bench_item::{Item, LineItem, home};
 use bench_line::{Change, Lines};
+use bench_log::{KeptItem, KeptMachineItem};
 use bench_shard::ShardState;
 use bench_undo::Arrival;
 use line_message::Listener;
-use std::alloc::AllocError;
+use std::alloc::{AllocError, Global};
 use tick_wheel::Wheel;
 
 // An event comes to the shard of its machine.
-fn put_event(shards: &mut [ShardState], item: &MachineItem) -> Result<Arrival, AllocError>
+fn put_event(shards: &mut [ShardState], item: KeptMachineItem) -> Result<Arrival, AllocError>
     requires some { 0 < length shards.old }
     requires few { length shards.old ≤ MAX_SHARDS }
-    requires room { is_home_crowded shards.old item.now.key ≡ false }
+    requires room { is_home_crowded shards.old item.key ≡ false }
     ensures came { OnOk result (shards.new
-        ≡ changed_at (home (length shards.old) item.now.key.name)
-        (λ v. with_inbox v (put_in v.inbox (item.now ∷ []))) shards.old) }
+        ≡ changed_at (home (length shards.old) item.key.name)
+        (λ v. with_inbox v (put_in v.inbox (item ∷ []))) shards.old) }
     ensures undone { IfOk result (λ a. (s : Stored)
         → unarrived a (record s { shards = shards.new }) ≡ record s { shards = shards.old }) }
     ensures placed { IfOk result (λ a. (wheel : Timers) (source : Source) → IsPlaced wheel (Dropped source a)) }
     ensures err { OnErr result (shards.new ≡ shards.old) }
 {
-    let place = home(shards.len(), &item.key);
-    match shards[place].put(item) {
+    let place = home(shards.len(), item.key());
+    match shards[place].put_kept(item) {
         Ok(()) => Ok(Arrival::Shard(place as u32)),
         Err(_) => Err(AllocError),
     }
@@ -140,13 +142,52 @@ fn disarm(wheel: &mut Wheel, machine: u64) -> Arrival
     }
 }
 
-/// An item comes where it is for. Answers what takes that back.
-pub(crate) fn arrive(
+// An item that is for no machine comes where it is for. Answers what takes that back.
+fn arrive_elsewhere(
     shards: &mut [ShardState],
     lines: &mut Lines<Listener>,
     carried: &mut Vec<usize>,
     wheel: &mut Wheel,
     item: &Item,
+) -> Result<Arrival, AllocError>
+    requires some { 0 < length shards.old }
+    requires few { length shards.old ≤ MAX_SHARDS }
+    requires room { lacks_room shards.old lines.old.lines item.now ≡ false }
+    requires elsewhere { event_in item.now ≡ None }
+    ensures came { OnOk result ((s : Stored) → Arrives (meaning_to lines.old.rules) item.now
+        (with_arrived s shards.old lines.old.lines carried.old.items wheel.old.armed)
+        (with_arrived s shards.new lines.new.lines carried.new.items wheel.new.armed)) }
+    ensures undone { IfOk result (λ a. (s : Stored)
+        → unarrived a (with_arrived s shards.new lines.new.lines carried.new.items wheel.new.armed)
+        ≡ with_arrived s shards.old lines.old.lines carried.old.items wheel.old.armed) }
+    ensures placed { IfOk result (λ a. (source : Source) → IsPlaced wheel.new (Dropped source a)) }
+    ensures places { (undo : Undo) → IsPlaced wheel.old undo → IsPlaced wheel.new undo }
+    ensures rules { lines.new.rules ≡ lines.old.rules }
+    ensures err { OnErr result ((shards.new ≡ shards.old) × (lines.new ≡ lines.old)
+        × (carried.new.items ≡ carried.old.items) × (wheel.new ≡ wheel.old)) }
+{
+    match item {
+        Item::ToMachine(_) => unreachable!(),
+        Item::ToLine(item) => deliver(lines, item),
+        Item::Dial { peer, generation } => open_line(lines, carried, *peer, *generation),
+        Item::Undial { peer, generation } => close_line(lines, *peer, *generation),
+        Item::Arm {
+            machine,
+            generation,
+            ticks,
+        } => arm(wheel, *machine, *generation, *ticks),
+        Item::Disarm { machine } => Ok(disarm(wheel, *machine)),
+    }
+}
+
+/// An item comes where it is for. Answers what takes that back. An event is copied as it is kept; of other items the plain form is small.
+pub(crate) fn arrive(
+    alloc: Global,
+    shards: &mut [ShardState],
+    lines: &mut Lines<Listener>,
+    carried: &mut Vec<usize>,
+    wheel: &mut Wheel,
+    item: &KeptItem,
 ) -> Result<Arrival, AllocError>
     requires some { 0 < length shards.old }
     requires few { length shards.old ≤ MAX_SHARDS }
@@ -163,16 +204,15 @@ pub(crate) fn arrive(
     ensures err { OnErr result ((shards.new ≡ shards.old) × (lines.new ≡ lines.old)
         × (carried.new.items ≡ carried.old.items) × (wheel.new ≡ wheel.old)) }
 {
-    match item {
-        Item::ToMachine(item) => put_event(shards, item),
-        Item::ToLine(item) => deliver(lines, item),
-        Item::Dial { peer, generation } => open_line(lines, carried, *peer, *generation),
-        Item::Undial { peer, generation } => close_line(lines, *peer, *generation),
-        Item::Arm {
-            machine,
-            generation,
-            ticks,
-        } => arm(wheel, *machine, *generation, *ticks),
-        Item::Disarm { machine } => Ok(disarm(wheel, *machine)),
+    match item.event() {
+        Some(event) => {
+            let copy = event.copy(alloc)?;
+            let arrival = put_event(shards, copy)?;
+            Ok(arrival)
+        }
+        None => {
+            let plain = item.show(alloc)?;
+            arrive_elsewhere(shards, lines, carried, wheel, &plain)
+        }
     }
 }

@@ -14,13 +14,14 @@ ghost use Rattle.bench_carry.specs.Seen.{views_of};
 ghost use Rattle.bench_carry.specs.Undone.{BooksNothing, undone, undropped};
 
 use crate::arrive::arrive;
-use bench_item::{Item, Source};
+use bench_item::Source;
 use bench_line::Lines;
+use bench_log::KeptItem;
 use bench_queue::Outbox;
 use bench_shard::ShardState;
 use bench_undo::Undo;
 use line_message::Listener;
-use std::alloc::AllocError;
+use std::alloc::{AllocError, Global};
 use tick_wheel::Wheel;
 
 /// How many items of a source were lifted, if it is a connection.
@@ -87,13 +88,14 @@ fn empty_hand(
 
 /// Drops the item in the hand of a source where it is for, where there is room for it. Answers what takes that back.
 pub fn drop_at(
+    alloc: Global,
     shards: &mut [ShardState],
     outboxes: &mut [Outbox],
     lines: &mut Lines<Listener>,
     carried: &mut Vec<usize>,
     wheel: &mut Wheel,
     source: Source,
-    item: &Item,
+    item: &KeptItem,
 ) -> Result<Undo, AllocError>
     requires some { 0 < length shards.old }
     requires few { length shards.old ≤ MAX_SHARDS }
@@ -115,7 +117,7 @@ pub fn drop_at(
         × (carried.new.items ≡ carried.old.items) × (wheel.new ≡ wheel.old)) }
 {
     let lifted = lifted_by(lines, source);
-    let arrival = arrive(shards, lines, carried, wheel, item)?;
+    let arrival = arrive(alloc, shards, lines, carried, wheel, item)?;
     empty_hand(shards, outboxes, carried, lifted, source);
     Ok(Undo::Dropped { source, arrival })
 }

@@ -57,8 +57,28 @@ fn held_in_shard(shards: &[ShardState], place: usize) -> Option<&KeptItem>
     }
 }
 
+/// An item, if there is one, kept small.
+pub(crate) fn keep(alloc: Global, item: Option<&Item>) -> Result<Option<KeptItem>, AllocError>
+    ensures { IfOk result (λ kept. kept ≡ option_copied item.entry) }
+{
+    match item {
+        None => Ok(None),
+        Some(item) => Ok(Some(KeptItem::keep(alloc, item)?)),
+    }
+}
+
+/// A copy of an item that is kept, if there is one.
+pub(crate) fn copy(alloc: Global, kept: Option<&KeptItem>) -> Result<Option<KeptItem>, AllocError>
+    ensures { IfOk result (λ copy. copy ≡ option_copied kept.entry) }
+{
+    match kept {
+        None => Ok(None),
+        Some(kept) => Ok(Some(kept.copy(alloc)?)),
+    }
+}
+
 /// A copy of an item, if there is one.
-fn copy(alloc: Global, item: Option<&Item>) -> Result<Option<Item>, AllocError>
+fn again(alloc: Global, item: Option<&Item>) -> Result<Option<Item>, AllocError>
     ensures { IfOk result (λ copy. copy ≡ option_copied item.entry) }
 {
     match item {
@@ -93,10 +113,30 @@ pub fn hand_item(
         → item ≡ hand_of source (with_hands s shards.now outboxes.now lines.now.lines carried.now)) }
 {
     match source {
-        Source::Line(line) => copy(alloc, held_on_line(lines, carried, line)),
+        Source::Line(line) => again(alloc, held_on_line(lines, carried, line)),
         Source::Shard(shard) => show(alloc, held_in_shard(shards, shard as usize)),
         Source::Desk(desk) => show(alloc, held_at(outboxes, desk as usize + 1)),
         Source::Clock => show(alloc, held_at(outboxes, 0)),
+    }
+}
+
+/// A copy of the item in the hand of a source, kept small, if one lies there.
+pub fn hand_copy(
+    alloc: Global,
+    shards: &[ShardState],
+    outboxes: &[Outbox],
+    lines: &Lines<Listener>,
+    carried: &[usize],
+    source: Source,
+) -> Result<Option<KeptItem>, AllocError>
+    ensures { IfOk result (λ item. (s : Stored)
+        → item ≡ hand_of source (with_hands s shards.now outboxes.now lines.now.lines carried.now)) }
+{
+    match source {
+        Source::Line(line) => keep(alloc, held_on_line(lines, carried, line)),
+        Source::Shard(shard) => copy(alloc, held_in_shard(shards, shard as usize)),
+        Source::Desk(desk) => copy(alloc, held_at(outboxes, desk as usize + 1)),
+        Source::Clock => copy(alloc, held_at(outboxes, 0)),
     }
 }
 

@@ -1,5 +1,5 @@
 //! The oldest item that waits at a source is lifted into its hand.
-ghost use Rattle.std.specs.Prelude.{◌≡◌, true, IfOk, slice_get, Some};
+ghost use Rattle.std.specs.Prelude.{◌≡◌, true, IfOk, option_copied, slice_get, Some};
 ghost use Rattle.std.specs.Option.{option_and_then};
 ghost use Rattle.bench_line.specs.Lines.{next_on};
 ghost use Rattle.bench_queue.specs.Outbox.{OutboxState, can_lift, lifted_one, next_out, unlifted_one};
@@ -12,7 +12,8 @@ ghost use Rattle.bench_carry.specs.Placed.{IsPlaced};
 ghost use Rattle.bench_carry.specs.Seen.{CanBeLifted, views_of, with_seen};
 ghost use Rattle.bench_carry.specs.Undone.{BooksNothing, undone};
 
-use bench_item::{Item, Source};
+use crate::hand::{copy, keep};
+use bench_item::Source;
 use bench_line::Lines;
 use bench_log::KeptItem;
 use bench_queue::Outbox;
@@ -26,57 +27,47 @@ fn next_on_line(
     alloc: Global,
     lines: &Lines<Listener>,
     line: u32,
-) -> Result<Option<Item>, AllocError>
+) -> Result<Option<KeptItem>, AllocError>
     ensures { IfOk result (λ item. item ≡ next_on lines.now.lines line) }
 {
-    match lines.next(line as u64) {
-        None => Ok(None),
-        Some(item) => {
-            let kept = KeptItem::keep(alloc, item)?;
-            Ok(Some(kept.show(alloc)?))
-        }
-    }
+    keep(alloc, lines.next(line as u64))
 }
 
 /// The oldest item that waits in the outbox at a place, if one does.
-fn next_at(alloc: Global, outboxes: &[Outbox], place: usize) -> Result<Option<Item>, AllocError>
-    ensures { IfOk result (λ item. item ≡ option_and_then next_out (slice_get (views_of outboxes.now) place)) }
+fn next_at(outboxes: &[Outbox], place: usize) -> Option<&KeptItem>
+    ensures { option_copied result ≡ option_and_then next_out (slice_get (views_of outboxes.now) place) }
 {
     match outboxes.get(place) {
-        None => Ok(None),
-        Some(outbox) => outbox.next(alloc),
+        None => None,
+        Some(outbox) => outbox.next_kept(),
     }
 }
 
 /// The oldest item that waits at a shard, if one does.
-fn next_in_shard(
-    alloc: Global,
-    shards: &[ShardState],
-    place: usize,
-) -> Result<Option<Item>, AllocError>
-    ensures { IfOk result (λ item. item ≡ option_and_then (λ v. next_out v.outbox) (slice_get shards.now place)) }
+fn next_in_shard(shards: &[ShardState], place: usize) -> Option<&KeptItem>
+    ensures { option_copied result ≡ option_and_then (λ v. next_out v.outbox) (slice_get shards.now place) }
 {
     match shards.get(place) {
-        None => Ok(None),
-        Some(shard) => shard.next_post(alloc),
+        None => None,
+        Some(shard) => shard.next_post_kept(),
     }
 }
 
-/// The oldest item that waits at a source, if one does.
+/// A copy of the oldest item that waits at a source, if one does.
 pub fn next_item(
     alloc: Global,
     shards: &[ShardState],
     outboxes: &[Outbox],
     lines: &Lines<Listener>,
     source: Source,
-) -> Result<Option<Item>, AllocError>
+) -> Result<Option<KeptItem>, AllocError>
     ensures { IfOk result (λ item. (s : Stored) → item ≡ next_of source (with_seen s shards.now outboxes.now lines.now.lines)) }
 {
     match source {
         Source::Line(line) => next_on_line(alloc, lines, line),
-        Source::Shard(shard) => next_in_shard(alloc, shards, shard as usize),
-        Source::Desk(desk) => next_at(alloc, outboxes, desk as usize + 1),
-        Source::Clock => next_at(alloc, outboxes, 0),
+        Source::Shard(shard) => copy(alloc, next_in_shard(shards, shard as usize)),
+        Source::Desk(desk) => copy(alloc, next_at(outboxes, desk as usize + 1)),
+        Source::Clock => copy(alloc, next_at(outboxes, 0)),
     }
 }
 

@@ -58,7 +58,7 @@ role-back Peer = refl
 role-back Client = refl
 role-back Server = refl
 
-key-back : (key : Key) → key_in (key_octets key) ≡ key
+pub key-back : (key : Key) → key_in (key_octets key) ≡ key
 key-back key = ap (λ role. record { role = role; name = key.name }) (role-back key.role)
 
 keys-back : (key : Option Key) → option_map key_in (option_map key_octets key) ≡ key

@@ -23,3 +23,4 @@ pub mod RedoneLemmas
 pub mod ReplayLemmas
 pub mod QueueLemmas
 pub mod WaitingLemmas
+pub mod NameLemmas

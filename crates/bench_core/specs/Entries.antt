@@ -1,22 +1,13 @@
 -- Entries by what their steps have.
-use Rattle.std.specs.Prelude.{ℕ, List, [], None, Option}
+use Rattle.std.specs.Prelude.{None, Option}
 use Rattle.bench_item.specs.declared.entry.Entry.{Entry}
 use Rattle.bench_item.specs.declared.entry.Handled.{Handled}
 use Rattle.bench_item.specs.declared.item.Item.{Item}
 use Rattle.bench_item.specs.declared.step.Step.{Step}
-use Rattle.bench_item.specs.declared.step.Step.TheVariants.{Came}
 
 -- the entry of a step that carries nothing and moves nothing
 abbrev pub bare_entry : Step → Entry
 bare_entry step = record { step = step; item = None; handled = None }
-
--- the octets that came by an entry, none by one of another step
-abbrev pub octets_in : Entry → List ℕ
-octets_in e = by e.step
-  where
-    by : Step → List ℕ
-    by (Came line piece) = piece
-    by step = []
 
 -- the entry of a step that carries an item, if there is one
 abbrev pub carried_entry : Step → Option Item → Entry

@@ -8,3 +8,4 @@ pub mod Carrying
 pub mod Starting
 pub mod Replaying
 pub mod Waiting
+pub mod Naming

@@ -1,15 +1,14 @@
 -- What a shard's work writes.
-use Rattle.std.specs.Prelude.{◌≡◌, ℕ, List, [], ◌∷◌, ◌++◌, fold, length, Option, Some}
+use Rattle.std.specs.Prelude.{◌≡◌, ℕ, List, [], ◌∷◌, ◌++◌, fold, length, Some}
 use Rattle.acct_book.specs.Book.{Book, Paged, after}
 use Rattle.bench_item.specs.declared.entry.Entry.{Entry}
 use Rattle.bench_item.specs.declared.entry.Handled.{Handled}
-use Rattle.bench_item.specs.declared.item.Item.{Item}
 use Rattle.bench_item.specs.declared.item.Item.TheVariants.{ToMachine}
 use Rattle.bench_item.specs.declared.item.MachineItem.{MachineItem}
 use Rattle.bench_item.specs.declared.step.Step.TheVariants.{Work as WorkStep}
 use Rattle.bench_move.specs.Tables.{Tables}
 use Rattle.bench_shard.specs.View.{ShardView}
-use Rattle.bench_shard.specs.Works.{Fits, IsWork, after_work, taken_back}
+use Rattle.bench_shard.specs.Works.{IsWork, after_work, taken_back}
 use Rattle.bench_shard.specs.declared.work.ShardRecord.{ShardRecord}
 use Rattle.bench_shard.specs.declared.work.Work.{Work}
 use Rattle.bench_undo.specs.declared.undo.Undo.{Undo}
@@ -18,22 +17,6 @@ use Rattle.bench_undo.specs.declared.undo.Undo.TheVariants.{Worked}
 -- the entry in which a shard handles an item
 abbrev pub work_entry : ℕ → MachineItem → Handled → Entry
 work_entry shard item handled = record { step = WorkStep shard; item = Some (ToMachine item); handled = Some handled }
-
--- the shard may handle the item of an entry
-abbrev pub FitsEntry : ShardView → Entry → Type 0
-FitsEntry v e = by e.item e.handled
-  where
-    by : Option Item → Option Handled → Type 0
-    by (Some (ToMachine item)) (Some handled) = Fits v item handled
-    by item handled = ⊥
-
--- the shard once it handled the item of an entry
-abbrev pub after_entry : ShardView → Entry → List Item → ShardView
-after_entry v e posts = by e.item e.handled
-  where
-    by : Option Item → Option Handled → ShardView
-    by (Some (ToMachine item)) (Some handled) = after_work v item handled posts
-    by item handled = v
 
 -- a page with another book
 abbrev pub Holds : Paged → Paged → Book → Type 0

@@ -3,7 +3,7 @@
 //! | File | What it has |
 //! |---|---|
 //! | `keeping` | all of a world but its callbacks |
-//! | `looks`, `queues`, `waiting` | what a world shows |
+//! | `looks`, `names`, `queues`, `waiting` | what a world shows |
 //! | `refusal`, `told`, `carry_faults` | why a step is refused |
 //! | `room`, `entries` | room for one more entry and its record; entries that carry nothing and move nothing |
 //! | `opening`, `parts` | a world is opened, and each of its parts |
@@ -26,6 +26,7 @@ mod fire;
 mod keeping;
 mod lines;
 mod looks;
+mod names;
 mod opening;
 mod parts;
 mod pause;
@@ -42,4 +43,5 @@ mod waiting;
 mod work;
 
 pub use keeping::Core;
+pub use names::LentNames;
 pub use replay::ReplayError;

@@ -4,7 +4,7 @@ ghost use Rattle.bench_item.specs.declared.step.Step.TheVariants as steps;
 ghost use Rattle.bench_spec.specs.Refusal.{refusal};
 ghost use Rattle.bench_spec.specs.Taken.{Takes};
 
-use crate::entries::{bare_entry, entry_of, octets_in};
+use crate::entries::bare_entry;
 use crate::keeping::Core;
 use crate::room::make_room;
 use base_list::Octets;
@@ -54,13 +54,12 @@ impl Core {
         ensures ok { OnOk result (Takes self.old self.new (steps.Came line piece)) }
         ensures err { OnErr result (self.new ≡ self.old) }
     {
-        let entry = entry_of(Step::Came { line, piece });
-        let kept = KeptEntry::keep(self.alloc, &entry)?;
         make_room(&mut self.log, &mut self.undo)?;
-        let Ok(came) = self.lines.came(line as u64, octets_in(&entry)) else {
+        let Ok(came) = self.lines.came(line as u64, piece.as_slice()) else {
             return Err(AllocError);
         };
-        self.log.put(kept);
+        let entry = KeptEntry::of_came(line, piece);
+        self.log.put(entry);
         self.undo.put(Undo::Lines(came.change));
         Ok(())
     }

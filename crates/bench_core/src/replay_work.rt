@@ -52,7 +52,7 @@ fn redo_task(
                 handled,
                 effects,
             };
-            write(alloc, number, shard, place, page, log, undo, work)?;
+            write(alloc, number, shard, place, page, log, undo, &work)?;
             Ok(())
         }
     }

@@ -70,6 +70,8 @@ impl Core {
     {
         match step {
             Step::Work(shard) => self.work(&registries[shard as usize], shard, room),
+            Step::Lift(source) => self.lift(source),
+            Step::Drop(source) => self.drop_item(source),
             carried => self.take_carried(carried),
         }
     }

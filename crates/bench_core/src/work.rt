@@ -1,50 +1,25 @@
 //! A shard handles its oldest item.
-ghost use Rattle.std.specs.Prelude.{◌≡◌, ◌≤◌, ◌-◌, [], None, IfOk, OnOk, OnErr, fold, length, max};
+ghost use Rattle.std.specs.Prelude.{◌≡◌, ◌≤◌, ◌-◌, [], None, OnOk, OnErr, fold, length, max};
 ghost use Rattle.acct_book.specs.Book.{after, with_book};
 ghost use Rattle.bench_item.specs.declared.step.Step.TheVariants as steps;
 ghost use Rattle.bench_queue.specs.Inbox.{next_in};
 ghost use Rattle.bench_shard.specs.Tasks.{IsTask};
-ghost use Rattle.bench_shard.specs.Works.{Fits, taken_back};
+ghost use Rattle.bench_shard.specs.Works.{Fits};
 ghost use Rattle.bench_spec.specs.Refusal.{refusal};
 ghost use Rattle.bench_spec.specs.Taken.{Takes};
-ghost use Rattle.bench_core.specs.Working.{FitsEntry, Holds, IsDone, IsUnwritten, IsWritten, after_entry, work_entry};
+ghost use Rattle.bench_core.specs.Working.{Holds, IsDone, IsUnwritten, IsWritten};
 
 use crate::keeping::Core;
 use crate::room::make_room;
 use acct_book::Page;
 use acct_totals::Op;
-use bench_item::{Entry, Handled, Item, MachineItem, Step};
 use bench_log::{KeptEntry, Log};
 use bench_move::Roles;
-use bench_shard::{ShardRecord, ShardState, Task, Work};
+use bench_shard::{ShardState, Task, Work};
 use bench_undo::{Undo, UndoLog};
 use std::alloc::{AllocError, Global};
 use tab_call::Registry;
 use tab_step::Stepped;
-
-/// The entry in which a shard handles an item.
-fn work_entry(shard: u32, item: MachineItem, handled: Handled) -> Entry
-    ensures { result ≡ work_entry shard item handled }
-{
-    Entry {
-        step: Step::Work(shard),
-        item: Some(Item::ToMachine(item)),
-        handled: Some(handled),
-    }
-}
-
-/// The shard handles the item of an entry.
-fn commit(shard: &mut ShardState, entry: &Entry, posts: &[Item]) -> Result<ShardRecord, AllocError>
-    requires { FitsEntry shard.old entry.now }
-    ensures ok { OnOk result (shard.new ≡ after_entry shard.old entry.now posts.now) }
-    ensures undone { IfOk result (λ change. taken_back change shard.new ≡ shard.old) }
-    ensures err { OnErr result (shard.new ≡ shard.old) }
-{
-    match (&entry.item, &entry.handled) {
-        (Some(Item::ToMachine(item)), Some(handled)) => shard.commit(item, handled, posts),
-        _ => unreachable!(),
-    }
-}
 
 /// Makes room for operations on a page.
 fn make_page_room(page: &mut Page, count: usize) -> Result<(), AllocError>
@@ -77,23 +52,18 @@ pub(crate) fn write(
     page: &mut Page,
     log: &mut Log,
     undo: &mut UndoLog,
-    work: Work,
+    work: &Work,
 ) -> Result<(), AllocError>
-    requires { Fits shard.old work.item work.handled }
-    ensures ok { OnOk result (IsWritten number place work shard.old shard.new page.old page.new log.old.entries log.new.entries undo.old.records undo.new.records) }
+    requires { Fits shard.old work.now.item work.now.handled }
+    ensures ok { OnOk result (IsWritten number place work.now shard.old shard.new page.old page.new log.old.entries log.new.entries undo.old.records undo.new.records) }
     ensures err { OnErr result (IsUnwritten shard.old shard.new page.old page.new log.old.entries log.new.entries undo.old.records undo.new.records) }
 {
-    let Work {
-        item,
-        handled,
-        effects,
-    } = work;
-    let entry = work_entry(number, item, handled);
-    let kept = KeptEntry::keep(alloc, &entry)?;
-    let ops = effects.ops.as_slice();
+    let kept = KeptEntry::keep_work(alloc, number, &work.item, &work.handled)?;
+    let ops = work.effects.ops.as_slice();
     make_room(log, undo)?;
     make_page_room(page, ops.len())?;
-    let record = commit(shard, &entry, effects.posts.as_slice())?;
+    let posts = work.effects.posts.as_slice();
+    let record = shard.commit(&work.item, &work.handled, posts)?;
     book(page, ops);
     log.put(kept);
     undo.put(Undo::Worked {
@@ -125,7 +95,7 @@ fn do_task(
     ensures err { OnErr result (IsUnwritten shard.old shard.new page.old page.new log.old.entries log.new.entries undo.old.records undo.new.records) }
 {
     let work = shard.prepare(alloc, roles, registry, page, task, room)?;
-    write(alloc, number, shard, place, page, log, undo, work)
+    write(alloc, number, shard, place, page, log, undo, &work)
 }
 
 impl Core {

@@ -16,7 +16,8 @@ use Rattle.bench_shard.specs.View.{ShardView, with_inbox}
 use Rattle.bench_spec.specs.Items.{arrived, is_drop, worked}
 use Rattle.bench_spec.specs.Machines.{is_for, is_work, machine_item}
 use Rattle.bench_spec.specs.Merged.{Stamped, arrivals, arrivals_in}
-use Rattle.bench_desk.specs.Parts.{IsKept, drop_entry, stamped_of}
+use Rattle.bench_desk.specs.Parts.{IsKept, drop_entry}
+use Rattle.bench_parts.specs.Views.{stamped_of}
 
 -- the one item, where it passes
 kept_one : {X : Type 0} (p : X → Bool) (x : X) → p x ≡ true → filter p (x ∷ []) ≡ x ∷ []

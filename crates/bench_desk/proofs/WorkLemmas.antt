@@ -25,7 +25,8 @@ use Rattle.bench_spec.specs.Items.{arrived, is_drop, worked}
 use Rattle.bench_spec.specs.Machines.{is_for, is_work, machine_item}
 use Rattle.bench_spec.specs.Merged.{Stamped, arrivals, arrivals_in}
 use Rattle.bench_spec.specs.Refusal.{is_empty, is_log_full}
-use Rattle.bench_desk.specs.Parts.{IsKept, PartView, entries_in, stamped_of}
+use Rattle.bench_desk.specs.Parts.{IsKept, PartView, entries_in}
+use Rattle.bench_parts.specs.Views.{stamped_of}
 use Rattle.bench_desk.specs.Working.{IsDone, IsLifted, IsUnwritten, IsWorked, lift_entry, or_full, taken_out, with_lift, work_entry, work_refusal}
 use Rattle.bench_desk.proofs.PartLemmas.{stamped_of-snoc}
 

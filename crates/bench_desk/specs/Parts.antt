@@ -23,12 +23,6 @@ pub record PartView : Type 0 where
   pub shard : ShardView
   pub entries : List Stamped
 
--- entries with their stamps
-abbrev pub stamped_of : List ℕ → List Entry → List Stamped
-stamped_of [] es = []
-stamped_of (s ∷ ss) [] = []
-stamped_of (s ∷ ss) (e ∷ es) = record { stamp = s; entry = e } ∷ stamped_of ss es
-
 -- the entries alone
 abbrev pub entries_in : PartView → List Entry
 entries_in v = map (λ s. s.entry) v.entries

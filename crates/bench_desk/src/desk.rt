@@ -5,10 +5,11 @@ ghost use Rattle.bench_item.specs.declared.limit.TheConstants.{MAX_SHARDS};
 ghost use Rattle.bench_spec.specs.Desks.{agrees, seen_count, told_count};
 ghost use Rattle.bench_spec.specs.Settings.{Settings};
 ghost use Rattle.bench_desk.specs.Desks.{is_desk_full};
+ghost use Rattle.bench_parts.specs.Views.{kept_in};
 ghost use Rattle.tab_step.specs.declared.machine.MachineState.{MachineState};
 
-use crate::note::Note;
 use bench_item::{Key, MAX_ENTRIES, MAX_SHARDS, home};
+use bench_parts::{Lent, Note};
 use std::alloc::Global;
 use std::marker::Model;
 
@@ -24,7 +25,7 @@ fn is_agreed(told: u64, seen: u64, waiting: u64, handled: u64) -> bool
 /// A contract sees these. Beside them it keeps counts: of each shard how much it told it, and how much of that had been handled there when
 /// it last looked.
 ///
-/// In: `tell_in`, `look_in`. Looks: `number`, `shards`, `len`.
+/// In: `tell_in`, `look_in`. Looks: `number`, `shards`, `len`, `lent`.
 pub struct Desk {
     pub(crate) alloc: Global,
     pub(crate) number: u32,
@@ -54,7 +55,7 @@ impl Drop for Desk {
 impl Model for Desk {
     ghost use Rattle.std.specs.Prelude.{map};
     ghost use Rattle.bench_desk.specs.Desks.{DeskView, IsDesk};
-    ghost use Rattle.bench_desk.specs.Notes.{kept_of};
+    ghost use Rattle.bench_parts.specs.Views.{kept_of};
 
     ghost Value = { DeskView };
 
@@ -102,6 +103,13 @@ impl Desk {
         ensures { result ≡ length self.now.kept }
     {
         self.notes.len()
+    }
+
+    /// What it kept, lent to who gathers it.
+    pub fn lent(&self) -> Lent<'_>
+        ensures { kept_in result ≡ self.now.kept }
+    {
+        Lent::Notes(&self.notes)
     }
 
     // Whether its part has no room for a Told and its Lift.

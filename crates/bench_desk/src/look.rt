@@ -1,6 +1,7 @@
 //! A desk looks at a machine.
-ghost use Rattle.std.specs.Prelude.{◌≡◌, ◌∷◌, [], None, IfOk, IfErr, OnOk, OnErr, unwrap_or};
+ghost use Rattle.std.specs.Prelude.{◌≡◌, ◌∷◌, [], None, true, IfNone, IfOk, IfErr, OnOk, OnErr, unwrap_or};
 ghost use Rattle.bench_item.specs.Keys.{home};
+ghost use Rattle.bench_spec.specs.Desks.{agrees};
 ghost use Rattle.bench_spec.specs.Merged.{Saw, not_there};
 ghost use Rattle.bench_spec.specs.Settings.{Settings};
 ghost use Rattle.bench_desk.specs.Desks.{look_at, look_refusal, seen_as, state_in, with_kept};
@@ -9,9 +10,10 @@ ghost use Rattle.bench_desk.specs.Parts.{node_in};
 use crate::desk::Desk;
 use crate::fault::DeskFault;
 use crate::may::may_look;
-use crate::note::{Note, keep_look};
+use crate::note::keep_look;
 use crate::part::ShardPart;
 use bench_item::{Key, home};
+use bench_parts::Note;
 use bench_shard::ShardState;
 use std::alloc::{AllocError, Global};
 use tab_law::PLACES;
@@ -82,8 +84,10 @@ impl Desk {
     // Why a look is refused, memory aside.
     fn look_refusal(&self, part: &ShardPart, stamp: u64, key: &Key) -> Option<DeskFault>
         requires { part.now.shard.peers.shards ≡ self.now.shards }
-        ensures { (settings : Settings) → settings.node ≡ node_in part.now
+        ensures refusal { (settings : Settings) → settings.node ≡ node_in part.now
             → result ≡ look_refusal settings part.now self.now stamp key.now }
+        ensures agreed { IfNone result ((settings : Settings) → settings.node.shards ≡ self.now.shards
+            → agrees settings self.now.number self.now.kept (look_at part.now self.now.number stamp key.now) ≡ true) }
     {
         if !may_look(part.shard().peers(), key) {
             return Some(DeskFault::Unknown);
@@ -120,6 +124,9 @@ impl Desk {
         // The shard's state and registers, and the desk's counts there.
         ensures ok { IfOk result (λ look. seen_as stamp key.now look ≡ look_at part.now self.old.number stamp key.now) }
         ensures kept { IfOk result (λ look. self.new ≡ with_kept self.old (Saw (seen_as stamp key.now look) ∷ [])) }
+        // All that the desk told the shard waits there or was handled, and no less was handled than when it last looked.
+        ensures agreed { IfOk result (λ look. (settings : Settings) → settings.node.shards ≡ self.old.shards
+            → agrees settings self.old.number self.old.kept (seen_as stamp key.now look) ≡ true) }
         // It is refused only for the first reason that holds, and for memory only where none does.
         ensures could { (settings : Settings) → settings.node ≡ node_in part.now
             → IfOk result (λ look. look_refusal settings part.now self.old stamp key.now ≡ None) }

@@ -3,30 +3,14 @@ ghost use Rattle.std.specs.Prelude.{◌≡◌, [], IfOk, None, Some};
 ghost use Rattle.bench_item.specs.declared.source.Source.TheVariants.{Desk};
 ghost use Rattle.bench_item.specs.declared.step.Step.TheVariants.{Lift, Told};
 ghost use Rattle.bench_spec.specs.Items.{told_item};
-ghost use Rattle.bench_desk.specs.Notes.{look_of};
+ghost use Rattle.bench_parts.specs.Views.{look_of};
 
 use base_list::Octets;
 use bench_item::{Entry, Item, Key, MachineItem, Source, Step};
 use bench_log::{KeptEntry, KeptState};
+use bench_parts::KeptLook;
 use std::alloc::{AllocError, Global};
 use tab_step::{Event, MachineState};
-
-/// A look: the stamp, the machine, where it stood, and how many items of the desk waited and were handled.
-#[derive(Drop)]
-pub(crate) struct KeptLook {
-    pub(crate) stamp: u64,
-    pub(crate) key: Key,
-    pub(crate) stands: KeptState,
-    pub(crate) waiting: u64,
-    pub(crate) handled: u64,
-}
-
-/// What a desk keeps: the entry of what it did with its stamp, or what it saw.
-#[derive(Drop)]
-pub(crate) enum Note {
-    Did { stamp: u64, entry: KeptEntry },
-    Saw(KeptLook),
-}
 
 /// The same key in memory of its own.
 pub(crate) fn copy_key(alloc: Global, key: &Key) -> Result<Key, AllocError>

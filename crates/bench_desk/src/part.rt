@@ -49,7 +49,8 @@ impl Drop for ShardPart {
 impl Model for ShardPart {
     ghost use Rattle.std.specs.Prelude.{◌≡◌, length};
     ghost use Rattle.std.specs.Arc.{arc_value};
-    ghost use Rattle.bench_desk.specs.Parts.{IsKept, PartView, stamped_of};
+    ghost use Rattle.bench_desk.specs.Parts.{IsKept, PartView};
+    ghost use Rattle.bench_parts.specs.Views.{stamped_of};
 
     ghost Value = { PartView };
 

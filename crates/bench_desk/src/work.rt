@@ -4,7 +4,9 @@ ghost use Rattle.acct_book.specs.Book.{after};
 ghost use Rattle.bench_queue.specs.Outbox.{items_out, next_out};
 ghost use Rattle.bench_shard.specs.Tasks.{IsTask};
 ghost use Rattle.bench_shard.specs.Works.{Fits};
+ghost use Rattle.bench_spec.specs.Merged.{Did};
 ghost use Rattle.bench_spec.specs.Refusal.{is_empty};
+ghost use Rattle.bench_parts.specs.Views.{kept_in};
 ghost use Rattle.bench_desk.specs.Parts.{entries_in};
 ghost use Rattle.bench_desk.specs.Working.{FitsEntry, Holds, IsDone, IsLifted, IsUnwritten, IsWorked, IsWritten, after_entry, key_in_part, lift_entry, lift_refusal, paused_part, with_lift, work_entry, work_refusal};
 
@@ -15,6 +17,7 @@ use acct_totals::Op;
 use bench_item::{Entry, Handled, Item, Key, MAX_MACHINES, MachineItem, Source, Step};
 use bench_log::{KeptEntry, Log, LogError};
 use bench_move::Roles;
+use bench_parts::Lent;
 use bench_shard::{ShardState, Task, Work, WorkFault};
 use std::alloc::{AllocError, Global};
 use tab_call::Registry;
@@ -302,6 +305,16 @@ impl ShardPart {
         }
         self.shard
             .key(self.alloc, (machine % MAX_MACHINES as u64) as usize)
+    }
+
+    /// Its entries with their stamps, lent to who gathers them.
+    pub fn lent(&self) -> Lent<'_>
+        ensures { kept_in result ≡ map Did self.now.entries }
+    {
+        Lent::Entries {
+            stamps: &self.stamps,
+            log: &self.log,
+        }
     }
 
     /// The stamps of its entries, in order.

@@ -3,7 +3,14 @@ use Rattle.std.specs.Prelude.{ℕ, ◌==◌, Bool, false, List, Option, map, fil
 use Rattle.std.specs.List.{slice_get, enumerate_from}
 use Rattle.std.specs.Option.{option_map, option_map_or}
 use Rattle.bench_item.specs.declared.entry.Entry.{Entry}
+use Rattle.bench_item.specs.declared.entry.Handled.{Handled}
+use Rattle.bench_item.specs.declared.item.Item.{Item}
+use Rattle.bench_item.specs.declared.step.Step.{Step}
 use Rattle.bench_item.specs.Entries.{moved_in}
+
+-- an entry of these parts
+abbrev pub entry_with : Step → Option Item → Option Handled → Entry
+entry_with step item handled = record { step = step; item = item; handled = handled }
 
 -- the number of the machine that an entry moves: stale and busy ones move none
 abbrev pub machine_in : Entry → Option ℕ

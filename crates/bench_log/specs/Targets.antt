@@ -2,7 +2,13 @@
 use Rattle.std.specs.Prelude.{Bool, true, false, Option, Some, None}
 use Rattle.bench_item.specs.declared.item.Item.{Item}
 use Rattle.bench_item.specs.declared.item.Item.TheVariants.{Dial, ToMachine}
+use Rattle.bench_item.specs.declared.item.MachineItem.{MachineItem}
 use Rattle.bench_item.specs.declared.key.Key.{Key}
+
+-- the event that is on its way, if it is for a machine
+abbrev pub event_in : Item → Option MachineItem
+event_in (ToMachine item) = Some item
+event_in item = None
 
 -- the machine that it is for, if it is for one
 abbrev pub key_for : Item → Option Key

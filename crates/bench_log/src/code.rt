@@ -1,12 +1,9 @@
 //! Numbers in as few octets as they need.
-ghost use Rattle.std.specs.Prelude.{◌≡◌, ◌++◌, ◌<◌, ◌^◌, ◌∷◌, [], All, IfOk, OnOk, slice_index};
+ghost use Rattle.std.specs.Prelude.{◌≡◌, ◌++◌, ◌<◌, ◌^◌, ◌∷◌, [], All, IfOk, OnOk, length, slice_index};
 ghost use Rattle.std.specs.Int.{w64, from_le_bytes};
 ghost use Rattle.bench_log.specs.Coded.{behind, code, coded, first, width};
 
 use std::alloc::{AllocError, Global};
-
-// So many octets are written before more room is asked for; most lists of numbers have fewer.
-const FIRST_ROOM: usize = 128;
 
 /// Adds an octet and those of a number.
 fn put_long(octets: &mut Vec<u8>, head: u8, number: &[u8]) -> Result<(), AllocError>
@@ -22,7 +19,7 @@ fn put_number(octets: &mut Vec<u8>, number: u64) -> Result<(), AllocError>
     ensures fits { number < 2 ^ 64 }
 {
     if number < 253 {
-        octets.extend_from_slice(&[number as u8])
+        Ok(octets.push(number as u8)?)
     } else if number < 65_536 {
         put_long(octets, 253, &(number as u16).to_le_bytes())
     } else if number < 4_294_967_296 {
@@ -32,12 +29,36 @@ fn put_number(octets: &mut Vec<u8>, number: u64) -> Result<(), AllocError>
     }
 }
 
+/// How many octets a number takes.
+fn size_of(number: u64) -> usize
+    ensures { result ≡ length (code number) }
+{
+    if number < 253 {
+        1
+    } else if number < 65_536 {
+        3
+    } else if number < 4_294_967_296 {
+        5
+    } else {
+        9
+    }
+}
+
+// How many octets numbers take: so much room is asked for, at once. Nothing else depends on it.
+fn room_for(numbers: &[u64]) -> usize {
+    let mut room = 0usize;
+    for number in numbers {
+        room = room.saturating_add(size_of(*number));
+    }
+    room
+}
+
 /// The octets of numbers, one after the other.
 pub(crate) fn octets_of(alloc: Global, numbers: &[u64]) -> Result<Vec<u8>, AllocError>
     ensures octets { IfOk result (λ octets. octets.items ≡ coded numbers.now) }
     ensures fit { IfOk result (λ _. All (λ n. n < 2 ^ 64) numbers.now) }
 {
-    let mut octets = Vec::with_capacity(alloc, FIRST_ROOM)?;
+    let mut octets = Vec::with_capacity(alloc, room_for(numbers))?;
     for number in numbers {
         put_number(&mut octets, *number)?;
     }

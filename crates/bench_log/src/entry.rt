@@ -1,13 +1,16 @@
 //! Entries as the log keeps them.
-ghost use Rattle.std.specs.Prelude.{◌≡◌, IfOk};
+ghost use Rattle.std.specs.Prelude.{◌≡◌, IfOk, None, Some};
 ghost use Rattle.std.specs.Option.{option_map};
+ghost use Rattle.bench_item.specs.declared.item.Item.TheVariants.{ToMachine};
+ghost use Rattle.bench_item.specs.declared.step.Step.TheVariants as steps;
 ghost use Rattle.bench_log.specs.Twins.{step_of, handled_of};
-ghost use Rattle.bench_log.specs.Moves.{machine_in, moves};
+ghost use Rattle.bench_log.specs.Moves.{entry_with, machine_in, moves};
 
-use crate::item::KeptItem;
+use crate::item::{KeptItem, KeptMachineItem};
 use crate::moved::KeptMoved;
 use crate::step::KeptStep;
-use bench_item::{Entry, Handled, Item, Step};
+use base_list::Octets;
+use bench_item::{Entry, Handled, Item, MachineItem, Source, Step};
 use std::alloc::{AllocError, Global};
 use std::marker::Model;
 
@@ -121,6 +124,57 @@ impl KeptEntry {
             step,
             item,
             handled,
+        })
+    }
+
+    /// The entry of octets that came on a connection. Takes no memory.
+    pub fn of_came(line: u32, piece: Octets) -> KeptEntry
+        ensures { result ≡ entry_with (steps.Came line piece) None None }
+    {
+        KeptEntry {
+            step: KeptStep::Came { line, piece },
+            item: None,
+            handled: None,
+        }
+    }
+
+    /// The entry of a step that lifts an item from a source. Takes no memory.
+    pub fn of_lift(source: Source, item: Option<KeptItem>) -> KeptEntry
+        ensures { result ≡ entry_with (steps.Lift source) item None }
+    {
+        KeptEntry {
+            step: KeptStep::Lift(source),
+            item,
+            handled: None,
+        }
+    }
+
+    /// The entry of a step that drops the item in a source's hand. Takes no memory.
+    pub fn of_drop(source: Source, item: Option<KeptItem>) -> KeptEntry
+        ensures { result ≡ entry_with (steps.Drop source) item None }
+    {
+        KeptEntry {
+            step: KeptStep::Drop(source),
+            item,
+            handled: None,
+        }
+    }
+
+    /// The entry in which a shard handles an item.
+    pub fn keep_work(
+        alloc: Global,
+        shard: u32,
+        item: &MachineItem,
+        handled: &Handled,
+    ) -> Result<KeptEntry, AllocError>
+        ensures { IfOk result (λ kept. kept ≡ entry_with (steps.Work shard) (Some (ToMachine item.now)) (Some handled.now)) }
+    {
+        let handled = KeptHandled::keep(alloc, handled)?;
+        let event = KeptMachineItem::keep(alloc, item)?;
+        Ok(KeptEntry {
+            step: KeptStep::Work(shard),
+            item: Some(KeptItem::of_event(event)),
+            handled: Some(handled),
         })
     }
 

@@ -2,7 +2,7 @@
 ghost use Rattle.std.specs.Prelude.{◌≡◌, IfOk, option_copied};
 ghost use Rattle.bench_item.specs.declared.item.Item.TheVariants.{ToMachine, ToLine};
 ghost use Rattle.bench_log.specs.Twins.{item_of, line_item_of};
-ghost use Rattle.bench_log.specs.Targets.{is_dial, key_for};
+ghost use Rattle.bench_log.specs.Targets.{event_in, is_dial, key_for};
 
 use crate::state::{KeptDeed, KeptEvent, copy_key};
 use base_list::Octets;
@@ -67,6 +67,21 @@ impl KeptMachineItem {
             session,
         })
     }
+
+    /// The same item in memory of its own.
+    pub fn copy(&self, alloc: Global) -> Result<KeptMachineItem, AllocError>
+        ensures { IfOk result (λ copy. copy ≡ self.now) }
+    {
+        let key = copy_key(alloc, &self.key)?;
+        let event = self.event.copy(alloc)?;
+        let session = self.session.copy(alloc)?;
+        Ok(KeptMachineItem {
+            key,
+            event,
+            condition: self.condition,
+            session,
+        })
+    }
 }
 
 impl KeptMachineItem {
@@ -106,6 +121,18 @@ impl KeptLineItem {
         Ok(LineItem {
             line: self.line,
             deed: self.deed.show(),
+            session,
+        })
+    }
+
+    fn copy(&self, alloc: Global) -> Result<KeptLineItem, AllocError>
+        ensures { IfOk result (λ copy. line_item_of copy ≡ line_item_of self.now) }
+    {
+        let deed = self.deed.copy(alloc)?;
+        let session = self.session.copy(alloc)?;
+        Ok(KeptLineItem {
+            line: self.line,
+            deed,
             session,
         })
     }
@@ -188,6 +215,33 @@ impl ItemForm {
             ItemForm::Disarm { machine } => Item::Disarm { machine: *machine },
         })
     }
+
+    fn copy(&self, alloc: Global) -> Result<ItemForm, AllocError>
+        ensures { IfOk result (λ copy. item_of copy ≡ item_of self.now) }
+    {
+        Ok(match self {
+            ItemForm::ToMachine(item) => ItemForm::ToMachine(item.copy(alloc)?),
+            ItemForm::ToLine(item) => ItemForm::ToLine(item.copy(alloc)?),
+            ItemForm::Dial { peer, generation } => ItemForm::Dial {
+                peer: *peer,
+                generation: *generation,
+            },
+            ItemForm::Undial { peer, generation } => ItemForm::Undial {
+                peer: *peer,
+                generation: *generation,
+            },
+            ItemForm::Arm {
+                machine,
+                generation,
+                ticks,
+            } => ItemForm::Arm {
+                machine: *machine,
+                generation: *generation,
+                ticks: *ticks,
+            },
+            ItemForm::Disarm { machine } => ItemForm::Disarm { machine: *machine },
+        })
+    }
 }
 
 /// What is on its way from a source, kept small. A contract sees the plain item.
@@ -225,6 +279,33 @@ impl KeptItem {
         ensures { IfOk result (λ plain. plain ≡ self.now) }
     {
         self.form.show(alloc)
+    }
+
+    /// An event on its way to a machine as an item. Takes no memory.
+    pub fn of_event(event: KeptMachineItem) -> KeptItem
+        ensures { result ≡ ToMachine event }
+    {
+        KeptItem {
+            form: ItemForm::ToMachine(event),
+        }
+    }
+
+    /// The same item in memory of its own.
+    pub fn copy(&self, alloc: Global) -> Result<KeptItem, AllocError>
+        ensures { IfOk result (λ copy. copy ≡ self.now) }
+    {
+        let form = self.form.copy(alloc)?;
+        Ok(KeptItem { form })
+    }
+
+    /// The event that is on its way, if it is for a machine. Takes no memory.
+    pub fn event(&self) -> Option<&KeptMachineItem>
+        ensures { option_copied result ≡ event_in self.now }
+    {
+        match &self.form {
+            ItemForm::ToMachine(item) => Some(item),
+            _ => None,
+        }
     }
 
     /// The machine that it is for, if it is for one. Takes no memory.

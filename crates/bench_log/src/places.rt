@@ -71,8 +71,18 @@ impl Places {
         let count = used(places);
         let octets = octets_of(alloc, &places[..count])?;
         Ok(Places {
-            octets: Vec::from_slice(alloc, octets.as_slice())?,
+            octets,
             count: count as u8,
+        })
+    }
+
+    /// The same numbers in memory of their own.
+    pub(crate) fn copy(&self, alloc: Global) -> Result<Places, AllocError>
+        ensures { IfOk result (λ copy. copy ≡ self.now) }
+    {
+        Ok(Places {
+            octets: Vec::from_slice(alloc, self.octets.as_slice())?,
+            count: self.count,
         })
     }
 

@@ -1,7 +1,8 @@
 //! What a bench shows, as text.
 
+use base_list::Octets;
 use base_text::{number_of, put_hex, put_number};
-use bench_core::Core;
+use bench_core::{Core, LentNames};
 use bench_item::{Handled, Item, Key, LineState, MachineItem, Role, Source, Step};
 use bench_log::Log;
 use bench_world::TakesSteps;
@@ -332,6 +333,59 @@ pub fn put_fate(alloc: Global, core: &Core, out: &mut Vec<u8>) -> Result<(), All
         None => out.extend_from_slice(b" not handled\n")?,
     }
     Ok(())
+}
+
+/// Puts names, each behind a blank.
+fn put_names_in(names: &[Octets], out: &mut Vec<u8>) -> Result<(), AllocError> {
+    for name in names {
+        out.extend_from_slice(b" ")?;
+        out.extend_from_slice(name.as_slice())?;
+    }
+    out.extend_from_slice(b"\n")
+}
+
+/// Puts the machines of a shard by their numbers, with their keys.
+fn put_named(names: &LentNames<'_>, shard: u64, out: &mut Vec<u8>) -> Result<(), AllocError> {
+    for place in 0..MAX_PLACES {
+        let number = shard.saturating_mul(MAX_PLACES).saturating_add(place);
+        let Some(key) = names.machine(number) else {
+            return Ok(());
+        };
+        let role = match key.role {
+            Role::Peer => b" p:".as_slice(),
+            Role::Client => b" c:".as_slice(),
+            Role::Server => b" s:".as_slice(),
+        };
+        put_number(out, b" ", number)?;
+        out.extend_from_slice(role)?;
+        out.extend_from_slice(key.name)?;
+        out.extend_from_slice(b"\n")?;
+    }
+    Ok(())
+}
+
+/// Puts the names that a bench shows: of kinds of events, of the states of each role's table, and of machines.
+pub fn put_names(core: &Core, out: &mut Vec<u8>) -> Result<(), AllocError> {
+    let names = core.names();
+    for kind in names.kinds() {
+        out.extend_from_slice(b" ")?;
+        out.extend_from_slice(kind.name.as_slice())?;
+    }
+    out.extend_from_slice(b"\n")?;
+    for role in [Role::Peer, Role::Client, Role::Server] {
+        put_names_in(names.states(role), out)?;
+    }
+    for shard in 0..16u64 {
+        put_named(&names, shard, out)?;
+    }
+    Ok(())
+}
+
+/// The text of the whole log.
+pub fn log_of(alloc: Global, core: &Core) -> Result<Vec<u8>, AllocError> {
+    let mut out = Vec::new(alloc);
+    put_last(alloc, core, usize::MAX, &mut out)?;
+    Ok(out)
 }
 
 /// Whether the text of the log is read as a log that prints it.

@@ -9,6 +9,7 @@
 //! | `sent L WORDS`, `tail L WORDS` | whether these are the octets that were sent, or the last of them |
 //! | `last COUNT` | the last so many entries of the log |
 //! | `fate` | what became of the item that was handled last |
+//! | `names` | the names of kinds of events and of each role's states, and the machines by number |
 //! | `read` | whether the text of the log is read back |
 //! | `back COUNT` | so many steps are taken back: where that led to |
 //! | `pause S`, `resume S` | a shard stops, and goes on |
@@ -21,9 +22,10 @@
 //! | `retrace` | back to that place, forward by replay and back again: whether the same was shown at each place, and no callback asked |
 
 use crate::looks::{
-    number_in, put_all, put_back, put_fate, put_last, put_line, put_read_back, put_sent_is,
-    put_shown, put_tail_is, put_timer, put_totals, short_in,
+    number_in, put_all, put_back, put_fate, put_last, put_line, put_names, put_read_back,
+    put_sent_is, put_shown, put_tail_is, put_timer, put_totals, short_in,
 };
+use crate::refusing::are_refused;
 use crate::words::joined;
 use base_list::Octets;
 use base_text::put_number;
@@ -50,6 +52,7 @@ pub struct Play<'a, B: TakesSteps + Drop> {
     seen_asks: u64,
     traces: bool,
     seen: Vec<Vec<u8>>,
+    refuses: bool,
 }
 
 impl<'a, B: TakesSteps + Drop> Drop for Play<'a, B> {
@@ -64,6 +67,7 @@ impl<'a, B: TakesSteps + Drop> Drop for Play<'a, B> {
             seen_asks: _,
             traces: _,
             seen,
+            refuses: _,
         } = self;
     }
 }
@@ -168,6 +172,7 @@ fn puts_look(
         "tail" => put_tail_is(core, short_in(line), &joined(alloc, list, words)?, out)?,
         "last" => put_last(alloc, core, number_in(rest) as usize, out)?,
         "fate" => put_fate(alloc, core, out)?,
+        "names" => put_names(core, out)?,
         "read" => put_read_back(alloc, core, out)?,
         _ => return Ok(false),
     }
@@ -207,11 +212,32 @@ impl<'a, B: TakesSteps + Drop> Play<'a, B> {
             seen_asks: 0,
             traces: false,
             seen: Vec::new(alloc),
+            refuses: false,
         }
+    }
+
+    /// From now on steps that are refused are tried before each step.
+    pub fn refuse(&mut self) {
+        self.refuses = true;
+    }
+
+    /// Tries steps that are refused, where that is wanted.
+    fn tries_refused(&mut self) -> Result<(), AllocError> {
+        if !self.refuses {
+            return Ok(());
+        }
+        let Some(world) = self.worlds.get_mut(self.at) else {
+            return Ok(());
+        };
+        if !are_refused(self.alloc, world)? {
+            self.out.extend_from_slice(b" not refused\n")?;
+        }
+        Ok(())
     }
 
     /// Takes a step; whether it was taken. A fault is printed where that is wanted.
     pub fn take(&mut self, step: Step, tells: bool) -> Result<bool, AllocError> {
+        self.tries_refused()?;
         let Some(world) = self.worlds.get_mut(self.at) else {
             return Ok(false);
         };

@@ -12,7 +12,7 @@ use std::marker::Model;
 /// lifted and how many dropped, and how many more can be put without memory.
 ///
 /// In: `reserve`, `put`, `put_all`, taken back by `unput`. Out: `lift`, taken back by `unlift`; `drop_hand`, taken back by `undrop`.
-/// Looks: `waiting`, `has_hand`, `next`, `hand`, `items`.
+/// Looks: `waiting`, `has_hand`, `next`, `next_kept`, `hand`, `hand_kept`, `items`.
 pub struct Outbox {
     posts: Vec<KeptItem>,
     lifted: usize,
@@ -81,6 +81,13 @@ impl Outbox {
             None => Ok(None),
             Some(kept) => Ok(Some(kept.show(alloc)?)),
         }
+    }
+
+    /// The oldest item that waits as it is kept, if one does. Takes no memory.
+    pub fn next_kept(&self) -> Option<&KeptItem>
+        ensures { option_copied result ≡ next_out self.now.view }
+    {
+        self.posts.get(self.lifted)
     }
 
     /// The item in the hand, if one lies there.

@@ -5,3 +5,4 @@ pub mod Tasks
 pub mod Refusal
 pub mod Works
 pub mod Stands
+pub mod Lent

@@ -27,6 +27,7 @@ mod work;
 
 pub use fault::{PutError, WorkFault};
 pub use law::becomes_as_logged;
+pub use name::LentKey;
 pub use settle::Settled;
 pub use state::ShardState;
 pub use task::{Fate, Task};

@@ -1,5 +1,6 @@
 //! The octets by which a directory knows a machine.
 ghost use Rattle.std.specs.Prelude.{◌≡◌, IfOk, option_copied, slice_index};
+ghost use Rattle.bench_shard.specs.Lent.{key_lent};
 ghost use Rattle.bench_shard.specs.Names.{key_in, key_octets, octet_role, role_octet};
 
 use base_list::Octets;
@@ -43,6 +44,29 @@ pub(crate) fn key_octets(alloc: Global, key: &Key) -> Result<Vec<u8>, AllocError
     ensures { IfOk result (λ octets. octets.items ≡ key_octets key.now) }
 {
     octets_of(alloc, key.role, key.name.as_slice())
+}
+
+/// The key of a machine, lent by its shard: its name is not copied.
+#[derive(Clone, Copy)]
+pub struct LentKey<'a> {
+    pub role: Role,
+    pub name: &'a [u8],
+}
+
+/// The machine that has these octets, its name as it stands there.
+pub(crate) fn lent_key(octets: &[u8]) -> LentKey<'_>
+    ensures { key_lent result ≡ key_in octets.now }
+{
+    match octets.split_first() {
+        None => LentKey {
+            role: Role::Peer,
+            name: &[],
+        },
+        Some((first, name)) => LentKey {
+            role: octet_role(*first),
+            name,
+        },
+    }
 }
 
 /// The machine that has these octets.

@@ -37,6 +37,22 @@ impl ShardState {
         Ok(())
     }
 
+    /// The same of an item that is kept already.
+    pub fn put_kept(&mut self, item: KeptMachineItem) -> Result<(), PutError>
+        ensures ok { OnOk result (self.new ≡ with_inbox self.old (put_in self.old.inbox (item ∷ []))) }
+        ensures free { OnOk result (is_crowded (items_in self.old.inbox) ≡ false) }
+        ensures undone { OnOk result (with_inbox self.new (without_in self.new.inbox 1) ≡ self.old) }
+        ensures fault { IfErr result (λ e. e ≡ put_error self.old) }
+        ensures err { OnErr result (self.new ≡ self.old) }
+    {
+        if self.is_crowded() {
+            return Err(PutError::Full);
+        }
+        self.inbox.reserve(1)?;
+        self.inbox.put(item);
+        Ok(())
+    }
+
     /// The item that came last never came, unless it was handled. Takes no memory.
     pub fn unput(&mut self)
         ensures { self.new ≡ with_inbox self.old (without_in self.old.inbox 1) }
@@ -57,6 +73,13 @@ impl ShardState {
         ensures none { length self.now.outbox.posts ≤ self.now.outbox.lifted → result ≡ Ok None }
     {
         self.outbox.next(alloc)
+    }
+
+    /// The oldest item that it put out and that waits as it is kept, if one does. Takes no memory.
+    pub fn next_post_kept(&self) -> Option<&KeptItem>
+        ensures { option_copied result ≡ next_out self.now.outbox }
+    {
+        self.outbox.next_kept()
     }
 
     /// The item in its hand, if one lies there.

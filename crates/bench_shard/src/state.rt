@@ -3,10 +3,11 @@ ghost use Rattle.std.specs.Prelude.{◌≡◌, ◌≤◌, ◌<◌, IfOk, IfSome,
 ghost use Rattle.bench_item.specs.declared.limit.TheConstants.{MAX_MACHINES, MAX_SHARDS};
 ghost use Rattle.bench_queue.specs.Inbox.{items_in};
 ghost use Rattle.bench_queue.specs.Outbox.{items_out};
+ghost use Rattle.bench_shard.specs.Lent.{key_lent};
 ghost use Rattle.bench_shard.specs.Names.{key_in};
 ghost use Rattle.bench_shard.specs.View.{place_in};
 
-use crate::name::{key_in, key_octets};
+use crate::name::{LentKey, key_in, key_octets, lent_key};
 use bench_item::{Item, Key, MachineItem, Peers, Series};
 use bench_log::KeptState;
 use bench_queue::{Inbox, Outbox};
@@ -98,6 +99,16 @@ impl ShardState {
         match self.names.name(place) {
             None => Ok(None),
             Some(octets) => Ok(Some(key_in(alloc, octets)?)),
+        }
+    }
+
+    /// The machine at a place, if there is one, its name as it stands there. Takes no memory.
+    pub fn lent_key(&self, place: usize) -> Option<LentKey<'_>>
+        ensures { option_map key_lent result ≡ option_map key_in (slice_get self.now.names place) }
+    {
+        match self.names.name(place) {
+            None => None,
+            Some(octets) => Some(lent_key(octets)),
         }
     }
 

@@ -14,9 +14,10 @@ use Rattle.bench_setup.specs.declared.setups.Setup.{Setup}
 use Rattle.bench_spec.specs.Opening.{Config, laws_of, opening_refusal, settings_of}
 use Rattle.bench_spec.specs.Taken.{Run, opened}
 use Rattle.bench_spec.specs.declared.opening.OpeningError.{OpeningError}
+use Rattle.fault_text.specs.declared.spots.RowPlace.{RowPlace}
 use Rattle.tab_law.specs.Books.{Laws}
 use Rattle.cmd_bench.specs.Nodes.{AreOpenNodes, AreOpened, IsNodesRun, IsOpenNode, IsOpened, IsRunOnOpen, node_refusal, opened_by}
-use Rattle.cmd_bench.specs.Told.{opening_text}
+use Rattle.cmd_bench.specs.Told.{opening_text_at, opening_told, unbound_at}
 use Rattle.cmd_bench.specs.declared.nodes.AllOpened.{AllOpened}
 use Rattle.cmd_bench.specs.declared.nodes.AllOpened.TheVariants as all
 use Rattle.cmd_bench.specs.declared.nodes.Opened.{Opened}
@@ -24,7 +25,7 @@ use Rattle.cmd_bench.specs.declared.nodes.Opened.TheVariants as tried
 use Rattle.cmd_bench.specs.declared.opening.Outcome.{Outcome}
 use Rattle.cmd_bench.specs.declared.shown.Shown.{Shown}
 use Rattle.cmd_bench.proofs.BookLemmas.{same_books}
-use Rattle.cmd_bench.proofs.RunLemmas.{reason_of}
+use Rattle.cmd_bench.proofs.RunLemmas.{reason_of, told_at}
 
 -- its own registries
 pub own_is : {R : Type 0} (book : R → Laws) (registries : List R) (shards count : ℕ) → count ≡ min shards (length registries)
@@ -46,16 +47,18 @@ open_is books own setup node are none host listens accounts core = record {
 }
 
 -- one whose opening is refused
-told_of : (config : Config) (error : OpeningError) (text : List ℕ) → opening_refusal config ≡ Some error → opening_text (laws_of config) error ≡ Some text
-    → option_and_then (opening_text (laws_of config)) (opening_refusal config) ≡ Some text
-told_of config error text is told = ap (option_and_then (opening_text (laws_of config))) is ∙ told
+told_of : (config : Config) (error : OpeningError) (text : List ℕ) → opening_refusal config ≡ Some error
+    → opening_text_at (laws_of config) (unbound_at config) error ≡ Some text → opening_told config ≡ Some text
+told_of config error text is told = ap (option_and_then (opening_text_at (laws_of config) (unbound_at config))) is ∙ told
 
-pub refused_is : (books own : List Laws) (setup : Setup) (error : OpeningError) (text : List ℕ) → own ≡ take setup.bench.shards books
-    → IsErrorFor (opening_refusal (config_of setup.bench own)) error → opening_text (laws_of (config_of setup.bench own)) error ≡ Some text
-    → node_refusal books setup ≡ Some text
-refused_is books own setup error text are for told =
-    subst (λ (b : List Laws). option_and_then (opening_text (laws_of (config_of setup.bench b))) (opening_refusal (config_of setup.bench b)) ≡ Some text) are
-    (told_of (config_of setup.bench own) error text (reason_of (config_of setup.bench own) error text for told) told)
+pub refused_is : (books own : List Laws) (setup : Setup) (place : Option RowPlace) (error : OpeningError) (text : List ℕ) → own ≡ take setup.bench.shards books
+    → place ≡ unbound_at (config_of setup.bench own) → IsErrorFor (opening_refusal (config_of setup.bench own)) error
+    → opening_text_at (laws_of (config_of setup.bench own)) place error ≡ Some text → node_refusal books setup ≡ Some text
+refused_is books own setup place error text are there for told =
+    let config : Config = config_of setup.bench own in
+    let told_there : opening_text_at (laws_of config) (unbound_at config) error ≡ Some text = told_at config place error text there told in
+    subst (λ (b : List Laws). opening_told (config_of setup.bench b) ≡ Some text) are
+    (told_of config error text (reason_of config error text for told_there) told_there)
 
 -- no node yet
 pub open_none : {R : Type 0} (registries : List R) (book : R → Laws) (nodes : List Node) → nodes ≡ [] → AreOpenNodes (map book registries) [] nodes
@@ -74,7 +77,7 @@ none_first : (f : Setup → Option (List ℕ)) (setup : Setup) (rest : List Setu
 none_first f setup rest none = ap (λ (o : Option (List ℕ)). option_or o (first_in f rest)) none
 
 could_none : (books : List Laws) (setup : Setup) (node : Node) → IsOpenNode books setup node → node_refusal books setup ≡ None
-could_none books setup node is = ap (option_and_then (opening_text (laws_of (opened_by books setup.bench)))) is.could
+could_none books setup node is = ap (option_and_then (opening_text_at (laws_of (opened_by books setup.bench)) (unbound_at (opened_by books setup.bench)))) is.could
 
 pub refused_behind : (books : List Laws) (setups : List Setup) (nodes : List Node) (rest : List Setup) → AreOpenNodes books setups nodes
     → first_in (node_refusal books) (setups ++ rest) ≡ first_in (node_refusal books) rest

@@ -7,8 +7,9 @@ use Rattle.bench_spec.specs.Opening.{Config, laws_of, opening_refusal, settings_
 use Rattle.bench_spec.specs.Taken.{Run, opened}
 use Rattle.bench_spec.specs.declared.opening.OpeningError.{OpeningError}
 use Rattle.bench_spec.specs.declared.opening.OpeningError.TheVariants as errors
+use Rattle.fault_text.specs.declared.spots.RowPlace.{RowPlace}
 use Rattle.script_text.specs.RunLines.{first_bad_run}
-use Rattle.cmd_bench.specs.Told.{IsBenchRun, IsRunIn, bad_text, opening_text, refusal_of}
+use Rattle.cmd_bench.specs.Told.{IsBenchRun, IsRunIn, bad_text, opening_text_at, refusal_of, unbound_at}
 use Rattle.cmd_bench.specs.declared.opening.Outcome.{Outcome}
 use Rattle.cmd_bench.specs.declared.shown.Shown.{Shown}
 
@@ -17,7 +18,7 @@ refusal_opened : (config : Config) (script : List ℕ) → opening_refusal confi
     → refusal_of config script ≡ option_map bad_text (first_bad_run (laws_of config) script)
 unfolding refusal_of
 refusal_opened config script none =
-    ap (λ (o : Option OpeningError). option_or (option_and_then (opening_text (laws_of config)) o) (option_map bad_text (first_bad_run (laws_of config) script))) none
+    ap (λ (o : Option OpeningError). option_or (option_and_then (opening_text_at (laws_of config) (unbound_at config)) o) (option_map bad_text (first_bad_run (laws_of config) script))) none
 
 run_opened : (config : Config) (script : List ℕ) (shown : Shown) (text : List ℕ) (refused : Bool) → opening_refusal config ≡ None
     → IsRunIn (opened (settings_of config)) script shown (map (λ account. account.id) config.accounts) text refused
@@ -36,9 +37,15 @@ run_of config script shown core accounts text refused none is ids run =
     in run_opened config script shown text refused none
     (subst (λ (ns : List ℕ). IsRunIn (opened (settings_of config)) script shown ns text refused) ids there)
 
+-- what is told with the row of a configuration
+pub told_at : (config : Config) (place : Option RowPlace) (error : OpeningError) (text : List ℕ) → place ≡ unbound_at config
+    → opening_text_at (laws_of config) place error ≡ Some text → opening_text_at (laws_of config) (unbound_at config) error ≡ Some text
+told_at config place error text is told =
+    subst (λ (p : Option RowPlace). opening_text_at (laws_of config) p error ≡ Some text) is told
+
 -- the reason of an opening that is refused
 pub reason_of : (config : Config) (error : OpeningError) (text : List ℕ) → IsErrorFor (opening_refusal config) error
-    → opening_text (laws_of config) error ≡ Some text → opening_refusal config ≡ Some error
+    → opening_text_at (laws_of config) (unbound_at config) error ≡ Some text → opening_refusal config ≡ Some error
 reason_of config errors.Limits text for told = for
 reason_of config errors.Names text for told = for
 reason_of config errors.Laws text for told = for
@@ -47,11 +54,11 @@ reason_of config errors.Account text for told = for
 reason_of config errors.NoMemory text for told = absurd cc
 
 pub refused_of : (config : Config) (script : List ℕ) (shown : Shown) (error : OpeningError) (text : List ℕ) → IsErrorFor (opening_refusal config) error
-    → opening_text (laws_of config) error ≡ Some text → IsBenchRun config script shown text true
+    → opening_text_at (laws_of config) (unbound_at config) error ≡ Some text → IsBenchRun config script shown text true
 unfolding refusal_of
 refused_of config script shown error text for told =
     let whole : Option OpeningError → Option (List ℕ) =
-    λ o. option_or (option_and_then (opening_text (laws_of config)) o) (option_map bad_text (first_bad_run (laws_of config) script))
+    λ o. option_or (option_and_then (opening_text_at (laws_of config) (unbound_at config)) o) (option_map bad_text (first_bad_run (laws_of config) script))
     in let first : Option (List ℕ) → Option (List ℕ) = λ o. option_or o (option_map bad_text (first_bad_run (laws_of config) script)) in
     ap whole (reason_of config error text for told) ∙ ap first told
 
@@ -65,8 +72,9 @@ runs_of config script shown core accounts (Ok outcome) none is ids run =
     run_of config script shown core accounts outcome.text.items outcome.refused none is ids run
 
 -- an opening that is refused, as it is told
-pub refused_outcome : (config : Config) (script : List ℕ) (shown : Shown) (error : OpeningError) (outcome : Outcome) → IsErrorFor (opening_refusal config) error
-    → opening_text (laws_of config) error ≡ Some outcome.text.items → outcome.refused ≡ true
+pub refused_outcome : (config : Config) (script : List ℕ) (shown : Shown) (place : Option RowPlace) (error : OpeningError) (outcome : Outcome) → place ≡ unbound_at config
+    → IsErrorFor (opening_refusal config) error → opening_text_at (laws_of config) place error ≡ Some outcome.text.items → outcome.refused ≡ true
     → IsBenchRun config script shown outcome.text.items outcome.refused
-refused_outcome config script shown error outcome for told is =
-    subst (λ (b : Bool). IsBenchRun config script shown outcome.text.items b) (sym is) (refused_of config script shown error outcome.text.items for told)
+refused_outcome config script shown place error outcome there for told is =
+    subst (λ (b : Bool). IsBenchRun config script shown outcome.text.items b) (sym is)
+    (refused_of config script shown error outcome.text.items for (told_at config place error outcome.text.items there told))

@@ -1,6 +1,5 @@
 -- What is told of nodes that are opened and of a script that is run on them.
 use Rattle.std.specs.Prelude.{◌≡◌, ◌⊎◌, ℕ, Bool, true, false, List, [], ◌∷◌, ◌++◌, codes, is_some, map, replicate, take, Option, Some, None, option_map}
-use Rattle.std.specs.Option.{option_and_then}
 use Rattle.base_device.specs.Devices.{Tells}
 use Rattle.base_device.specs.Inputs.{IsInput}
 use Rattle.base_device.specs.declared.status.Status.{Status}
@@ -15,7 +14,7 @@ use Rattle.bench_open.specs.Given.{config_of}
 use Rattle.bench_open.specs.declared.config.Config as handed
 use Rattle.bench_setup.specs.Setups.{AreSetupsFrom}
 use Rattle.bench_setup.specs.declared.setups.Setup.{Setup}
-use Rattle.bench_spec.specs.Opening.{Config, laws_of, opening_refusal, settings_of}
+use Rattle.bench_spec.specs.Opening.{Config, opening_refusal, settings_of}
 use Rattle.bench_spec.specs.Taken.{opened}
 use Rattle.role_tables.specs.Roles.{all_laws}
 use Rattle.tab_law.specs.Books.{Laws}
@@ -24,7 +23,7 @@ use Rattle.cmd_bench.specs.declared.nodes.AllOpened.{AllOpened}
 use Rattle.cmd_bench.specs.declared.nodes.AllOpened.TheVariants as all
 use Rattle.cmd_bench.specs.declared.nodes.Opened.{Opened}
 use Rattle.cmd_bench.specs.declared.nodes.Opened.TheVariants as tried
-use Rattle.cmd_bench.specs.Told.{bad_text, if_shown, opening_text, run_status}
+use Rattle.cmd_bench.specs.Told.{bad_text, if_shown, opening_told, run_status}
 use Rattle.cmd_bench.specs.declared.shown.Shown.{Shown}
 
 -- what a node's bench is opened with, of registries with these laws: the first of them, one for each shard
@@ -48,8 +47,7 @@ AreOpenNodes books (setup ∷ setups) [] = ⊥
 
 -- why a node is not opened, and what is wanted
 abbrev pub node_refusal : List Laws → Setup → Option (List ℕ)
-node_refusal books setup =
-    option_and_then (opening_text (laws_of (opened_by books setup.bench))) (opening_refusal (opened_by books setup.bench))
+node_refusal books setup = opening_told (opened_by books setup.bench)
 
 -- what is printed at the end: where lines stand and what they sent, and the accounts, node by node
 abbrev pub node_ends : Shown → List Node → List ℕ

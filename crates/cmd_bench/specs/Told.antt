@@ -14,10 +14,13 @@ use Rattle.bench_spec.specs.Taken.{Run, opened}
 use Rattle.bench_spec.specs.declared.opening.OpeningError.{OpeningError}
 use Rattle.bench_spec.specs.declared.opening.OpeningError.TheVariants as errors
 use Rattle.fault_text.specs.Faults.{unbound_text}
+use Rattle.fault_text.specs.Spots.{unbound_place}
+use Rattle.fault_text.specs.declared.spots.RowPlace.{RowPlace}
 use Rattle.role_tables.specs.Roles.{all_laws}
 use Rattle.script_text.specs.RunLines.{first_bad_run, run_script_of}
 use Rattle.script_text.specs.declared.run_line.RunLine.{RunLine}
 use Rattle.tab_law.specs.Books.{Laws}
+use Rattle.tab_text.specs.Contents.{Contents}
 use Rattle.cmd_bench.specs.declared.shown.Shown.{Shown}
 
 -- what is opened: a configuration with the laws of all roles for each shard, of which there are no more than may be
@@ -52,6 +55,23 @@ opening_text laws errors.Account =
     Some (codes "not opened: account\n  wanted: numbers from 1, each once, at most 2^62 units, 1024 accounts on a page\n")
 opening_text laws errors.NoMemory = None
 
+-- the first row with a name that the laws lack: of the peers' table, of the clients' or of the servers'
+abbrev pub unbound_in : Laws → (peer client server : Contents) → Option RowPlace
+unbound_in laws peer client server =
+    option_or (unbound_place laws peer) (option_or (unbound_place laws client) (unbound_place laws server))
+
+abbrev pub unbound_at : Config → Option RowPlace
+unbound_at config = unbound_in (laws_of config) config.peer config.client config.server
+
+-- why a bench is not opened, where a name that the laws lack is told with its row
+abbrev pub opening_text_at : Laws → Option RowPlace → OpeningError → Option (List ℕ)
+opening_text_at laws place (errors.Unbound name) = Some (unbound_text laws place name)
+opening_text_at laws place error = opening_text laws error
+
+-- why the bench of a configuration is not opened; none where it is
+abbrev pub opening_told : Config → Option (List ℕ)
+opening_told config = option_and_then (opening_text_at (laws_of config) (unbound_at config)) (opening_refusal config)
+
 -- the first line of a script that has another form
 abbrev pub bad_text : ℕ → List ℕ
 bad_text line = codes "bad line " ++ decimal line ++ codes "\n"
@@ -66,8 +86,7 @@ IsRunIn run script shown accounts text false =
 -- what is refused first: the opening, or a line of the script
 unfoldable pub refusal_of : Config → List ℕ → Option (List ℕ)
 refusal_of config script =
-    option_or (option_and_then (opening_text (laws_of config)) (opening_refusal config))
-    (option_map bad_text (first_bad_run (laws_of config) script))
+    option_or (opening_told config) (option_map bad_text (first_bad_run (laws_of config) script))
 
 -- what is printed of a script's run on a bench, and whether it is a refusal
 abbrev pub IsBenchRun : Config → (script : List ℕ) → Shown → (text : List ℕ) → Bool → Type 0

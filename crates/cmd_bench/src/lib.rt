@@ -14,6 +14,6 @@ mod running;
 mod shown;
 
 pub use nodes::{run_all_nodes, run_nodes_on};
-pub use opening::{bad_line, opening_text, run_on};
+pub use opening::{bad_line, opening_text, opening_text_at, run_on, unbound_at};
 pub use running::{run, tell_sample};
 pub use shown::Shown;

@@ -6,7 +6,9 @@ ghost use Rattle.bench_setup.specs.Halts.{IsHalt};
 ghost use Rattle.role_tables.specs.Roles.{all_laws};
 ghost use Rattle.cmd_bench.specs.Nodes.{AreNodeInputs, AreOpened, IsNodesMet, IsNodesRun, IsNodesRunOn, IsOpened, IsRunOnOpen, NodesText, node_ends};
 
-use crate::opening::{Outcome, bad_line, numbers_of, opening_text, refusal, run_status};
+use crate::opening::{
+    Outcome, bad_line, numbers_of, opening_text_at, refusal, run_status, unbound_at,
+};
 use crate::shown::Shown;
 use base_device::{ByteSink, FileSource, MAX_IDLE_WRITES, MAX_READS, Status, tell};
 use bench_core::Core;
@@ -49,6 +51,7 @@ fn open_node(alloc: Global, setup: Setup, registries: &[Registry]) -> Result<Ope
     let listens = node.listen.is_some();
     let accounts = numbers_of(alloc, &bench.accounts)?;
     let own = own_registries(registries, bench.shards);
+    let place = unbound_at(alloc, &bench, own);
     match Core::new(alloc, bench, own) {
         Ok(core) => Ok(Opened::Node(Node {
             host,
@@ -56,7 +59,7 @@ fn open_node(alloc: Global, setup: Setup, registries: &[Registry]) -> Result<Ope
             accounts,
             core,
         })),
-        Err(error) => Ok(Opened::Refused(opening_text(alloc, own, &error)?)),
+        Err(error) => Ok(Opened::Refused(opening_text_at(alloc, own, place, &error)?)),
     }
 }
 

@@ -4,7 +4,7 @@ ghost use Rattle.base_device.specs.Devices.{Tells};
 ghost use Rattle.bench_script.specs.Ran.{IsRunBy};
 ghost use Rattle.bench_open.specs.Given.{config_of, first_of};
 ghost use Rattle.fault_text.specs.Faults.{unbound_text};
-ghost use Rattle.cmd_bench.specs.Told.{IsBenchRun, IsRunIn, IsRunOn, bad_text, opened_with, opening_text, run_status};
+ghost use Rattle.cmd_bench.specs.Told.{IsBenchRun, IsRunIn, IsRunOn, bad_text, opened_with, opening_text, opening_text_at, run_status, unbound_at, unbound_in};
 
 use crate::shown::{Shown, run_text};
 use base_device::{ByteSink, MAX_IDLE_WRITES, Status, tell};
@@ -15,7 +15,7 @@ use bench_open::{Account, Config};
 use bench_setup::{WithCalls, with_calls};
 use bench_spec::OpeningError;
 use event_text::LinesError;
-use fault_text::unbound_text;
+use fault_text::{RowPlace, unbound_place, unbound_text};
 use script_text::read_run_script;
 use std::alloc::{AllocError, Global};
 use tab_call::Registry;
@@ -59,17 +59,64 @@ pub fn bad_line(alloc: Global, line: usize) -> Result<Vec<u8>, AllocError>
     Ok(text)
 }
 
-/// The first name of a table that the laws of the first registry lack, and what is near it.
-fn lacking_text(alloc: Global, registries: &[Registry], name: &[u8]) -> Result<Vec<u8>, AllocError>
-    ensures { IfOk result (λ text. text.items ≡ unbound_text (first_of (map (λ r. r.book) registries.now)) None name.now) }
+/// The first row of a bench's tables with a name that these laws lack: of the peers' table, of the clients' or of the servers'.
+fn unbound_in(laws: &LawBook, config: &Config) -> Option<RowPlace>
+    ensures { result ≡ unbound_in laws.now config.now.peer config.now.client config.now.server }
 {
-    match registries.first() {
-        Some(registry) => unbound_text(alloc, registry.laws(), None, name),
-        None => unbound_text(alloc, &LawBook::new(alloc), None, name),
+    match unbound_place(laws, &config.peer) {
+        Some(place) => Some(place),
+        None => match unbound_place(laws, &config.client) {
+            Some(place) => Some(place),
+            None => unbound_place(laws, &config.server),
+        },
     }
 }
 
-/// Why a bench is not opened, and what is wanted.
+/// The first row of a bench's tables with a name that the laws of the first registry lack, and the line on which it begins.
+pub fn unbound_at(alloc: Global, config: &Config, registries: &[Registry]) -> Option<RowPlace>
+    ensures { result ≡ unbound_in (first_of (map (λ r. r.book) registries.now)) config.now.peer config.now.client config.now.server }
+{
+    match registries.first() {
+        Some(registry) => unbound_in(registry.laws(), config),
+        None => unbound_in(&LawBook::new(alloc), config),
+    }
+}
+
+/// The first name of a table that the laws of the first registry lack, its row, and what is near it.
+fn lacking_text(
+    alloc: Global,
+    registries: &[Registry],
+    place: Option<RowPlace>,
+    name: &[u8],
+) -> Result<Vec<u8>, AllocError>
+    ensures { IfOk result (λ text. text.items ≡ unbound_text (first_of (map (λ r. r.book) registries.now)) place name.now) }
+{
+    match registries.first() {
+        Some(registry) => unbound_text(alloc, registry.laws(), place, name),
+        None => unbound_text(alloc, &LawBook::new(alloc), place, name),
+    }
+}
+
+/// Why a bench is not opened, and what is wanted; a name that the laws lack with this row.
+pub fn opening_text_at(
+    alloc: Global,
+    registries: &[Registry],
+    place: Option<RowPlace>,
+    error: &OpeningError,
+) -> Result<Vec<u8>, AllocError>
+    ensures { IfOk result (λ text. opening_text_at (first_of (map (λ r. r.book) registries.now)) place error.now ≡ Some text.items) }
+{
+    match error {
+        OpeningError::Unbound(name) => lacking_text(alloc, registries, place, name.as_slice()),
+        OpeningError::Limits
+        | OpeningError::Names
+        | OpeningError::Laws
+        | OpeningError::Account
+        | OpeningError::NoMemory => opening_text(alloc, registries, error),
+    }
+}
+
+/// Why a bench is not opened, and what is wanted, without a row.
 pub fn opening_text(
     alloc: Global,
     registries: &[Registry],
@@ -81,7 +128,7 @@ pub fn opening_text(
         OpeningError::Limits => Vec::from_slice(alloc, BAD_LIMITS.as_bytes()),
         OpeningError::Names => Vec::from_slice(alloc, BAD_NAMES.as_bytes()),
         OpeningError::Laws => Vec::from_slice(alloc, BAD_LAWS.as_bytes()),
-        OpeningError::Unbound(name) => lacking_text(alloc, registries, name.as_slice()),
+        OpeningError::Unbound(name) => lacking_text(alloc, registries, None, name.as_slice()),
         OpeningError::Account => Vec::from_slice(alloc, BAD_ACCOUNT.as_bytes()),
         OpeningError::NoMemory => Err(AllocError),
     }
@@ -128,9 +175,10 @@ fn run_with(
     ensures { IfOk result (λ run. IsBenchRun (config_of config (map (λ r. r.book) registries.now)) script.now shown run.text.items run.refused) }
 {
     let accounts = numbers_of(alloc, &config.accounts)?;
+    let place = unbound_at(alloc, &config, registries);
     match Core::new(alloc, config, registries) {
         Ok(mut core) => run_in(alloc, &mut core, registries, script, shown, &accounts),
-        Err(error) => Ok(refusal(opening_text(alloc, registries, &error)?)),
+        Err(error) => Ok(refusal(opening_text_at(alloc, registries, place, &error)?)),
     }
 }
 

@@ -2,15 +2,16 @@
 use Rattle.std.specs.Prelude.{◌≡◌, ℕ, List, None, codes}
 use Rattle.base_device.specs.declared.status.Status.{Status}
 use Rattle.base_device.specs.declared.status.Status.TheVariants as statuses
-use Rattle.cmd_words.specs.Words.{Wanted, Table, Nothing}
+use Rattle.cmd_words.specs.Words.{Wanted, Table, Live, Nothing}
 use Rattle.cmd_words.specs.declared.words.NoWords.{NoWords}
 use Rattle.cmd_words.specs.declared.words.NoWords.TheVariants as no_words
 use Rattle.role_tables.specs.Roles.{table_named}
 
--- a command that asks for not one thing, or for the table of a role that isn't there
+-- a command that asks for not one thing, for the table of a role that isn't there, or for nodes over TCP where no socket is
 abbrev pub AsksInVain : Wanted → Type 0
 AsksInVain Nothing = Unit {0}
 AsksInVain (Table role) = table_named role ≡ None
+AsksInVain (Live config host seconds log) = Unit {0}
 AsksInVain other = ⊥
 
 -- what is told where there are no words

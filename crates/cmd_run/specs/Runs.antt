@@ -18,7 +18,7 @@ use Rattle.tab_text.specs.Faults.{first_fault}
 use Rattle.tab_walk.specs.Starts.{from_of}
 use Rattle.tab_walk.specs.Walks.{IsWalkedOn}
 use Rattle.tab_walk.specs.declared.start.Manner.{Manner}
-use Rattle.cmd_words.specs.Words.{Wanted, Read, Walk, Names, Table, Draw, Assemble, ListImage, Run, Debug, Sample, Nothing, Nodes}
+use Rattle.cmd_words.specs.Words.{Wanted, Read, Walk, Names, Table, Draw, Assemble, ListImage, Run, Debug, Sample, Live, Nothing, Nodes}
 
 -- A table, or its image, and then events were read whole, and what is told is the walk of the table over the events, over all laws,
 -- in the manner that was asked for.
@@ -81,5 +81,7 @@ IsMet remaining reads failures contents write_failures idle (Nodes quiet sent to
     IsNodesMet remaining reads failures contents write_failures idle cut (record { steps = not quiet; lines = sent; totals = totals }) source source' sink sink' answer
 IsMet remaining reads failures contents write_failures idle Sample source source' sink sink' answer =
     (source' ≡ source) × Tells contents write_failures idle sink sink' SAMPLE.now statuses.Done answer
+IsMet remaining reads failures contents write_failures idle (Live config host seconds log) source source' sink sink' answer =
+    (source' ≡ source) × (text : List ℕ) × Tells contents write_failures idle sink sink' text statuses.Usage answer
 IsMet remaining reads failures contents write_failures idle Nothing source source' sink sink' answer =
     (source' ≡ source) × (text : List ℕ) × Tells contents write_failures idle sink sink' text statuses.Usage answer

@@ -19,6 +19,9 @@ use cmd_words::{Asked, NoWords, Task, WordsError, parse_words};
 use std::alloc::Global;
 use std::convert::AsStr;
 
+/// What is told where nodes are to live: that takes threads and sockets, and here are none (`cmd_live` has them).
+const NO_SOCKETS: &str = "live wants threads and sockets\n";
+
 /// Tells why there are no words: memory ran out, or they aren't understood since one of them isn't UTF-8.
 pub fn tell_no_words<O: ByteSink>(why: NoWords, sink: &mut O) -> Status
     requires idle { O.idle sink.old ≡ 0 }
@@ -85,6 +88,7 @@ fn run<I: FileSource, O: ByteSink>(
             run_all_nodes(alloc, cut as usize, config, script, shown, source, sink)
         }
         Task::Sample => tell_sample(sink),
+        Task::Live(..) => tell(sink, NO_SOCKETS.as_bytes(), Status::Usage),
         Task::Nothing(usage) => tell(sink, usage.as_bytes(), Status::Usage),
     }
 }

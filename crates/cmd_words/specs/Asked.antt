@@ -3,7 +3,7 @@ use Rattle.std.specs.Prelude.{◌≡◌, ◌≢◌, ◌⊎◌, List, [], option_
 use Rattle.clap.specs.Words.{Text}
 use Rattle.clap.specs.declared.error.kind.ErrorKind.{ErrorKind}
 use Rattle.clap.specs.declared.error.kind.ErrorKind.TheVariants.{DisplayHelp, DisplayVersion, OutOfMemory}
-use Rattle.cmd_words.specs.Words.{AreRefused, AskForText, Wanted, Read, Walk, Names, Table, Draw, Assemble, ListImage, Run, Debug, Sample, Nothing, wanted, word_faults, Nodes}
+use Rattle.cmd_words.specs.Words.{AreRefused, AskForText, Wanted, Read, Walk, Names, Table, Draw, Assemble, ListImage, Run, Debug, Sample, Live, Nothing, wanted, word_faults, Nodes}
 use Rattle.cmd_words.specs.declared.words.Task.{Task}
 use Rattle.cmd_words.specs.declared.words.Task.TheVariants as tasks
 use Rattle.cmd_words.specs.declared.words.Asked.{Asked}
@@ -27,6 +27,8 @@ meaning (tasks.Debug config script commands) =
 meaning (tasks.Nodes quiet sent totals cut config script) =
     Nodes quiet sent totals cut config.now (option_map (λ name. name.now) script)
 meaning tasks.Sample = Sample
+meaning (tasks.Live config host seconds log) =
+    Live config.now (option_map (λ name. name.now) host) (option_map (λ text. text.now) seconds) (option_map (λ name. name.now) log)
 meaning (tasks.Nothing usage) = Nothing
 
 -- a command where nothing is wrong, a text that is asked for, or a refusal where something is wrong

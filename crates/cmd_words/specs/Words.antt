@@ -66,9 +66,23 @@ debug_app =
     with_rule (with_rule (with_rule (new_app (codes "debug")) (new_rule (codes "CONFIG"))) (new_rule (codes "SCRIPT")))
     (option_rule (codes "FILE") (codes "run"))
 
--- the same, and what is done with a node: `run` and `debug`
+-- `live`, with CONFIG, `--node`, `--seconds` and `--log`
+abbrev pub live_app : App
+live_app =
+    with_rule (with_rule (with_rule (with_rule (new_app (codes "live")) (new_rule (codes "CONFIG"))) (option_rule (codes "HOST") (codes "node")))
+    (option_rule (codes "SECONDS") (codes "seconds"))) (option_rule (codes "DIR") (codes "log"))
+
+-- the same, and what is done with a node by a script: `run`
+abbrev pub running_app : App
+running_app = with_subcommand table_app run_app.top
+
+-- the same, and by commands: `debug`
+abbrev pub debugging_app : App
+debugging_app = with_subcommand running_app debug_app.top
+
+-- the same, and what is done with nodes over TCP: `live`
 abbrev pub dbench_app : App
-dbench_app = with_subcommand (with_subcommand table_app run_app.top) debug_app.top
+dbench_app = with_subcommand debugging_app live_app.top
 
 -- what is wrong with the words, or which text they ask for; nothing where they are a command
 unfoldable pub word_faults : List Text → Kinds
@@ -78,7 +92,8 @@ word_faults words = fault_of dbench_app words
 -- from where it is told or from the start, of a table over events of a file or of standard input; the names that tables may use; the table of a role; the graph or the image of a table
 -- of a file or of standard input; what such an image holds, in words; a run, which is quiet or not, and tells what was sent and the
 -- totals or not, of a node over a script of a file or of standard input; a debugger on a node, over a script or none, with the
--- commands of a file or of standard input; a small CONFIG; or not one thing
+-- commands of a file or of standard input; a small CONFIG; that nodes live, those of a file or the one of a host, for so many seconds
+-- or not, with their logs written to a folder or not; or not one thing
 pub data Wanted : Type 0 where
   Read : Style → Bool → (dictionary file : Option Text) → Wanted
   Walk : (why : Bool) → (from : Option Text) → (table : Text) → (events : Option Text) → Wanted
@@ -91,6 +106,7 @@ pub data Wanted : Type 0 where
   Debug : (config : Text) → (script commands : Option Text) → Wanted
   Nodes : (quiet sent totals : Bool) → (cut : ℕ) → (config : Text) → (script : Option Text) → Wanted
   Sample : Wanted
+  Live : (config : Text) → (host seconds log : Option Text) → Wanted
   Nothing : Wanted
 
 -- what `walk` asks for: by its flags `names` and `why`, NAME, FROM, TABLE and EVENTS
@@ -110,6 +126,11 @@ run_wanted sample quiet sent totals config script = Nothing
 abbrev pub debug_wanted : (config script commands : Option Text) → Wanted
 debug_wanted (Some config) script commands = Debug config script commands
 debug_wanted None script commands = Nothing
+
+-- what `live` asks for: by CONFIG, HOST, SECONDS and DIR
+abbrev pub live_wanted : (config host seconds log : Option Text) → Wanted
+live_wanted None host seconds log = Nothing
+live_wanted (Some config) host seconds log = Live config host seconds log
 
 -- in pieces of how many octets: without `--cut` of no fewer than there can be, and else of one at least
 abbrev pub positive : Option ℕ → Option ℕ
@@ -153,6 +174,12 @@ one_in rows =
 abbrev pub debug_in : List Row → Wanted
 debug_in rows = debug_wanted (first_of (codes "CONFIG") rows) (first_of (codes "SCRIPT") rows) (first_of (codes "FILE") rows)
 
+-- what `live` asks for, by what stands behind it
+abbrev pub live_in : List Row → Wanted
+live_in rows =
+    live_wanted (first_of (codes "CONFIG") rows) (first_of (codes "HOST") rows) (first_of (codes "SECONDS") rows)
+    (first_of (codes "DIR") rows)
+
 abbrev pub all_in : List Row → Wanted
 all_in rows =
     nodes_wanted (is_given (first_of (codes "sample") rows)) (is_given (first_of (codes "quiet") rows)) (is_given (first_of (codes "sent") rows))
@@ -173,6 +200,7 @@ wanted_of (Some used) =
     else if bytes_eq used.0 (codes "list") then ListImage (first_of (codes "FILE") used.1)
     else if bytes_eq used.0 (codes "run") then run_in used.1
     else if bytes_eq used.0 (codes "debug") then debug_in used.1
+    else if bytes_eq used.0 (codes "live") then live_in used.1
     else if bytes_eq used.0 (codes "walk")
     then walk_wanted (is_given (first_of (codes "names") used.1)) (is_given (first_of (codes "why") used.1)) (first_of (codes "NAME") used.1) (first_of (codes "FROM") used.1) (first_of (codes "TABLE") used.1) (first_of (codes "EVENTS") used.1)
     else read_wanted (is_given (first_of (codes "explain") used.1)) (is_given (first_of (codes "json") used.1)) (is_given (first_of (codes "lines") used.1)) (first_of (codes "DICT") used.1) (first_of (codes "FILE") used.1)

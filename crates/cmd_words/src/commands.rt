@@ -3,9 +3,10 @@ ghost use Rattle.std.specs.Prelude.{◌≡◌, IfOk, codes, false, true};
 ghost use Rattle.clap.specs.Simple.{on_top};
 ghost use Rattle.clap.specs.Words.{app_of, new_app, new_rule, rule_of, with_rule, with_subcommand};
 ghost use Rattle.clap.specs.declared.builder.command.Command.TheViews.{out-Command};
-ghost use Rattle.cmd_words.specs.Words.{dbench_app, flag_rule, option_rule, read_app, run_app, run_values, table_app, walk_app, walking_app};
+ghost use Rattle.cmd_words.specs.Words.{dbench_app, debugging_app, flag_rule, option_rule, read_app, run_app, run_values, running_app, table_app, walk_app, walking_app};
 
 use crate::debug::debug_command;
+use crate::live::live_command;
 use crate::texts::{
     ABOUT, ASM_ABOUT, ASM_LONG_ABOUT, DRAW_ABOUT, DRAW_LONG_ABOUT, LIST_ABOUT, LIST_LONG_ABOUT,
     READ_ABOUT, READ_LONG_ABOUT, RUN_ABOUT, RUN_LONG_ABOUT, STATUSES, WALK_ABOUT, WALK_LONG_ABOUT,
@@ -316,13 +317,29 @@ fn table_command<'a>(alloc: Global) -> Result<Command<'a>, AllocError>
     )
 }
 
+/// The program's command, with those of messages, tables and scripts below it.
+fn running_command<'a>(alloc: Global) -> Result<Command<'a>, AllocError>
+    ensures { IfOk result (λ c. app_of c ≡ running_app) }
+{
+    let command = table_command(alloc)?;
+    let run = run_command(alloc)?;
+    with_command(command, run)
+}
+
+/// The same, with the debugger below it.
+fn debugging_command<'a>(alloc: Global) -> Result<Command<'a>, AllocError>
+    ensures { IfOk result (λ c. app_of c ≡ debugging_app) }
+{
+    let command = running_command(alloc)?;
+    let debug = debug_command(alloc)?;
+    with_command(command, debug)
+}
+
 /// The program's command.
 pub(crate) fn command<'a>(alloc: Global) -> Result<Command<'a>, AllocError>
     ensures { IfOk result (λ c. app_of c ≡ dbench_app) }
 {
-    let command = table_command(alloc)?;
-    let run = run_command(alloc)?;
-    let command = with_command(command, run)?;
-    let debug = debug_command(alloc)?;
-    with_command(command, debug)
+    let command = debugging_command(alloc)?;
+    let live = live_command(alloc)?;
+    with_command(command, live)
 }

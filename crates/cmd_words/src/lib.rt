@@ -5,11 +5,13 @@
 //! | `texts` | help and usage |
 //! | `commands` | the words that are understood, for `clap` |
 //! | `debug` | the words of `debug`: understood, help and usage |
+//! | `live` | those of `live` |
 //! | `words` | what given words ask for |
 #![tactic(auto)]
 
 mod commands;
 mod debug;
+mod live;
 mod texts;
 mod words;
 

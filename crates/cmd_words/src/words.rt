@@ -2,11 +2,12 @@
 ghost use Rattle.std.specs.Prelude.{◌≡◌, Some, map, option_map};
 ghost use Rattle.clap.specs.Words.{first_of, found_of, kind_of, rows_of};
 ghost use Rattle.cmd_words.specs.declared.words.WordsError.TheVariants.{NoMemory};
-ghost use Rattle.cmd_words.specs.Words.{debug_in, debug_wanted, is_given, read_wanted, run_in, run_wanted, walk_wanted, wanted_of, cut_of, nodes_wanted, uncut};
+ghost use Rattle.cmd_words.specs.Words.{debug_in, debug_wanted, is_given, live_in, live_wanted, read_wanted, run_in, run_wanted, walk_wanted, wanted_of, cut_of, nodes_wanted, uncut};
 ghost use Rattle.cmd_words.specs.Asked.{IsAsked, IsRefusal, meaning};
 
 use crate::commands::command;
 use crate::debug::DEBUG_USAGE;
+use crate::live::LIVE_USAGE;
 use crate::texts::{READ_USAGE, RUN_USAGE, WALK_USAGE};
 use base_text::number_of;
 use clap::error::ErrorKind;
@@ -73,6 +74,9 @@ pub enum Task<'a> {
     Nodes(bool, bool, bool, u64, &'a str, Option<&'a str>),
     /// A small CONFIG.
     Sample,
+    /// `live`: the nodes of this file, or the one of this host, for so many seconds or not, with their logs written to this folder or
+    /// not.
+    Live(&'a str, Option<&'a str>, Option<&'a str>, Option<&'a str>),
     /// Not one thing: what is told then.
     Nothing(&'static str),
 }
@@ -187,6 +191,21 @@ fn run_task<'a>(
     }
 }
 
+/// What `live` asks for, by CONFIG, HOST, SECONDS and DIR.
+fn live_task<'a>(
+    config: Option<&'a str>,
+    node: Option<&'a str>,
+    seconds: Option<&'a str>,
+    log: Option<&'a str>,
+) -> Task<'a>
+    ensures { meaning result ≡ live_wanted (option_map (λ text. text.now) config.entry) (option_map (λ text. text.now) node.entry) (option_map (λ text. text.now) seconds.entry) (option_map (λ text. text.now) log.entry) }
+{
+    match config {
+        Some(config) => Task::Live(config, node, seconds, log),
+        None => Task::Nothing(LIVE_USAGE),
+    }
+}
+
 /// In pieces of how many octets; none where that is no number from 1 on.
 fn cut_of(text: Option<&str>) -> Option<u64>
     ensures { result ≡ cut_of (option_map (λ text. text.now) text.entry) }
@@ -275,6 +294,16 @@ fn debug_task_of<'a>(found: &ArgMatches<'a>) -> Task<'a>
     debug_task(config, script, value_of(found, "FILE"))
 }
 
+/// What `live` asks for.
+fn live_task_of<'a>(found: &ArgMatches<'a>) -> Task<'a>
+    ensures { meaning result ≡ live_in (rows_of (found_of found.now)) }
+{
+    let config = value_of(found, "CONFIG");
+    let node = value_of(found, "HOST");
+    let seconds = value_of(found, "SECONDS");
+    live_task(config, node, seconds, value_of(found, "DIR"))
+}
+
 /// What a command asks for, by its name and what stands behind it.
 fn task_of<'a>(name: &str, found: &ArgMatches<'a>) -> Task<'a>
     ensures { meaning result ≡ wanted_of (Some (name.now, rows_of (found_of found.now))) }
@@ -293,6 +322,9 @@ fn task_of<'a>(name: &str, found: &ArgMatches<'a>) -> Task<'a>
     }
     if name == "debug" {
         return debug_task_of(found);
+    }
+    if name == "live" {
+        return live_task_of(found);
     }
     if name == "walk" {
         let names = is_given(value_of(found, "names"));

@@ -30,7 +30,7 @@ use dia_tree::{FaultView, MsgFault, NoRoom, missing_fault, survey};
 use std::alloc::Global;
 
 /// How many AVPs most messages have at most.
-const FEW_AVPS: usize = 24;
+const FEW_AVPS: usize = 16;
 
 // Whether a message of a header and AVPs is an EVENT request (RFC 8506 section 8.3).
 fn is_event(header: &Header, avps: &[AvpView<'_>]) -> bool
@@ -142,7 +142,8 @@ fn without_fault(alloc: Global, first: &Option<FaultView<'_>>) -> Result<(), Msg
 }
 
 // What is made of a message whose header has no fault: the error for the first fault of its AVPs, where they have one, and
-// else what is made of them.
+// else what is made of them. It stands in its caller, so that a command is copied once less.
+#[inline(always)]
 fn concluded(
     alloc: Global,
     dictionary: &Dictionary,

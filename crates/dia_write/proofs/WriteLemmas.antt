@@ -1,34 +1,42 @@
 -- The length of an encoding, and that it is one message.
-use Rattle.std.proofs.Common.{◌≡◌, ℕ, ◌+◌, ◌*◌, ◌/◌, ◌<◌, ◌≤◌, ◌^◌, List, [], ◌∷◌, ◌++◌, length, take, drop, get_or, map, false, refl, sym, ap, ◌∙◌, arith, append_assoc}
+use Rattle.std.proofs.Common.{◌≡◌, ℕ, ◌+◌, ◌*◌, ◌/◌, ◌<◌, ◌≤◌, ◌^◌, Bool, List, [], ◌∷◌, ◌++◌, length, take, drop, get_or, map, false, refl, sym, ap, ◌∙◌, arith, append_assoc}
 use Rattle.std.specs.List.{flat_map}
 use Rattle.std.proofs.lemmas.List.{length-append, take_more, append-nil}
 use Rattle.std.proofs.lemmas.List.Concat.{flat_map-append}
-use Rattle.std.proofs.lemmas.List.Folds.{length-flat_map-take}
+use Rattle.std.proofs.lemmas.List.Folds.{length-flat_map-take, flat_map-map}
 use Rattle.byteorder.specs.Numbers.{big_number-reads_back}
 use Rattle.dia_avp.specs.declared.avp.Avp.{Avp}
 use Rattle.dia_avp.specs.Encoding.{length_of, encoded, encoding}
 use Rattle.dia_avp.proofs.Encoded.{length_encoded}
 use Rattle.dia_frame.proofs.LawLemmas.{first_frame}
 use Rattle.dia_command.specs.declared.command.Command.{Command}
-use Rattle.dia_write.specs.declared.values.Item.{Item}
 use Rattle.dia_write.specs.Framing.{IsWholeMessage, IsFirstFrame}
 use Rattle.dia_command.specs.declared.format.AvpFormat.{AvpFormat}
 use Rattle.dia_write.specs.declared.values.Values.{Values}
 use Rattle.dia_command.specs.Format.{format_of}
-use Rattle.dia_command.specs.Field.{Field, avps_by}
+use Rattle.dia_command.specs.declared.typed.TypedAvp.{TypedAvp}
+use Rattle.dia_command.specs.Field.{Field, avp_of, avps_by}
 use Rattle.dia_command.specs.Header.{header_octets}
 use Rattle.dia_command.specs.Command.{kind_of, header_of, rest_of, fields, avps_of}
-use Rattle.dia_write.specs.Values.{content_octets, field_of, item_avp, values_avps}
+use Rattle.dia_write.specs.Values.{avp_with, field_of, values_avps}
 use Rattle.dia_write.specs.Encoding.{message_len, encode}
 
 -- an encoding is no shorter than the AVP Length
 pub length_of-encoded : (a : Avp) → length_of a ≤ length (encoded a)
 length_of-encoded a = omega (arith, length_encoded a)
 
--- an AVP has 8 octets, its data, and padding to a multiple of 4
-pub length_item : (item : Item) → length (encoded (item_avp item)) ≡ (8 + length (content_octets item.content) + 3) / 4 * 4
+-- an AVP without vendor has 8 octets, its data, and padding to a multiple of 4
+pub length_with : (code : ℕ) (mandatory protected : Bool) (octets : List ℕ) → length (encoded (avp_with code mandatory protected octets)) ≡ (8 + length octets + 3) / 4 * 4
 unfolding length_of
-length_item item = length_encoded (item_avp item)
+length_with code mandatory protected octets = length_encoded (avp_with code mandatory protected octets)
+
+-- the encoding of a value's AVP under a code
+abbrev pub coded : {T : Type 0} → (T → List ℕ) → ℕ → TypedAvp T → List ℕ
+coded data_of code value = encoded (avp_of data_of code value)
+
+-- the AVPs of values are encoded value by value
+pub encoding-values : {T : Type 0} (data_of : T → List ℕ) (code : ℕ) (list : List (TypedAvp T)) → encoding (map (avp_of data_of code) list) ≡ flat_map (coded data_of code) list
+encoding-values data_of code list = flat_map-map encoded (avp_of data_of code) list
 
 -- one piece more
 pub pieces-more : {X : Type 0} (f : X → List ℕ) (xs : List X) (i : ℕ) (x : X) → i < length xs → x ≡ get_or xs i x → flat_map f (take (i + 1) xs) ≡ flat_map f (take i xs) ++ f x
@@ -77,6 +85,12 @@ unfolding encode
 encode-parts command out list e =
     let front = header_octets (header_of command) (message_len command) in
     append_assoc out front (encoding list) ∙ ap (λ (l : List Avp). out ++ (front ++ encoding l)) e
+
+-- a command's octets behind those before
+pub encode-behind : (command : Command) (out room : List ℕ) (list : List Avp) (len : ℕ) → list ≡ avps_of command → len ≡ message_len command → room ≡ header_octets (header_of command) len ++ encoding list → out ++ room ≡ out ++ encode command
+encode-behind command out room list len e l is =
+    ap (λ (x : List ℕ). out ++ x) (is ∙ ap (λ (n : ℕ). header_octets (header_of command) n ++ encoding list) l)
+    ∙ sym (append_assoc out (header_octets (header_of command) (message_len command)) (encoding list)) ∙ encode-parts command out list e
 
 -- an encoding is one message by its own header
 pub encode-whole : (command : Command) → message_len command < 2 ^ 24 → IsWholeMessage (encode command)

@@ -1,3 +1,4 @@
+pub mod Filling
 pub mod Values
 pub mod Framing
 pub mod Encoding

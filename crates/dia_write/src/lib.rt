@@ -2,12 +2,14 @@
 //!
 //! | File | What it does |
 //! |---|---|
-//! | `values` | what stands at one place of a command, and the AVPs that they are |
+//! | `fill` | AVPs put into room of zeros, one behind the other |
+//! | `values` | what stands at one place of a command, how long it is as AVPs, and how it is put |
 //! | `write` | from a command to octets: its fields in the order of its format |
 //! | `answer` | the answer that tells the fault of a request |
 #![tactic(auto)]
 
 mod answer;
+mod fill;
 mod values;
 mod write;
 

@@ -1,9 +1,18 @@
-//! What stands at one place of a command, as values that lie in it, and the AVPs that they are.
+//! What stands at one place of a command, as values that lie in it, and how the AVPs that they are are measured and written.
 
-ghost use Rattle.std.specs.Prelude.{◌≡◌, ◌<◌, ℕ, Some, length, slice_get};
-ghost use Rattle.dia_write.specs.Values.{value_avps, item_avp};
+ghost use Rattle.std.specs.Prelude.{◌≡◌, ◌+◌, ◌<◌, ◌≤◌, ◌^◌, ◌++◌, ℕ, List, length};
+ghost use Rattle.std.specs.Option.{SomeIff};
+ghost use Rattle.byteorder.specs.Endian.{big_bytes};
+ghost use Rattle.dia_avp.specs.View.{seen};
+ghost use Rattle.dia_avp.specs.Encoding.{length_of, encoded, encoding};
+ghost use Rattle.dia_command.specs.Value.{type_number, action_number};
+ghost use Rattle.dia_write.specs.Values.{avp_with};
+ghost use Rattle.dia_write.specs.Filling.{IsFilled};
 
-use dia_avp::{AvpList, Octets};
+use crate::fill::{put_avp, put_group};
+use base_codes::MAX_LENGTH;
+use byteorder::{BigEndian, ByteOrder};
+use dia_avp::{AvpList, AvpView, Octets};
 use dia_command::{RequestType, RequestedAction, Text, TypedAvp};
 
 /// What stands at one place of a command's format: values of one type, none or more, in order. They lie in the command.
@@ -17,72 +26,187 @@ pub(crate) enum Values<'a> {
     Groups(&'a [TypedAvp<AvpList>]),
 }
 
-/// The data of an AVP, before it is encoded.
-#[derive(Clone, Copy)]
-pub(crate) enum Content<'a> {
-    Octets(&'a [u8]),
-    Number(u32),
-    Group(&'a AvpList),
-}
-
-/// An AVP without vendor that is to be written.
-#[derive(Clone, Copy)]
-pub(crate) struct Item<'a> {
-    pub code: u32,
-    pub mandatory: bool,
-    pub protected: bool,
-    pub content: Content<'a>,
-}
-
-// The value at a place.
-fn value_at<T>(list: &[TypedAvp<T>], place: usize) -> &TypedAvp<T>
-    requires { place < length list.now }
-    ensures { slice_get list.now place ≡ Some result.now }
+/// The sum of two lengths, where 24 bits hold it.
+pub(crate) fn total(len: usize, more: usize) -> Option<usize>
+    requires { len < 2 ^ 24 }
+    ensures { SomeIff result (len + more < 2 ^ 24) (len + more) }
 {
-    &list[place]
+    if more > MAX_LENGTH - len {
+        None
+    } else {
+        Some(len + more)
+    }
 }
 
-// The AVP of a value under a code, whose data is made of the value.
-macro_rules! item {
-    ($code:ident, $list:ident[$place:ident], $value:ident => $content:expr) => {{
-        let avp = value_at($list, $place);
-        let $value = &avp.value;
-        Item {
-            code: $code,
-            mandatory: avp.mandatory,
-            protected: avp.protected,
-            content: $content,
-        }
-    }};
+fn view_of(code: u32, mandatory: bool, protected: bool, octets: &[u8]) -> AvpView<'_>
+    ensures { seen result ≡ avp_with code mandatory protected octets.now }
+{
+    AvpView {
+        code,
+        vendor: None,
+        mandatory,
+        protected,
+        octets,
+    }
 }
 
-impl<'a> Values<'a> {
-    /// How many values there are.
-    pub fn len(&self) -> usize
-        ensures { (code : ℕ) → result ≡ length (value_avps code self.now) }
-    {
-        match self {
-            Values::Octets(values) => values.len(),
-            Values::Texts(values) => values.len(),
-            Values::Numbers(values) => values.len(),
-            Values::Types(values) => values.len(),
-            Values::Actions(values) => values.len(),
-            Values::Groups(values) => values.len(),
-        }
+// Puts the AVP of a code and flags that has a number as its data at a place, and says where it ends.
+#[inline(always)]
+fn put_number(
+    code: u32,
+    mandatory: bool,
+    protected: bool,
+    number: u32,
+    room: &mut [u8],
+    at: usize,
+) -> usize
+    requires short { length_of (avp_with code mandatory protected (big_bytes 4 number)) < 2 ^ 24 }
+    requires fits { at + length (encoded (avp_with code mandatory protected (big_bytes 4 number))) ≤ length room.old }
+    ensures filled { (front : List ℕ) → IsFilled room.old front at → IsFilled room.new (front ++ encoded (avp_with code mandatory protected (big_bytes 4 number))) result }
+    ensures end { result ≡ at + length (encoded (avp_with code mandatory protected (big_bytes 4 number))) }
+    ensures len { length room.new ≡ length room.old }
+{
+    let mut octets = [0; 4];
+    BigEndian::write_u32(&mut octets, number);
+    put_avp(&view_of(code, mandatory, protected, &octets), room, at)
+}
+
+/// A value that the data of an AVP is.
+pub(crate) trait Content {
+    // The octets of the data.
+    ghost data_of: { Self → List ℕ };
+
+    /// How many octets the data has, where 24 bits hold the number.
+    fn data_len(&self) -> Option<usize>
+        ensures { let len = length (data_of self.now) in SomeIff result (len < 2 ^ 24) len };
+
+    /// Puts the AVP without vendor of a code and flags that has this data at a place, and says where it ends.
+    fn put(&self, code: u32, mandatory: bool, protected: bool, room: &mut [u8], at: usize) -> usize
+        requires short { length_of (avp_with code mandatory protected (data_of self.now)) < 2 ^ 24 }
+        requires fits { at + length (encoded (avp_with code mandatory protected (data_of self.now))) ≤ length room.old }
+        ensures filled { (front : List ℕ) → IsFilled room.old front at → IsFilled room.new (front ++ encoded (avp_with code mandatory protected (data_of self.now))) result }
+        ensures end { result ≡ at + length (encoded (avp_with code mandatory protected (data_of self.now))) }
+        ensures len { length room.new ≡ length room.old };
+}
+
+impl Content for Octets {
+    ghost data_of = { λ octets. octets };
+
+    fn data_len(&self) -> Option<usize> {
+        total(0, self.len())
     }
 
-    /// The AVP at a place, under a code.
-    pub fn at(&self, code: u32, place: usize) -> Item<'a>
-        requires { place < length (value_avps code self.now) }
-        ensures { slice_get (value_avps code self.now) place ≡ Some (item_avp result) }
-    {
-        match *self {
-            Values::Octets(list) => item!(code, list[place], v => Content::Octets(v.as_slice())),
-            Values::Texts(list) => item!(code, list[place], v => Content::Octets(v.as_bytes())),
-            Values::Numbers(list) => item!(code, list[place], v => Content::Number(*v)),
-            Values::Types(list) => item!(code, list[place], v => Content::Number(v.number())),
-            Values::Actions(list) => item!(code, list[place], v => Content::Number(v.number())),
-            Values::Groups(list) => item!(code, list[place], v => Content::Group(v)),
-        }
+    fn put(
+        &self,
+        code: u32,
+        mandatory: bool,
+        protected: bool,
+        room: &mut [u8],
+        at: usize,
+    ) -> usize {
+        put_avp(
+            &view_of(code, mandatory, protected, self.as_slice()),
+            room,
+            at,
+        )
+    }
+}
+
+impl Content for Text {
+    ghost data_of = { λ octets. octets };
+
+    fn data_len(&self) -> Option<usize> {
+        total(0, self.as_bytes().len())
+    }
+
+    fn put(
+        &self,
+        code: u32,
+        mandatory: bool,
+        protected: bool,
+        room: &mut [u8],
+        at: usize,
+    ) -> usize {
+        put_avp(
+            &view_of(code, mandatory, protected, self.as_bytes()),
+            room,
+            at,
+        )
+    }
+}
+
+impl Content for u32 {
+    ghost data_of = { big_bytes 4 };
+
+    fn data_len(&self) -> Option<usize> {
+        Some(4)
+    }
+
+    fn put(
+        &self,
+        code: u32,
+        mandatory: bool,
+        protected: bool,
+        room: &mut [u8],
+        at: usize,
+    ) -> usize {
+        put_number(code, mandatory, protected, *self, room, at)
+    }
+}
+
+impl Content for RequestType {
+    ghost data_of = { λ t. big_bytes 4 (type_number t) };
+
+    fn data_len(&self) -> Option<usize> {
+        Some(4)
+    }
+
+    fn put(
+        &self,
+        code: u32,
+        mandatory: bool,
+        protected: bool,
+        room: &mut [u8],
+        at: usize,
+    ) -> usize {
+        put_number(code, mandatory, protected, self.number(), room, at)
+    }
+}
+
+impl Content for RequestedAction {
+    ghost data_of = { λ a. big_bytes 4 (action_number a) };
+
+    fn data_len(&self) -> Option<usize> {
+        Some(4)
+    }
+
+    fn put(
+        &self,
+        code: u32,
+        mandatory: bool,
+        protected: bool,
+        room: &mut [u8],
+        at: usize,
+    ) -> usize {
+        put_number(code, mandatory, protected, self.number(), room, at)
+    }
+}
+
+impl Content for AvpList {
+    ghost data_of = { encoding };
+
+    fn data_len(&self) -> Option<usize> {
+        total(0, self.encoded_len()?)
+    }
+
+    fn put(
+        &self,
+        code: u32,
+        mandatory: bool,
+        protected: bool,
+        room: &mut [u8],
+        at: usize,
+    ) -> usize {
+        put_group(code, mandatory, protected, self, room, at)
     }
 }

@@ -1,57 +1,48 @@
 //! The encoding of a command: how long it is, and its octets.
 
-ghost use Rattle.std.specs.Prelude.{◌≡◌, ◌+◌, ◌<◌, ◌≤◌, ◌^◌, ◌↔◌, ◌++◌, length, map, vec_len, vec_capacity, OnOk, OnErr, IsErrOf};
+ghost use Rattle.std.specs.Prelude.{◌≡◌, ◌+◌, ◌<◌, ◌≤◌, ◌^◌, ◌↔◌, ◌++◌, List, ℕ, length, map, replicate, vec_len, vec_capacity, OnOk, OnErr, IsErrOf};
 ghost use Rattle.std.specs.Option.{SomeIff};
-ghost use Rattle.dia_avp.specs.View.{seen};
-ghost use Rattle.dia_avp.specs.Encoding.{length_of, encoded, encoding};
+ghost use Rattle.dia_avp.specs.Encoding.{encoded, encoding};
 ghost use Rattle.dia_command.specs.Header.{header_octets};
 ghost use Rattle.dia_command.specs.Command.{fields};
+ghost use Rattle.dia_command.specs.Field.{avp_of};
 ghost use Rattle.dia_write.specs.Framing.{IsWholeMessage, IsFirstFrame};
-ghost use Rattle.dia_write.specs.Values.{content_octets, field_of, item_avp, value_avps, values_avps};
+ghost use Rattle.dia_write.specs.Values.{field_of, value_avps, values_avps};
+ghost use Rattle.dia_write.specs.Filling.{IsFilled};
 ghost use Rattle.dia_write.specs.Encoding.{message_len, encode, IsTooLong, Writes};
 
-use crate::values::{Content, Item, Values};
-use base_codes::{AVP_HEADER_LEN, HEADER_LEN, MAX_LENGTH};
-use dia_avp::{AvpList, AvpView, WriteError, put_avp, put_avps, put_group, put_number};
+use crate::fill::{put, put_avps};
+use crate::values::{Content, Values, total};
+use base_codes::{AVP_HEADER_LEN, HEADER_LEN};
+use dia_avp::{AvpList, WriteError};
 use dia_command::{
     AvpFormat, CapabilitiesExchangeAnswer, CapabilitiesExchangeRequest, Command,
     CreditControlAnswer, CreditControlRequest, DeviceWatchdogAnswer, DeviceWatchdogRequest,
     DisconnectPeerAnswer, DisconnectPeerRequest, ErrorAnswer, Header, ReAuthAnswer, ReAuthRequest,
-    format_of,
+    TypedAvp, format_of,
 };
 use std::slice::from_ref;
 
-// The sum of two lengths, where 24 bits hold it.
-fn total(len: usize, more: usize) -> Option<usize>
-    requires { len < 2 ^ 24 }
-    ensures { SomeIff result (len + more < 2 ^ 24) (len + more) }
-{
-    if more > MAX_LENGTH - len {
-        None
-    } else {
-        Some(len + more)
-    }
-}
-
-// How many octets the data has, where 24 bits hold the number.
-fn content_len(content: &Content<'_>) -> Option<usize>
-    ensures { let len = length (content_octets content.now) in SomeIff result (len < 2 ^ 24) len }
-{
-    match content {
-        Content::Octets(octets) => total(0, octets.len()),
-        Content::Number(_) => Some(4),
-        Content::Group(list) => total(0, list.encoded_len()?),
-    }
-}
-
-// A length and the octets of an AVP, where 24 bits hold their sum.
-#[tactic(auto, using(crate::proofs::WriteLemmas::length_item))]
-fn with_item(start: usize, item: &Item<'_>) -> Option<usize>
+// A length and the octets of a value's AVP, where 24 bits hold their sum.
+#[tactic(auto, using(crate::proofs::WriteLemmas::length_with))]
+fn with_value<T: Content>(start: usize, code: u32, avp: &TypedAvp<T>) -> Option<usize>
     requires { start < 2 ^ 24 }
-    ensures { let len = start + length (encoded (item_avp item.now)) in SomeIff result (len < 2 ^ 24) len }
+    ensures { let len = start + length (encoded (avp_of T.data_of code avp.now)) in SomeIff result (len < 2 ^ 24) len }
 {
-    let data = content_len(&item.content)?;
+    let data = avp.value.data_len()?;
     total(start, (AVP_HEADER_LEN + data).div_ceil(4) * 4)
+}
+
+// A length and the octets of the AVPs of values of one type, where 24 bits hold their sum.
+fn with_each<T: Content>(start: usize, code: u32, list: &[TypedAvp<T>]) -> Option<usize>
+    requires { start < 2 ^ 24 }
+    ensures { let len = start + length (encoding (map (avp_of T.data_of code) list.now)) in SomeIff result (len < 2 ^ 24) len }
+{
+    let mut len = start;
+    for avp in list {
+        len = with_value(len, code, avp)?;
+    }
+    Some(len)
 }
 
 // A length and the octets of the values of a code, where 24 bits hold their sum.
@@ -59,11 +50,14 @@ fn with_values(start: usize, code: u32, values: &Values<'_>) -> Option<usize>
     requires { start < 2 ^ 24 }
     ensures { let len = start + length (encoding (value_avps code values.now)) in SomeIff result (len < 2 ^ 24) len }
 {
-    let mut len = start;
-    for place in 0..values.len() {
-        len = with_item(len, &values.at(code, place))?;
+    match *values {
+        Values::Octets(list) => with_each(start, code, list),
+        Values::Texts(list) => with_each(start, code, list),
+        Values::Numbers(list) => with_each(start, code, list),
+        Values::Types(list) => with_each(start, code, list),
+        Values::Actions(list) => with_each(start, code, list),
+        Values::Groups(list) => with_each(start, code, list),
     }
-    Some(len)
 }
 
 // A length and the octets of fields, where 24 bits hold their sum.
@@ -90,86 +84,73 @@ fn length_of(format: &[AvpFormat], fields: &[Values<'_>], rest: &AvpList) -> Opt
     total(len, rest.encoded_len()?)
 }
 
-fn view_of<'a>(item: &Item<'_>, octets: &'a [u8]) -> AvpView<'a>
-    requires { octets.now ≡ content_octets item.now.content }
-    ensures { seen result ≡ item_avp item.now }
+// Puts the AVPs of values of one type under a code at a place, and says where they end.
+fn put_each<T: Content>(code: u32, list: &[TypedAvp<T>], room: &mut [u8], at: usize) -> usize
+    requires short { length (encoding (map (avp_of T.data_of code) list.now)) < 2 ^ 24 }
+    requires fits { at + length (encoding (map (avp_of T.data_of code) list.now)) ≤ length room.old }
+    ensures filled { (front : List ℕ) → IsFilled room.old front at → IsFilled room.new (front ++ encoding (map (avp_of T.data_of code) list.now)) result }
+    ensures end { result ≡ at + length (encoding (map (avp_of T.data_of code) list.now)) }
+    ensures len { length room.new ≡ length room.old }
 {
-    AvpView {
-        code: item.code,
-        vendor: None,
-        mandatory: item.mandatory,
-        protected: item.protected,
-        octets,
+    let mut to = at;
+    for avp in list {
+        to = avp.value.put(code, avp.mandatory, avp.protected, room, to);
     }
+    to
 }
 
-// Appends an AVP for which there is room.
-fn put_item(item: &Item<'_>, out: &mut Vec<u8>)
-    requires short { length_of (item_avp item.now) < 2 ^ 24 }
-    requires room { vec_len out.old + length (encoded (item_avp item.now)) ≤ vec_capacity out.old }
-    ensures items { out.new.items ≡ out.old.items ++ encoded (item_avp item.now) }
-    ensures room { vec_capacity out.old ≤ vec_capacity out.new }
-{
-    match item.content {
-        Content::Octets(octets) => put_avp(&view_of(item, octets), out),
-        Content::Number(number) => put_number(
-            item.code,
-            item.mandatory,
-            item.protected,
-            number,
-            out,
-        ),
-        Content::Group(list) => put_group(item.code, item.mandatory, item.protected, list, out),
-    }
-}
-
-// Appends the AVPs of the values of a code, for which there is room.
-fn put_values(code: u32, values: &Values<'_>, out: &mut Vec<u8>)
+// Puts the AVPs of the values of a code at a place, and says where they end.
+fn put_values(code: u32, values: &Values<'_>, room: &mut [u8], at: usize) -> usize
     requires short { length (encoding (value_avps code values.now)) < 2 ^ 24 }
-    requires room { vec_len out.old + length (encoding (value_avps code values.now)) ≤ vec_capacity out.old }
-    ensures items { out.new.items ≡ out.old.items ++ encoding (value_avps code values.now) }
-    ensures room { vec_capacity out.old ≤ vec_capacity out.new }
+    requires fits { at + length (encoding (value_avps code values.now)) ≤ length room.old }
+    ensures filled { (front : List ℕ) → IsFilled room.old front at → IsFilled room.new (front ++ encoding (value_avps code values.now)) result }
+    ensures end { result ≡ at + length (encoding (value_avps code values.now)) }
+    ensures len { length room.new ≡ length room.old }
 {
-    for place in 0..values.len() {
-        put_item(&values.at(code, place), out);
+    match *values {
+        Values::Octets(list) => put_each(code, list, room, at),
+        Values::Texts(list) => put_each(code, list, room, at),
+        Values::Numbers(list) => put_each(code, list, room, at),
+        Values::Types(list) => put_each(code, list, room, at),
+        Values::Actions(list) => put_each(code, list, room, at),
+        Values::Groups(list) => put_each(code, list, room, at),
     }
 }
 
-// Appends the AVPs of fields, for which there is room.
-fn put_fields(format: &[AvpFormat], fields: &[Values<'_>], out: &mut Vec<u8>)
+// Puts the AVPs of fields at a place, and says where they end.
+fn put_fields(format: &[AvpFormat], fields: &[Values<'_>], room: &mut [u8], at: usize) -> usize
     requires short { length (encoding (values_avps format.now fields.now)) < 2 ^ 24 }
-    requires room { vec_len out.old + length (encoding (values_avps format.now fields.now)) ≤ vec_capacity out.old }
-    ensures items { out.new.items ≡ out.old.items ++ encoding (values_avps format.now fields.now) }
-    ensures room { vec_capacity out.old ≤ vec_capacity out.new }
+    requires fits { at + length (encoding (values_avps format.now fields.now)) ≤ length room.old }
+    ensures filled { (front : List ℕ) → IsFilled room.old front at → IsFilled room.new (front ++ encoding (values_avps format.now fields.now)) result }
+    ensures end { result ≡ at + length (encoding (values_avps format.now fields.now)) }
+    ensures len { length room.new ≡ length room.old }
 {
-    let mut format = format;
-    let mut fields = fields;
-    'fields: while !format.is_empty() && !fields.is_empty() {
-        put_values(format[0].code, &fields[0], out);
-        format = &format[1..];
-        fields = &fields[1..];
+    match (format.split_first(), fields.split_first()) {
+        (Some((entry, format)), Some((values, fields))) => {
+            let to = put_values(entry.code, values, room, at);
+            put_fields(format, fields, room, to)
+        }
+        _ => at,
     }
 }
 
-// Appends the AVPs of fields and of a rest, for which there is room.
-fn put_all(format: &[AvpFormat], fields: &[Values<'_>], rest: &AvpList, out: &mut Vec<u8>)
-    requires short { length (encoding (values_avps format.now fields.now ++ rest.now)) < 2 ^ 24 }
-    requires room { vec_len out.old + length (encoding (values_avps format.now fields.now ++ rest.now)) ≤ vec_capacity out.old }
-    ensures items { out.new.items ≡ out.old.items ++ encoding (values_avps format.now fields.now ++ rest.now) }
-    ensures room { vec_capacity out.old ≤ vec_capacity out.new }
+// Puts a message of these fields and this rest into room of its length.
+fn put_all(
+    header: &Header,
+    format: &[AvpFormat],
+    fields: &[Values<'_>],
+    rest: &AvpList,
+    room: &mut [u8],
+)
+    requires short { length room.old < 2 ^ 24 }
+    requires len { length room.old ≡ 20 + length (encoding (values_avps format.now fields.now ++ rest.now)) }
+    requires zeros { room.old ≡ replicate (length room.old) 0 }
+    ensures { room.new ≡ header_octets header.now (length room.old) ++ encoding (values_avps format.now fields.now ++ rest.now) }
 {
-    put_fields(format, fields, out);
-    put_avps(rest.as_slice(), out);
-}
-
-// Appends the header of a message of so many octets, for which there is room.
-fn put_header(header: &Header, len: usize, out: &mut Vec<u8>)
-    requires short { len < 2 ^ 24 }
-    requires room { vec_len out.old + 20 ≤ vec_capacity out.old }
-    ensures items { out.new.items ≡ out.old.items ++ header_octets header.now len }
-    ensures room { vec_capacity out.old ≤ vec_capacity out.new }
-{
-    out.extend_from_slice(&header.octets(len as u32)).unwrap();
+    let len = room.len();
+    put(room, 0, &header.octets(len as u32));
+    let to = put_fields(format, fields, room, HEADER_LEN);
+    put_avps(rest.as_slice(), room, to);
 }
 
 // Appends a command whose fields these are.
@@ -186,8 +167,10 @@ fn write_fields(
         return Err(WriteError::LengthOver24Bits);
     };
     out.reserve(len)?;
-    put_header(command.header(), len, out);
-    put_all(format, values, command.rest(), out);
+    let start = out.len();
+    out.resize(start + len, 0).unwrap();
+    let room = &mut out.as_mut_slice()[start..];
+    put_all(command.header(), format, values, command.rest(), room);
     Ok(())
 }
 

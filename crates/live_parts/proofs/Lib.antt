@@ -1,2 +1,4 @@
 pub mod StampLemmas
 pub mod LineLemmas
+pub mod ClockLemmas
+pub mod DueLemmas

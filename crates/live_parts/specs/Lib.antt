@@ -1,3 +1,4 @@
 pub mod Entries
 pub mod LineParts
 pub mod Stamps
+pub mod Clocks

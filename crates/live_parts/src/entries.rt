@@ -1,6 +1,6 @@
 //! Entries, as logs keep them.
 ghost use Rattle.std.specs.Prelude.{◌≡◌, IfOk};
-ghost use Rattle.live_parts.specs.Entries.{bare_entry, carried_entry};
+ghost use Rattle.live_parts.specs.Entries.{bare_entry, carried_entry, fired_entry};
 
 use bench_item::{Entry, Item, Step};
 use bench_log::{KeptEntry, KeptItem};
@@ -33,6 +33,26 @@ pub(crate) fn carried_entry(alloc: Global, step: Step, item: &Item) -> Result<Ke
     let entry = Entry {
         step,
         item: Some(copy_item(alloc, item)?),
+        handled: None,
+    };
+    KeptEntry::keep(alloc, &entry)
+}
+
+/// The entry of a timer that fires, with what it puts out.
+pub(crate) fn fired_entry(
+    alloc: Global,
+    machine: u64,
+    generation: u64,
+    item: Option<Item>,
+) -> Result<KeptEntry, AllocError>
+    ensures { IfOk result (λ kept. kept ≡ fired_entry machine generation item) }
+{
+    let entry = Entry {
+        step: Step::Fired {
+            machine,
+            generation,
+        },
+        item,
         handled: None,
     };
     KeptEntry::keep(alloc, &entry)

@@ -1,18 +1,26 @@
-//! The connections of a bench that runs in threads, with the stamped entries of their part of the log; no lock is taken here.
+//! The connections and the timers of a bench that runs in threads, each with the stamped entries of their part of the log; no lock is
+//! taken here.
 //!
 //! | File | What it has |
 //! |---|---|
 //! | `stamped` | entries with the stamps that were drawn for them |
 //! | `lines` | the connections' part: what happens to them, what is lifted from them |
 //! | `deliver` | what is dropped to connections |
+//! | `clock` | the timers' part: armed, disarmed, fired, what fired lifted |
+//! | `due` | which timers are due, and time passes |
+//! | `firing` | what a timer fires |
 //! | `entries` | entries of steps that handle nothing |
 #![tactic(auto)]
 
+mod clock;
 mod deliver;
+mod due;
 mod entries;
+mod firing;
 mod lines;
 mod stamped;
 
 pub use bench_desk::CarryFault;
+pub use clock::ClockPart;
 pub use lines::LinesPart;
 pub use stamped::StampedLog;

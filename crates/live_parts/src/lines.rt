@@ -3,6 +3,8 @@ ghost use Rattle.std.specs.Prelude.{◌≡◌, ◌+◌, [], None, Some, IfOk, If
 ghost use Rattle.bench_item.specs.declared.source.Source.TheVariants as sources;
 ghost use Rattle.bench_item.specs.declared.step.Step.TheVariants as steps;
 ghost use Rattle.bench_line.specs.Lines.{came_refusal, dialled_refusal, lost_refusal, next_on};
+ghost use Rattle.bench_parts.specs.Views.{kept_in};
+ghost use Rattle.bench_spec.specs.Merged.{Did};
 ghost use Rattle.live_parts.specs.Entries.{bare_entry, carried_entry};
 ghost use Rattle.live_parts.specs.LineParts.{IsAdded, entries_of, fault_or_full, joined_refusal, lift_refusal};
 
@@ -12,6 +14,7 @@ use base_list::Octets;
 use bench_item::{Item, Source, Step};
 use bench_line::{LineFault, Lines};
 use bench_log::{KeptEntry, Log};
+use bench_parts::Lent;
 use line_message::Listener;
 use std::alloc::{AllocError, Global};
 use std::marker::Model;
@@ -20,7 +23,7 @@ use std::marker::Model;
 /// dropped at them. Each entry has the stamp that was drawn for it.
 ///
 /// In: `joined`, `dialled`, `came`, `lost`, and `deliver`, `dial`, `undial` of what is dropped here. Out: `lift`. Looks: `lines`, `len`,
-/// `stamps`, `log`.
+/// `stamps`, `log`, `lent`.
 pub struct LinesPart {
     pub(crate) alloc: Global,
     pub(crate) lines: Lines<Listener>,
@@ -82,6 +85,13 @@ impl LinesPart {
         ensures { result ≡ length (entries_of self.now) }
     {
         self.log.len()
+    }
+
+    /// Its entries with their stamps, lent to who gathers them.
+    pub fn lent(&self) -> Lent<'_>
+        ensures { kept_in result ≡ map Did self.now.entries }
+    {
+        self.log.lent()
     }
 
     /// The stamps of its entries, in order.

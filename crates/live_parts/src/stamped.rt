@@ -1,17 +1,20 @@
 //! Entries with the stamps that were drawn for them.
 ghost use Rattle.std.specs.Prelude.{◌≡◌, ◌<◌, [], OnOk, length, map};
+ghost use Rattle.bench_parts.specs.Views.{kept_in};
+ghost use Rattle.bench_spec.specs.Merged.{Did};
 ghost use Rattle.bench_spec.specs.Refusal.{is_log_full};
 ghost use Rattle.live_parts.specs.Stamps.{added, entries_in};
 
 use bench_item::MAX_ENTRIES;
 use bench_log::{KeptEntry, Log, LogError};
+use bench_parts::Lent;
 use std::alloc::{AllocError, Global};
 use std::marker::Model;
 
 /// The entries of a part of a log, in order, each with the stamp that was drawn for it. A contract sees these, and how many more it takes
 /// without memory.
 ///
-/// In: `reserve`, then `put`. Looks: `len`, `is_full`, `stamps`, `log`.
+/// In: `reserve`, then `put`. Looks: `len`, `is_full`, `stamps`, `log`, `lent`.
 pub struct StampedLog {
     log: Log,
     stamps: Vec<u64>,
@@ -26,7 +29,7 @@ impl Drop for StampedLog {
 
 impl Model for StampedLog {
     ghost use Rattle.std.specs.Prelude.{◌≡◌, ◌≤◌, ◌+◌, length, vec_len, vec_capacity};
-    ghost use Rattle.bench_desk.specs.Parts.{stamped_of};
+    ghost use Rattle.bench_parts.specs.Views.{stamped_of};
     ghost use Rattle.live_parts.specs.Stamps.{StampedView};
 
     ghost Value = { StampedView };
@@ -80,6 +83,16 @@ impl StampedLog {
     {
         self.log.put(entry);
         self.stamps.push(stamp).unwrap();
+    }
+
+    /// The entries with their stamps, lent to who gathers them.
+    pub fn lent(&self) -> Lent<'_>
+        ensures { kept_in result ≡ map Did self.now.entries }
+    {
+        Lent::Entries {
+            stamps: &self.stamps,
+            log: &self.log,
+        }
     }
 
     /// The stamps, in order.

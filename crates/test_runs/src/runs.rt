@@ -143,6 +143,36 @@ fn refuses(alloc: Global, shards: u64, script: &str, text: &str) -> Result<bool,
     Ok(status == Status::Refused && sink.device.as_slice() == text.as_bytes())
 }
 
+/// A table whose second row names an action that isn't registered.
+const SECOND_ROW: &str = "  State  Event  Action         Next
+  Idle   Begin  -              Idle
+  Idle   More   Ring-The-Bell  Idle
+";
+
+/// One whose first row does.
+const FIRST_ROW: &str = "  State  Event  Action         Next
+  Idle   Begin  Blow-The-Horn  Idle
+";
+
+/// What is told where the first of these is a client's table and the other a server's.
+const UNBOUND_TEXT: &str = "\
+unbound Ring-The-Bell
+  in: row 1, line 3
+  wanted: a kind, a guard or an action that is registered
+";
+
+#[test]
+fn unbound_name_is_told_with_its_row(rt: HostRuntime) -> Result<(), Fail> {
+    let alloc = rt.alloc();
+    let mut config = server(alloc)?;
+    config.client = table(alloc, SECOND_ROW)?;
+    config.server = table(alloc, FIRST_ROW)?;
+    let mut sink = Counting::new(Vec::new(alloc));
+    let status = run_on(alloc, config, b"join\n", ALL, &mut sink);
+    assert!(rt; status == Status::Refused && sink.device.as_slice() == UNBOUND_TEXT.as_bytes());
+    Ok(())
+}
+
 #[test]
 fn first_refusal_is_told(rt: HostRuntime) -> Result<(), Fail> {
     let limits =

@@ -7,8 +7,13 @@
 //! | `transcript` | transcripts, and what they print that they should not |
 //! | `flood`, `replay` | more sessions than there is room for; a log that is run again |
 //! | `memory` | steps that are refused for memory |
+//! | `alike` | the logs of whole transcripts, run again |
+//!
+//! A word is the path of a transcript. Before it may stand `refusing:`, then steps that are refused are tried before each step; or `again:`,
+//! then each node is opened twice, and in the end the log of each bench is run again on its twin, and on itself from its start.
 #![tactic(auto)]
 
+mod alike;
 mod flood;
 mod grants;
 mod memory;
@@ -16,6 +21,7 @@ mod node;
 mod replay;
 mod transcript;
 
+use crate::alike::run_alike;
 use crate::grants::answer;
 use crate::memory::take_in_lockstep;
 use crate::node::{NodeError, config_of, long_table, number_said, said};
@@ -77,9 +83,13 @@ fn server_of(rt: &HostRuntime, line: &str) -> io::Result<String> {
     }
 }
 
-/// What the nodes of a transcript are opened with. Why one is not made is put.
-fn configs_of(rt: &HostRuntime, text: &str, out: &mut Vec<u8>) -> io::Result<Vec<Config>> {
-    let mut configs = Vec::new(rt.alloc());
+/// Adds what the nodes of a transcript are opened with. Why one is not made is put.
+fn add_configs(
+    rt: &HostRuntime,
+    text: &str,
+    configs: &mut Vec<Config>,
+    out: &mut Vec<u8>,
+) -> io::Result<()> {
     for line in text.split('\n') {
         if line.starts_with("node ") {
             let server = server_of(rt, line)?;
@@ -88,6 +98,21 @@ fn configs_of(rt: &HostRuntime, text: &str, out: &mut Vec<u8>) -> io::Result<Vec
                 Err(error) => put_node_error(&error, out)?,
             }
         }
+    }
+    Ok(())
+}
+
+/// What the nodes of a transcript are opened with; of one whose log is run again, each twice.
+fn configs_of(
+    rt: &HostRuntime,
+    manner: &str,
+    text: &str,
+    out: &mut Vec<u8>,
+) -> io::Result<Vec<Config>> {
+    let mut configs = Vec::new(rt.alloc());
+    add_configs(rt, text, &mut configs, out)?;
+    if manner == "again" {
+        add_configs(rt, text, &mut configs, out)?;
     }
     Ok(configs)
 }
@@ -101,18 +126,25 @@ fn shards_of(configs: &[Config]) -> u64 {
     count
 }
 
-/// Plays a transcript, or its steps on two benches alike.
+/// Plays a transcript in a manner, or its steps on two benches alike.
 fn tries<B: TakesSteps + Drop>(
     play: &mut Play<'_, B>,
+    manner: &str,
     word: &str,
     text: &str,
     report: &mut Vec<u8>,
 ) -> Result<(), AllocError> {
     if word.starts_with("memory/") {
-        take_in_lockstep(play, text, report)
-    } else {
-        plays(play, text, report)
+        return take_in_lockstep(play, text, report);
     }
+    if manner == "refusing" {
+        play.refuse();
+    }
+    plays(play, text, report)?;
+    if manner == "again" {
+        run_alike(play, report)?;
+    }
+    Ok(())
 }
 
 /// Opens the benches of a transcript, each with the next of as many registries as there are shards, and plays it. Answers what goes wrong.
@@ -120,6 +152,7 @@ fn tried(
     alloc: Global,
     laws: &LawBook,
     list: &str,
+    manner: &str,
     word: &str,
     text: &str,
     configs: Vec<Config>,
@@ -181,21 +214,23 @@ fn tried(
     }
     let mut report = Vec::new(alloc);
     let mut play = Play::new(alloc, list, worlds, asks, out);
-    tries(&mut play, word, text, &mut report)?;
+    tries(&mut play, manner, word, text, &mut report)?;
     Ok(report)
 }
 
 /// What goes wrong with the transcript that a word names.
 fn wrong(rt: &HostRuntime, laws: &LawBook, list: &str, word: &str) -> io::Result<Vec<u8>> {
-    let file = format!(in rt.alloc(); "{word}.txt")?;
+    let (manner, name) = word.split_once(':').unwrap_or(("", word));
+    let file = format!(in rt.alloc(); "{name}.txt")?;
     let text = fs::read_to_string(rt, file.as_str())?;
     let mut refused = Vec::new(rt.alloc());
-    let configs = configs_of(rt, text.as_str(), &mut refused)?;
+    let configs = configs_of(rt, manner, text.as_str(), &mut refused)?;
     let report = tried(
         rt.alloc(),
         laws,
         list,
-        word,
+        manner,
+        name,
         text.as_str(),
         configs,
         refused,

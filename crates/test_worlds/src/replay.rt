@@ -108,7 +108,7 @@ fn wrong_way<B: TakesSteps>(
 }
 
 /// Adds an entry of a world to another; whether it may follow there.
-fn is_added<B: TakesSteps>(
+pub fn is_added<B: TakesSteps>(
     alloc: Global,
     from: &Core,
     place: usize,

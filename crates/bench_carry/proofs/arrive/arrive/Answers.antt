@@ -1,39 +1,29 @@
-use Rattle.bench_carry.proofs.DropLemmas.{undone-within}
+use Rattle.std.proofs.Common.{◌≡◌, ◌∙◌, ap, false, subst, sym}
+use Rattle.bench_item.specs.declared.item.Item.TheVariants.{ToMachine}
+use Rattle.bench_carry.specs.Dropped.{Arrives, meaning_to, with_arrived}
+use Rattle.bench_carry.specs.Hands.{is_home_crowded, lacks_room}
+use Rattle.bench_carry.proofs.HandLemmas.{event-is}
 use Rattle.bench_carry.proofs.arrive.arrive.Goals as goal
 
-pub returns-in-ToMachine-clause-undone : goal.returns-in-ToMachine-clause-undone
-returns-in-ToMachine-clause-undone c =
-    undone-within c.put_event.result (λ s. record s { shards = c.put_event.new.shards }) (λ s. record s { shards = c.args.shards.now })
-    (λ s. record s { lines = c.args.lines.now.lines; carried = c.args.carried.now.items; timers = c.args.wheel.now.armed })
-    c.put_event.ensures.undone
+pub put_event-requires-clause-room : goal.put_event-requires-clause-room
+put_event-requires-clause-room c =
+    let is : c.args.item.now ≡ ToMachine c.in-Some.event.now = event-is c.args.item.now c.in-Some.event.now (sym c.in-Some.ensures) in
+    subst (λ i. is_home_crowded c.args.shards.now i.key ≡ false) (sym c.in_ok-copy-in-Some.ensures)
+    (subst (λ i. lacks_room c.args.shards.now c.args.lines.now.lines i ≡ false) is c.requires.room)
 
-pub returns-in-ToLine-clause-undone : goal.returns-in-ToLine-clause-undone
-returns-in-ToLine-clause-undone c =
-    undone-within c.deliver.result (λ s. record s { lines = c.deliver.new.lines.lines }) (λ s. record s { lines = c.args.lines.now.lines })
-    (λ s. record s { shards = c.args.shards.now; carried = c.args.carried.now.items; timers = c.args.wheel.now.armed })
-    c.deliver.ensures.undone
+pub returns-in_ok-arrival-in-Some-clause-came : goal.returns-in_ok-arrival-in-Some-clause-came
+returns-in_ok-arrival-in-Some-clause-came c =
+    let is : c.args.item.now ≡ ToMachine c.in_ok-copy-in-Some.copy = event-is c.args.item.now c.in-Some.event.now (sym c.in-Some.ensures) ∙ ap ToMachine (sym c.in_ok-copy-in-Some.ensures) in
+    λ s. subst
+    (λ i. Arrives (meaning_to c.args.lines.now.rules) i
+    (with_arrived s c.args.shards.now c.args.lines.now.lines c.args.carried.now.items c.args.wheel.now.armed)
+    (with_arrived s c.put_event.new.shards c.args.lines.now.lines c.args.carried.now.items c.args.wheel.now.armed)) (sym is)
+    (ap (λ xs. with_arrived s xs c.args.lines.now.lines c.args.carried.now.items c.args.wheel.now.armed) c.in_ok-arrival-in-Some.ensures.came)
 
-pub returns-in-Dial-clause-undone : goal.returns-in-Dial-clause-undone
-returns-in-Dial-clause-undone c =
-    undone-within c.open_line.result (λ s. record s { lines = c.open_line.new.lines.lines; carried = c.open_line.new.carried.items })
-    (λ s. record s { lines = c.args.lines.now.lines; carried = c.args.carried.now.items })
-    (λ s. record s { shards = c.args.shards.now; timers = c.args.wheel.now.armed })
-    c.open_line.ensures.undone
+pub returns-in_ok-arrival-in-Some-clause-undone : goal.returns-in_ok-arrival-in-Some-clause-undone
+returns-in_ok-arrival-in-Some-clause-undone c =
+    λ s. c.in_ok-arrival-in-Some.ensures.undone
+    (record s { lines = c.args.lines.now.lines; carried = c.args.carried.now.items; timers = c.args.wheel.now.armed })
 
-pub returns-in-Undial-clause-undone : goal.returns-in-Undial-clause-undone
-returns-in-Undial-clause-undone c =
-    undone-within c.close_line.result (λ s. record s { lines = c.close_line.new.lines.lines })
-    (λ s. record s { lines = c.args.lines.now.lines })
-    (λ s. record s { shards = c.args.shards.now; carried = c.args.carried.now.items; timers = c.args.wheel.now.armed })
-    c.close_line.ensures.undone
-
-pub returns-in-Arm-clause-undone : goal.returns-in-Arm-clause-undone
-returns-in-Arm-clause-undone c =
-    undone-within c.arm.result (λ s. record s { timers = c.arm.new.wheel.armed }) (λ s. record s { timers = c.args.wheel.now.armed })
-    (λ s. record s { shards = c.args.shards.now; lines = c.args.lines.now.lines; carried = c.args.carried.now.items })
-    c.arm.ensures.undone
-
-pub returns-in-Disarm-clause-undone : goal.returns-in-Disarm-clause-undone
-returns-in-Disarm-clause-undone c =
-    λ s. c.disarm.ensures.undone
-    (record s { shards = c.args.shards.now; lines = c.args.lines.now.lines; carried = c.args.carried.now.items })
+pub returns-in_ok-arrival-in-Some-clause-placed : goal.returns-in_ok-arrival-in-Some-clause-placed
+returns-in_ok-arrival-in-Some-clause-placed c = λ source. c.in_ok-arrival-in-Some.ensures.placed c.args.wheel.now source

@@ -12,4 +12,4 @@ returns-in-Ok g c =
 -- or the opening is refused
 pub returns : goal.returns
 returns g c =
-    refused_is _ _ c.args.setup c.in-Err.error _ c.own_registries-own.ensures c.in-Err.ensures.fault c.in_ok-opening_text-in-Err.ensures
+    refused_is _ _ c.args.setup _ c.in-Err.error _ c.own_registries-own.ensures c.unbound_at-place.ensures c.in-Err.ensures.fault c.in_ok-opening_text_at-in-Err.ensures

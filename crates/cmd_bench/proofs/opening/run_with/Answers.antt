@@ -21,6 +21,6 @@ returns-in-Ok g c =
 -- or the opening is refused
 pub returns : goal.returns
 returns g c =
-    refused_outcome _ c.args.script.now c.args.shown c.in-Err.error c.refusal.result c.in-Err.ensures.fault
-    (c.in_ok-opening_text-in-Err.ensures ∙ ap (λ (o : Outcome). Some o.text.items) (sym c.refusal.ensures))
+    refused_outcome _ c.args.script.now c.args.shown c.unbound_at-place.result c.in-Err.error c.refusal.result c.unbound_at-place.ensures c.in-Err.ensures.fault
+    (c.in_ok-opening_text_at-in-Err.ensures ∙ ap (λ (o : Outcome). Some o.text.items) (sym c.refusal.ensures))
     (ap (λ (o : Outcome). o.refused) c.refusal.ensures)

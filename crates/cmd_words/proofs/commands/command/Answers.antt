@@ -5,6 +5,5 @@ use Rattle.cmd_words.proofs.commands.command.Goals as goal
 
 pub returns : goal.returns
 returns c =
-    let running = ap₂ (λ (a b : App). with_subcommand a b.top) c.in_ok-command.ensures c.in_ok-run.ensures.app in
-    let debugging = ap₂ (λ (a b : App). with_subcommand a b.top) (c.in_ok-command-2.ensures ∙ running) c.in_ok-debug.ensures.app in
-    IfOk-weaker c.with_command-2.result _ _ (λ r is. is ∙ debugging) c.with_command-2.ensures
+    let below = ap₂ (λ (a b : App). with_subcommand a b.top) c.in_ok-command.ensures c.in_ok-live.ensures.app in
+    IfOk-weaker c.with_command.result _ _ (λ r is. is ∙ below) c.with_command.ensures

@@ -8,23 +8,22 @@ use Rattle.bench_core.specs.Inside.{run_in}
 use Rattle.bench_item.specs.Lines.{Received}
 use Rattle.bench_line.specs.Lines.{with_step}
 use Rattle.bench_carry.specs.Dropped.{LinesGoOn, meaning_to}
-use Rattle.bench_core.specs.Entries.{octets_in}
 use Rattle.bench_core.proofs.LineLemmas.{GoesOn, line-takes, lines-sound, came-goes_on}
 use Rattle.bench_core.proofs.keeping.Core.came.Goals as goal
 
 -- the log has the entry
-is_after : (c : goal.After-drop-entry-2) → c.put.new.self.entries ≡ c.self.inside.log.entries ++ entry_of (steps.Came c.args.line c.args.piece) None None ∷ []
+is_after : (c : goal.After-put-2) → c.put.new.self.entries ≡ c.self.inside.log.entries ++ entry_of (steps.Came c.args.line c.args.piece) None None ∷ []
 is_after c =
     ap (λ l. l.entries) c.put.ensures.added
-    ∙ ap (λ es. es ++ c.in_ok-kept.kept ∷ []) c.make_room.ensures.entries
-    ∙ ap (λ e. c.self.inside.log.entries ++ e ∷ []) (c.in_ok-kept.ensures ∙ c.entry_of-entry.ensures)
+    ∙ ap (λ es. es ++ c.of_came-entry.result ∷ []) c.make_room.ensures.entries
+    ∙ ap (λ e. c.self.inside.log.entries ++ e ∷ []) c.of_came-entry.ensures
 
 -- the octets that are heard are those of the entry
-heard : (c : goal.After-drop-entry-2) → c.octets_in.result.now ≡ c.args.piece
-heard c = c.octets_in.ensures ∙ ap octets_in c.entry_of-entry.ensures
+heard : (c : goal.After-put-2) → c.as_slice.result.now ≡ c.args.piece
+heard c = c.as_slice.ensures
 
 -- the step goes on
-goes : (c : goal.After-drop-entry-2) → GoesOn c.self.inside (steps.Came c.args.line c.args.piece) c.came.new.self.lines c.self.inside.carried.items
+goes : (c : goal.After-put-2) → GoesOn c.self.inside (steps.Came c.args.line c.args.piece) c.came.new.self.lines c.self.inside.carried.items
 goes c =
     let w = c.self.inside in
     came-goes_on w c.args.line c.args.piece c.came.new.self.lines c.self.invariant

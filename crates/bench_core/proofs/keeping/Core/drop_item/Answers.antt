@@ -5,7 +5,6 @@ use Rattle.bench_item.specs.declared.step.Step.TheVariants as steps
 use Rattle.bench_spec.specs.Refusal.{refusal}
 use Rattle.bench_spec.specs.Rules.{listening}
 use Rattle.bench_spec.specs.Taken.{Takes}
-use Rattle.bench_spec.proofs.BookLemmas.{entry_of}
 use Rattle.line_message.specs.Hearing.{Hearing}
 use Rattle.bench_views.specs.Looks.{hand_of}
 use Rattle.bench_views.specs.Stored.{Stored, meaning_of}
@@ -22,7 +21,7 @@ pub unreachable-requires : goal.unreachable-requires
 unreachable-requires c =
     let w = c.self.inside in
     let could = subst (λ run. refusal run.settings run.log run.paused (steps.Drop c.args.source) ≡ None) (sym c.self.view_is) c.requires in
-    let hand = rw (c.deref.ensures.value, c.deref-2.ensures.value, c.deref-3.ensures.value) at (c.in_ok-hand_item.ensures (stored_in w)) in
+    let hand = rw (c.deref.ensures.value, c.deref-2.ensures.value, c.deref-3.ensures.value) at (c.in_ok-item.ensures (stored_in w)) in
     drop-hand (settings_in w) w.log.entries (paused_in w) (stored_in w) w.undo.records c.args.source c.self.invariant.whole could (sym hand ∙ c.in-None.is)
 
 pub drop_at-requires-clause-held : goal.drop_at-requires-clause-held
@@ -38,7 +37,7 @@ pub drop_at-requires-clause-room : goal.drop_at-requires-clause-room
 drop_at-requires-clause-room c =
     let w = c.self.inside in
     let could = subst (λ run. refusal run.settings run.log run.paused (steps.Drop c.args.source) ≡ None) (sym c.self.view_is) c.requires in
-    let hand = rw (c.deref.ensures.value, c.deref-2.ensures.value, c.deref-3.ensures.value) at (c.in_ok-hand_item.ensures (stored_in w)) in
+    let hand = rw (c.deref.ensures.value, c.deref-2.ensures.value, c.deref-3.ensures.value) at (c.in_ok-item.ensures (stored_in w)) in
     subst (λ shards. lacks_room shards w.lines.lines c.in-Some.item ≡ false) (sym c.deref_mut.ensures.value)
     (drop-room (settings_in w) w.log.entries (paused_in w) (stored_in w) w.undo.records c.args.source c.in-Some.item c.self.invariant.whole c.self.invariant.shards.0 could (sym hand ∙ c.in-Some.is))
 
@@ -72,36 +71,36 @@ invariant_of-self-in_err-undo c =
     }
 
 -- the step is not refused, and an item lies in the hand
-could : (c : goal.After-drop-entry-2) → refusal (settings_in c.self.inside) c.self.inside.log.entries (paused_in c.self.inside) (steps.Drop c.args.source) ≡ None
+could : (c : goal.After-put-2) → refusal (settings_in c.self.inside) c.self.inside.log.entries (paused_in c.self.inside) (steps.Drop c.args.source) ≡ None
 could c = subst (λ run. refusal run.settings run.log run.paused (steps.Drop c.args.source) ≡ None) (sym c.self.view_is) c.requires
 
-held : (c : goal.After-drop-entry-2) → hand_of c.args.source (stored_in c.self.inside) ≡ Some c.in-Some.item
+held : (c : goal.After-put-2) → hand_of c.args.source (stored_in c.self.inside) ≡ Some c.in-Some.item
 held c =
-    let hand = rw (c.deref.ensures.value, c.deref-2.ensures.value, c.deref-3.ensures.value) at (c.in_ok-hand_item.ensures (stored_in c.self.inside)) in
+    let hand = rw (c.deref.ensures.value, c.deref-2.ensures.value, c.deref-3.ensures.value) at (c.in_ok-item.ensures (stored_in c.self.inside)) in
     sym hand ∙ c.in-Some.is
 
 -- the log has the entry
-is_after : (c : goal.After-drop-entry-2) → c.put.new.self.entries ≡ dropped_log c.self.inside.log.entries c.args.source c.in-Some.item
+is_after : (c : goal.After-put-2) → c.put.new.self.entries ≡ dropped_log c.self.inside.log.entries c.args.source c.in-Some.item
 is_after c =
     ap (λ l. l.entries) c.put.ensures.added
-    ∙ ap (λ es. es ++ c.in_ok-kept.kept ∷ []) c.make_room.ensures.entries
-    ∙ ap (λ e. c.self.inside.log.entries ++ e ∷ []) (c.in_ok-kept.ensures ∙ ap (λ i. entry_of (steps.Drop c.args.source) i None) c.in-Some.is)
+    ∙ ap (λ es. es ++ c.of_drop-entry.result ∷ []) c.make_room.ensures.entries
+    ∙ ap (λ e. c.self.inside.log.entries ++ e ∷ []) c.of_drop-entry.ensures
 
 -- the parts before and behind it are those that were written
-abbrev after : (c : goal.After-drop-entry-2) → Stored
+abbrev after : (c : goal.After-put-2) → Stored
 after c =
     let w = c.self.inside in
     with_parts (stored_in w) (with_items w.shards c.drop_at.new.shards).items (with_items w.outboxes c.drop_at.new.outboxes).items c.drop_at.new.lines.lines c.drop_at.new.carried.items c.drop_at.new.wheel.armed
 
-abbrev written : (c : goal.After-drop-entry-2) → Stored
+abbrev written : (c : goal.After-put-2) → Stored
 written c = with_parts (stored_in c.self.inside) c.drop_at.new.shards c.drop_at.new.outboxes c.drop_at.new.lines.lines c.drop_at.new.carried.items c.drop_at.new.wheel.armed
 
-abbrev before : (c : goal.After-drop-entry-2) → Stored
+abbrev before : (c : goal.After-put-2) → Stored
 before c =
     let w = c.self.inside in
     with_parts (stored_in w) c.deref_mut.result.now c.deref_mut-2.result.now w.lines.lines w.carried.items w.wheel.armed
 
-is_written : (c : goal.After-drop-entry-2) → after c ≡ written c
+is_written : (c : goal.After-put-2) → after c ≡ written c
 is_written c =
     let w = c.self.inside in
     let n = c.drop_at.new in
@@ -110,29 +109,29 @@ is_written c =
     ap (λ x. with_parts (stored_in w) x (with_items w.outboxes n.outboxes).items n.lines.lines n.carried.items n.wheel.armed) shards
     ∙ ap (λ x. with_parts (stored_in w) n.shards x n.lines.lines n.carried.items n.wheel.armed) outboxes
 
-is_before : (c : goal.After-drop-entry-2) → before c ≡ stored_in c.self.inside
+is_before : (c : goal.After-put-2) → before c ≡ stored_in c.self.inside
 is_before c =
     let w = c.self.inside in
     ap (λ x. with_parts (stored_in w) x c.deref_mut-2.result.now w.lines.lines w.carried.items w.wheel.armed) c.deref_mut.ensures.value
     ∙ ap (λ x. with_parts (stored_in w) w.shards.items x w.lines.lines w.carried.items w.wheel.armed) c.deref_mut-2.ensures.value
 
 -- the item was dropped where it is for, and that is taken back
-drops : (c : goal.After-drop-entry-2) → DropsTo (meaning_of (settings_in c.self.inside)) c.args.source c.in-Some.item (stored_in c.self.inside) (after c)
+drops : (c : goal.After-put-2) → DropsTo (meaning_of (settings_in c.self.inside)) c.args.source c.in-Some.item (stored_in c.self.inside) (after c)
 drops c =
     let w = c.self.inside in
     subst (λ m. DropsTo m c.args.source c.in-Some.item (stored_in w) (after c)) (ap meaning_to c.self.invariant.listens)
     (subst (λ s. DropsTo (meaning_to w.lines.rules) c.args.source c.in-Some.item s (after c)) (is_before c)
     (subst (λ s. DropsTo (meaning_to w.lines.rules) c.args.source c.in-Some.item (before c) s) (sym (is_written c)) (c.in_ok-undo.ensures.dropped (stored_in w))))
 
-is_undone : (c : goal.After-drop-entry-2) → undone c.in_ok-undo.undo (after c) ≡ stored_in c.self.inside
+is_undone : (c : goal.After-put-2) → undone c.in_ok-undo.undo (after c) ≡ stored_in c.self.inside
 is_undone c = ap (undone c.in_ok-undo.undo) (is_written c) ∙ c.in_ok-undo.ensures.undone (stored_in c.self.inside) ∙ is_before c
 
 -- the settings are the same
-same : (c : goal.After-drop-entry-2) → settings_with c.self.inside c.drop_at.new.lines.rules ≡ settings_in c.self.inside
+same : (c : goal.After-put-2) → settings_with c.self.inside c.drop_at.new.lines.rules ≡ settings_in c.self.inside
 same c = settings-same c.self.inside c.drop_at.new.lines.rules c.drop_at.ensures.rules
 
 -- there is one more record
-is_more : (c : goal.After-drop-entry-2) → c.put-2.new.self.records ≡ c.self.inside.undo.records ++ c.in_ok-undo.undo ∷ []
+is_more : (c : goal.After-put-2) → c.put-2.new.self.records ≡ c.self.inside.undo.records ++ c.in_ok-undo.undo ∷ []
 is_more c = ap (λ l. l.records) c.put-2.ensures ∙ ap (λ rs. rs ++ c.in_ok-undo.undo ∷ []) c.make_room.ensures.records
 
 pub invariant_of-self-2 : goal.invariant_of-self-2

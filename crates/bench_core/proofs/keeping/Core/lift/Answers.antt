@@ -37,8 +37,8 @@ is_after c =
     let w = c.self.inside in
     let item = rw (c.deref.ensures.value, c.deref-2.ensures.value) at (c.in_ok-item.ensures (stored_in w)) in
     ap (λ l. l.entries) c.put.ensures.added
-    ∙ ap (λ es. es ++ c.in_ok-entry.entry ∷ []) c.make_room.ensures.entries
-    ∙ ap (λ e. w.log.entries ++ e ∷ []) (c.in_ok-entry.ensures ∙ ap (λ i. entry_of (steps.Lift c.args.source) i None) item)
+    ∙ ap (λ es. es ++ c.of_lift-entry.result ∷ []) c.make_room.ensures.entries
+    ∙ ap (λ e. w.log.entries ++ e ∷ []) (c.of_lift-entry.ensures ∙ ap (λ i. entry_of (steps.Lift c.args.source) i None) item)
 
 -- the parts behind it are those that were written
 abbrev after : (c : goal.After-put-2) → Stored

@@ -4,8 +4,8 @@ use Rattle.bench_item.specs.Keys.{home}
 use Rattle.bench_item.specs.declared.limit.TheConstants.{MAX_SHARDS}
 use Rattle.bench_spec.specs.Merged.{Look, Saw}
 use Rattle.bench_desk.specs.Desks.{IsDesk}
-use Rattle.bench_desk.specs.Notes.{kept_of}
-use Rattle.bench_desk.specs.declared.note.Note.TheVariants as notes
+use Rattle.bench_parts.specs.Views.{kept_of}
+use Rattle.bench_parts.specs.declared.view.Note.TheVariants as notes
 use Rattle.bench_desk.proofs.DeskLemmas.{IsDesk-saw}
 use Rattle.bench_desk.proofs.desk.Desk.keep_seen.Goals as goal
 

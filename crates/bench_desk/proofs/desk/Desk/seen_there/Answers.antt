@@ -4,7 +4,7 @@ use Rattle.bench_item.specs.Keys.{home}
 use Rattle.bench_spec.specs.Desks.{seen_count}
 use Rattle.bench_spec.specs.Settings.{Settings}
 use Rattle.bench_desk.specs.Desks.{DeskView}
-use Rattle.bench_desk.specs.Notes.{kept_of}
+use Rattle.bench_parts.specs.Views.{kept_of}
 use Rattle.bench_desk.proofs.desk.Desk.seen_there.Goals as goal
 
 pub returns : goal.returns

@@ -7,7 +7,7 @@ use Rattle.bench_item.specs.Keys.{home}
 use Rattle.bench_item.specs.declared.limit.TheConstants.{MAX_ENTRIES, MAX_SHARDS}
 use Rattle.bench_spec.specs.Desks.{tell_kept}
 use Rattle.bench_desk.specs.Desks.{DeskView, IsDesk, entry_count, is_desk_full}
-use Rattle.bench_desk.specs.Notes.{kept_of}
+use Rattle.bench_parts.specs.Views.{kept_of}
 use Rattle.bench_desk.proofs.DeskLemmas.{IsDesk-told}
 use Rattle.bench_desk.proofs.desk.Desk.told.Goals as goal
 

@@ -6,7 +6,8 @@ use Rattle.bench_log.specs.Logged.{Logged}
 use Rattle.bench_queue.specs.Inbox.{put_in}
 use Rattle.bench_shard.specs.View.{ShardView, with_inbox}
 use Rattle.bench_spec.specs.Merged.{Stamped}
-use Rattle.bench_desk.specs.Parts.{PartView, drop_entry, stamped_of, with_arrival}
+use Rattle.bench_desk.specs.Parts.{PartView, drop_entry, with_arrival}
+use Rattle.bench_parts.specs.Views.{stamped_of}
 use Rattle.bench_desk.proofs.PartLemmas.{stamped_of-snoc}
 use Rattle.bench_desk.proofs.part.ShardPart.arrive.Goals as goal
 

@@ -1,7 +1,7 @@
 use Rattle.std.proofs.Common.{◌≡◌, ◌∙◌, [], ◌∷◌, ◌++◌, List, ℕ, ◌-◌, ap, arith}
 use Rattle.bench_desk.proofs.PartLemmas.{stamped_of-snoc}
 use Rattle.std.proofs.lemmas.Grind.{common_steps}
-use Rattle.bench_desk.specs.Parts.{stamped_of}
+use Rattle.bench_parts.specs.Views.{stamped_of}
 use Rattle.bench_log.specs.Logged.{Logged}
 use Rattle.bench_spec.specs.Merged.{Stamped}
 use Rattle.live_parts.specs.Stamps.{StampedView, added}

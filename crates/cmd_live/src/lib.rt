@@ -1,0 +1,21 @@
+//! `live`: the nodes of a CONFIG over TCP, side by side.
+//!
+//! | File | What it has |
+//! |---|---|
+//! | `opening` | a node of a CONFIG as a live node |
+//! | `places` | where nodes listen, and where peers are dialled |
+//! | `nodes` | the nodes of a CONFIG that are to live, opened, and their sockets |
+//! | `turns` | the loop of a node: timers, desks, sockets |
+//! | `told` | what is told of all nodes |
+//! | `run` | all of that, to a status |
+#![tactic(auto)]
+
+mod nodes;
+mod opening;
+mod places;
+mod run;
+mod told;
+mod turns;
+
+pub use run::{LiveWords, live};
+pub use turns::{Lived, Living, live_one};

@@ -1,0 +1,174 @@
+//! The nodes of a CONFIG that are to live, opened, and where they listen.
+ghost use Rattle.std.specs.Prelude.{◌≡◌, ◌<◌, ◌++◌, IfOk, OnOk, length, option_map};
+ghost use Rattle.cmd_live.specs.Met.{hosts_of, is_wanted, wanted_host};
+
+use crate::opening::{Opened, Opening, Refused, open};
+use crate::places::{Listens, addresses_of, listening_at};
+use crate::turns::Living;
+use base_list::Octets;
+use base_text::put_number;
+use bench_item::is_same_host;
+use bench_node::LiveNode;
+use bench_open::Config;
+use bench_setup::Setup;
+use config_text::NodeConfig;
+use live_report::put_host;
+use net_sockets::{Sockets, SocketsFault};
+use node_port::NodePort;
+use std::alloc::{AllocError, Global};
+use std::net::Net;
+
+/// What is told of a node whose sockets the system refuses.
+fn no_socket(alloc: Global, host: &[u8]) -> Result<Refused, AllocError> {
+    let mut out = Vec::from_slice(alloc, b"node ")?;
+    put_host(&mut out, host)?;
+    out.extend_from_slice(b": the system refuses a socket\n")?;
+    Ok(Refused::Failed(out))
+}
+
+/// What is told of a node that listens at what is no address.
+fn no_address(alloc: Global, place: usize) -> Result<Refused, AllocError> {
+    let mut out = Vec::new(alloc);
+    put_number(&mut out, b"nodes[", place as u64)?;
+    out.extend_from_slice(b"].listen: a host and a port are wanted, as 127.0.0.1:3868\n")?;
+    Ok(Refused::Told(out))
+}
+
+/// What is told where no node is to live.
+fn no_node(alloc: Global, host: Option<&str>) -> Result<Refused, AllocError> {
+    let mut out = Vec::from_slice(alloc, b"CONFIG has no node ")?;
+    if let Some(host) = host {
+        put_host(&mut out, host.as_bytes())?;
+    }
+    out.extend_from_slice(b"\n")?;
+    Ok(Refused::Told(out))
+}
+
+/// The sockets of a node, which listens where it is to.
+fn sockets_of<R: Net>(
+    rt: &R,
+    alloc: Global,
+    place: usize,
+    node: &NodeConfig,
+    live: LiveNode,
+) -> Result<Sockets<NodePort>, Refused> {
+    let address = match listening_at(rt, node.listen.as_ref()) {
+        Listens::Nowhere => None,
+        Listens::At(address) => Some(address),
+        Listens::Unknown => return Err(no_address(alloc, place)?),
+    };
+    match Sockets::new(rt, alloc, NodePort { node: live }, address) {
+        Ok(sockets) => Ok(sockets),
+        Err(SocketsFault::NoMemory) => Err(Refused::NoMemory),
+        Err(SocketsFault::Refused) => Err(no_socket(alloc, node.identity.host.as_slice())?),
+    }
+}
+
+/// Opens a node at its place in CONFIG, and its sockets.
+fn living_of<R: Net>(
+    rt: &R,
+    alloc: Global,
+    place: usize,
+    node: &NodeConfig,
+    bench: Config,
+    seconds: u64,
+) -> Result<Living, Refused> {
+    let dialled = addresses_of(rt, alloc, node.peers.as_slice())?;
+    let shards = bench.shards;
+    let Opened { node: live, desks } = open(Opening {
+        alloc,
+        place,
+        node,
+        bench,
+        dialled: &dialled,
+    })?;
+    Ok(Living {
+        sockets: sockets_of(rt, alloc, place, node, live)?,
+        desks,
+        shards,
+        turns: node.turns,
+        seconds,
+    })
+}
+
+/// The nodes that are to live, and their hosts.
+#[derive(Drop)]
+pub(crate) struct Nodes {
+    pub(crate) hosts: Vec<Octets>,
+    pub(crate) livings: Vec<Living>,
+}
+
+/// Whether a node is to live.
+fn is_wanted(setup: &Setup, host: Option<&str>) -> bool
+    ensures { result ≡ is_wanted (option_map (λ host. host.now) host.entry) setup.now }
+{
+    match host {
+        Some(host) => is_same_host(setup.node.identity.host.as_slice(), host.as_bytes()),
+        None => true,
+    }
+}
+
+/// Adds the host of a node, if it is to live.
+fn add_wanted(
+    alloc: Global,
+    hosts: &mut Vec<Octets>,
+    setup: &Setup,
+    host: Option<&str>,
+) -> Result<(), AllocError>
+    ensures { OnOk result (hosts.new.items ≡ hosts.old.items ++ wanted_host (option_map (λ host. host.now) host.entry) setup.now) }
+{
+    if is_wanted(setup, host) {
+        hosts.push(setup.node.identity.host.copy(alloc)?)?;
+    }
+    Ok(())
+}
+
+/// The hosts of the nodes that are to live.
+fn hosts_of(alloc: Global, setups: &[Setup], host: Option<&str>) -> Result<Vec<Octets>, AllocError>
+    ensures { IfOk result (λ hosts. hosts.items ≡ hosts_of (option_map (λ host. host.now) host.entry) setups.now) }
+{
+    let mut hosts = Vec::new(alloc);
+    'setups: for setup in setups {
+        add_wanted(alloc, &mut hosts, setup, host)?;
+    }
+    Ok(hosts)
+}
+
+/// Opens the nodes that are to live.
+fn livings_of<R: Net>(
+    rt: &R,
+    alloc: Global,
+    setups: Vec<Setup>,
+    host: Option<&str>,
+    seconds: u64,
+) -> Result<Vec<Living>, Refused> {
+    let mut livings = Vec::new(alloc);
+    'setups: for (place, setup) in setups.into_iter().enumerate() {
+        if is_wanted(&setup, host) {
+            let Setup { node, bench } = setup;
+            livings.push(living_of(rt, alloc, place, &node, bench, seconds)?)?;
+        }
+    }
+    Ok(livings)
+}
+
+/// The nodes that are to live, of which there has to be one.
+pub(crate) fn nodes_of<R: Net>(
+    rt: &R,
+    alloc: Global,
+    setups: Vec<Setup>,
+    host: Option<&str>,
+    seconds: u64,
+) -> Result<Nodes, Refused>
+    ensures hosts { IfOk result (λ nodes. nodes.hosts.items ≡ hosts_of (option_map (λ host. host.now) host.entry) setups.items) }
+    ensures some { IfOk result (λ nodes. 0 < length nodes.hosts.items) }
+{
+    let hosts = hosts_of(alloc, &setups, host)?;
+    if hosts.is_empty() {
+        return Err(no_node(alloc, host)?);
+    }
+    Ok(Nodes {
+        livings: livings_of(rt, alloc, setups, host, seconds)?,
+        hosts,
+    })
+}

@@ -1,0 +1,217 @@
+//! A node of a CONFIG as a live node.
+#![tactic(auto, using(crate::proofs::LawLemmas::same_laws))]
+
+ghost use Rattle.std.specs.Prelude.{◌≡◌};
+ghost use Rattle.std.specs.List.{AllByRecursion as Each};
+ghost use Rattle.role_tables.specs.Roles.{all_laws};
+
+use base_text::put_number;
+use bench_core::Core;
+use bench_item::{Key, MAX_SHARDS, Role};
+use bench_node::{LiveNode, PeerAddress, open_bench};
+use bench_open::Config;
+use bench_setup::{WithCalls, with_calls};
+use bench_spec::OpeningError;
+use config_text::{DeskConfig, NodeConfig, PeerConfig};
+use fault_text::unbound_text;
+use live_desk::{Desk, DeskError};
+use std::alloc::{AllocError, AllocFailed, Global};
+use std::net::SocketAddr;
+use tab_call::Registry;
+use tab_law::LawBook;
+
+const BAD_LIMITS: &str =
+    "not opened: limits\n  wanted: 1 to 16 shards, 1 to 8 pages, at most 16 desks and 64 peers\n";
+
+const BAD_NAMES: &str =
+    "not opened: names\n  wanted: a host, a realm and peers of 1 to 255 octets of ASCII, each peer once\n";
+
+const BAD_LAWS: &str = "not opened: laws\n";
+
+const BAD_ACCOUNT: &str =
+    "not opened: account\n  wanted: numbers from 1, each once, at most 2^62 units, 1024 accounts on a page\n";
+
+/// Why a node does not live.
+#[derive(Drop)]
+pub(crate) enum Refused {
+    /// What was read is wrong, as this text says.
+    Told(Vec<u8>),
+    /// The system refuses something, as this text says.
+    Failed(Vec<u8>),
+    NoMemory,
+}
+
+impl From<AllocError> for Refused {
+    fn from(_e: AllocError) -> Refused {
+        Refused::NoMemory
+    }
+}
+
+impl<T: Drop> From<AllocFailed<T>> for Refused {
+    fn from(_e: AllocFailed<T>) -> Refused {
+        Refused::NoMemory
+    }
+}
+
+/// The first name of a table that the laws lack, and what is near it.
+fn lacking_text(
+    alloc: Global,
+    registries: &[Registry],
+    name: &[u8],
+) -> Result<Vec<u8>, AllocError> {
+    match registries.first() {
+        Some(registry) => unbound_text(alloc, registry.laws(), None, name),
+        None => unbound_text(alloc, &LawBook::new(alloc), None, name),
+    }
+}
+
+/// Why a bench is not opened, and what is wanted.
+fn opening_text(
+    alloc: Global,
+    registries: &[Registry],
+    error: &OpeningError,
+) -> Result<Vec<u8>, AllocError> {
+    match error {
+        OpeningError::Limits => Vec::from_slice(alloc, BAD_LIMITS.as_bytes()),
+        OpeningError::Names => Vec::from_slice(alloc, BAD_NAMES.as_bytes()),
+        OpeningError::Laws => Vec::from_slice(alloc, BAD_LAWS.as_bytes()),
+        OpeningError::Unbound(name) => lacking_text(alloc, registries, name.as_slice()),
+        OpeningError::Account => Vec::from_slice(alloc, BAD_ACCOUNT.as_bytes()),
+        OpeningError::NoMemory => Err(AllocError),
+    }
+}
+
+/// The text that tells of a desk's text that is none.
+fn bad_text(alloc: Global, place: usize, desk: usize, text: usize) -> Result<Vec<u8>, AllocError> {
+    let mut out = Vec::new(alloc);
+    put_number(&mut out, b"nodes[", place as u64)?;
+    put_number(&mut out, b"].desks[", desk as u64)?;
+    put_number(&mut out, b"][", text as u64)?;
+    out.extend_from_slice(
+        b"]: bad text\n  wanted: a key and an event that it can be told, as p:s.example Start or c:s;1 Begin 7=100\n",
+    )?;
+    Ok(out)
+}
+
+/// Where the peers of a bench are dialled.
+fn addresses_of(
+    alloc: Global,
+    core: &Core,
+    peers: &[PeerConfig],
+    dialled: &[Option<SocketAddr>],
+) -> Result<Vec<PeerAddress>, AllocError> {
+    let mut addresses = Vec::new(alloc);
+    for (peer, address) in peers.iter().zip(dialled.iter()) {
+        let key = Key {
+            role: Role::Peer,
+            name: peer.host.copy(alloc)?,
+        };
+        if let Some(machine) = core.number_of(&key) {
+            let address = *address;
+            addresses.push(PeerAddress { machine, address })?;
+        }
+    }
+    Ok(addresses)
+}
+
+/// The desks of a bench.
+fn desks_of(
+    alloc: Global,
+    core: &Core,
+    place: usize,
+    node: &NodeConfig,
+) -> Result<Vec<Desk>, Refused> {
+    let mut desks = Vec::new(alloc);
+    for (number, desk) in node.desks.as_slice().iter().enumerate() {
+        let DeskConfig { lines, repeat } = desk;
+        match Desk::new(
+            alloc,
+            core,
+            number.min(u32::MAX as usize) as u32,
+            lines.as_slice(),
+            *repeat,
+            node.turns,
+        ) {
+            Ok(desk) => desks.push(desk)?,
+            Err(DeskError::BadText(text)) => {
+                return Err(Refused::Told(bad_text(alloc, place, number, text)?));
+            }
+            Err(DeskError::NoMemory) => return Err(Refused::NoMemory),
+        }
+    }
+    Ok(desks)
+}
+
+/// A node that is to be opened.
+#[derive(Drop)]
+pub(crate) struct Opening<'a> {
+    pub(crate) alloc: Global,
+    /// Its place in CONFIG.
+    pub(crate) place: usize,
+    pub(crate) node: &'a NodeConfig,
+    pub(crate) bench: Config,
+    /// Of each peer where it is dialled.
+    pub(crate) dialled: &'a [Option<SocketAddr>],
+}
+
+/// A node that was opened, and its desks.
+#[derive(Drop)]
+pub(crate) struct Opened {
+    pub(crate) node: LiveNode,
+    pub(crate) desks: Vec<Desk>,
+}
+
+/// A live node of a bench that was opened.
+fn node_of(
+    alloc: Global,
+    core: Core,
+    place: usize,
+    node: &NodeConfig,
+    dialled: &[Option<SocketAddr>],
+) -> Result<Opened, Refused>
+    requires { core.settings.node.laws ≡ all_laws }
+{
+    let peers = addresses_of(alloc, &core, node.peers.as_slice(), dialled)?;
+    let desks = desks_of(alloc, &core, place, node)?;
+    Ok(Opened {
+        node: LiveNode::new(alloc, core, peers)?,
+        desks,
+    })
+}
+
+impl WithCalls for Opening<'_> {
+    type Answer = Result<Opened, Refused>;
+
+    ghost fits = { λ _ laws. Each (λ l. l ≡ all_laws) laws };
+
+    ghost answers = { λ _ _ _. Unit {0} };
+
+    fn run(self, registries: Vec<Registry>) -> Result<Result<Opened, Refused>, AllocError> {
+        let Opening {
+            alloc,
+            place,
+            node,
+            bench,
+            dialled,
+        } = self;
+        match open_bench(alloc, bench, &registries) {
+            Ok(core) => Ok(node_of(alloc, core, place, node, dialled)),
+            Err(OpeningError::NoMemory) => Err(AllocError),
+            Err(error) => Ok(Err(Refused::Told(opening_text(alloc, &registries, &error)?))),
+        }
+    }
+}
+
+/// How many registries a bench wants.
+pub(crate) fn registry_count(shards: u64) -> usize {
+    shards.min(MAX_SHARDS as u64) as usize
+}
+
+/// Opens a node.
+pub(crate) fn open(opening: Opening<'_>) -> Result<Opened, Refused> {
+    let count = registry_count(opening.bench.shards);
+    match with_calls(opening.alloc, count, opening) {
+        Ok(answer) => answer,
+        Err(AllocError) => Err(Refused::NoMemory),
+    }
+}

@@ -1,0 +1,9 @@
+//! Tests of live nodes without sockets: what one sent is carried to the other by the test.
+#![tactic(auto)]
+
+#[cfg(test)]
+mod pair;
+#[cfg(test)]
+mod rows;
+#[cfg(test)]
+mod tests;

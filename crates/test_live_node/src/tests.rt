@@ -1,0 +1,109 @@
+//! What both nodes come to, turn by turn.
+
+use crate::pair::{Alone, Turns, somewhere};
+use base_device::{Counting, Inputs};
+use bench_setup::{Setup, read_nodes, with_calls};
+use std::fs;
+use std::test::Fail;
+
+/// The desk tells in each turn its next text: that the peer starts; that a session begins, wants 60 units of account 100, used 50 of them
+/// and wants 60 more, of which 50 are left, and ends with 35 more used; that the peer stops.
+const SESSION: &str = "\
+I-Open - R-Open - 0 0
+I-Open Open R-Open Open 60 0
+I-Open Open R-Open Open 50 50
+I-Open Idle R-Open Idle 0 85
+Closed Idle Closed Idle 0 85
+";
+
+/// The peer's timer is armed for 30 seconds once it is dialled. The session's text waits for the peer twice, and is then told in any case:
+/// its request can't be sent.
+const UNANSWERED: &str = "\
+Wait-Conn-Ack - 
+Wait-Conn-Ack - 
+Wait-Conn-Ack - 
+Closed Idle 
+";
+
+/// A peer without a usable address is lost at once.
+const UNREACHABLE: &str = "\
+Closed - 
+Closed - 
+Closed - 
+Closed Idle 
+";
+
+/// A server and a client. Nothing listens and nothing is dialled here.
+const PAIR: &str = r#"{"nodes": [
+    {
+        "host": "s.example",
+        "realm": "example",
+        "address": "127.0.0.1",
+        "peers": [{"host": "c.example", "address": "127.0.0.1:3869"}],
+        "accounts": [{"id": 100, "given": 100}]
+    },
+    {
+        "host": "c.example",
+        "realm": "example",
+        "address": "127.0.0.1",
+        "peers": [{"host": "s.example", "address": "127.0.0.1:3868"}],
+        "desks": [["p:s.example Start", "c:c1;1 Begin 7=100 9=60 10=3", "c:c1;1 More 8=50 9=60", "c:c1;1 End 8=35", "p:s.example Stop"]]
+    }
+]}"#;
+
+// The nodes of the pair, of a file of that name.
+fn nodes(rt: &HostRuntime, name: &str) -> Result<Vec<Setup>, Fail> {
+    fs::write(rt, name, PAIR)?;
+    let mut source = Counting::new(Inputs::new(rt, rt.stdin()));
+    match read_nodes(rt.alloc(), name, &mut source) {
+        Ok(setups) => Ok(setups),
+        Err(_) => Err(Fail::new("a CONFIG")),
+    }
+}
+
+#[test]
+fn a_session_is_charged(rt: HostRuntime) -> Result<(), Fail> {
+    let alloc = rt.alloc();
+    let mut setups = nodes(&rt, "session.json")?.into_iter();
+    let (Some(server), Some(client)) = (setups.next(), setups.next()) else {
+        return Err(Fail::new("two nodes"));
+    };
+    let turns = Turns {
+        alloc,
+        server,
+        client,
+        turns: 5,
+    };
+    let rows = with_calls(alloc, 1, turns)?;
+    assert!(rt; rows.as_slice() == SESSION.as_bytes());
+    Ok(())
+}
+
+// What a client's node alone comes to.
+fn alone(rt: &HostRuntime, name: &str, is_dialled: bool) -> Result<Vec<u8>, Fail> {
+    let alloc = rt.alloc();
+    let mut setups = nodes(rt, name)?.into_iter();
+    let (Some(_), Some(client)) = (setups.next(), setups.next()) else {
+        return Err(Fail::new("two nodes"));
+    };
+    let address = if is_dialled { Some(somewhere()) } else { None };
+    let alone = Alone {
+        alloc,
+        client,
+        address,
+        moments: [0, 0, 29, 30],
+    };
+    Ok(with_calls(alloc, 1, alone)?)
+}
+
+#[test]
+fn a_dial_is_not_answered(rt: HostRuntime) -> Result<(), Fail> {
+    assert!(rt; alone(&rt, "unanswered.json", true)?.as_slice() == UNANSWERED.as_bytes());
+    Ok(())
+}
+
+#[test]
+fn a_peer_has_no_address(rt: HostRuntime) -> Result<(), Fail> {
+    assert!(rt; alone(&rt, "unreachable.json", false)?.as_slice() == UNREACHABLE.as_bytes());
+    Ok(())
+}

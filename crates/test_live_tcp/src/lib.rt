@@ -1,0 +1,5 @@
+//! Tests of live nodes over loopback.
+#![tactic(auto)]
+
+#[cfg(test)]
+mod loopback;
