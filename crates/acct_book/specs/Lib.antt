@@ -1,3 +1,4 @@
+-- The definitions that the contracts of acct_book speak of.
 pub mod Sums
 pub mod Book
 pub mod Slots

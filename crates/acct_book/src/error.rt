@@ -33,7 +33,8 @@ pub enum OpenError {
 }
 
 impl OpenError {
-    /// The number that stands for the error where it is printed: 1 to 3 in the order of the refusals, and 4 for want of memory.
+    /// The number that stands for the error where it is printed:
+    /// 1 to 3 in the order of the refusals, and 4 for want of memory.
     pub fn number(self) -> u8
         ensures { result ≡ number_of self }
     {

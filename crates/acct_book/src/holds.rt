@@ -3,7 +3,8 @@ ghost use Rattle.std.specs.Prelude.{◌≡◌, ◌<◌, ◌≤◌, ◌+◌, ◌^
 ghost use Rattle.indexmap.specs.IndexMap.{spare, get};
 ghost use Rattle.acct_totals.specs.Amounts.{amount_of};
 ghost use Rattle.acct_book.specs.Stored.{holder_eq, session_eq, stored_of, standing, standing_in, step_of, added};
-ghost use Rattle.acct_book.specs.Stored.{session_of, ended_of, all_ended_of, nothing, undone, with_held, with_rounds, IsPlaced, CanCarryOut};
+ghost use Rattle.acct_book.specs.Stored.{session_of, ended_of, all_ended_of, nothing, undone, with_held};
+ghost use Rattle.acct_book.specs.Stored.{with_rounds, IsPlaced, CanCarryOut};
 ghost use Rattle.acct_book.specs.Ledger.{IsMarked};
 
 use crate::error::NoMemory;
@@ -69,7 +70,8 @@ impl Holds {
     pub(crate) fn make_room(&mut self, n: usize) -> Result<(), NoMemory>
         ensures room { OnOk result ((n ≤ spare self.new.reservations) × (n ≤ spare self.new.sessions)) }
         ensures stored { stored_of self.new ≡ stored_of self.old }
-        ensures kept_room { (spare self.old.reservations ≤ spare self.new.reservations) × (spare self.old.sessions ≤ spare self.new.sessions) }
+        ensures kept_room { (spare self.old.reservations ≤ spare self.new.reservations)
+            × (spare self.old.sessions ≤ spare self.new.sessions) }
         ensures placed { IsPlaced self.old → IsPlaced self.new }
     {
         self.reservations.reserve(n)?;

@@ -29,7 +29,8 @@ fn refusal(is_open: bool, given: u64, accounts: usize) -> Option<OpenError>
     }
 }
 
-/// The running totals by account, in the order of opening, the reservations, and the journal with what its operations wrote over.
+/// The running totals by account, in the order of opening, the reservations,
+/// and the journal with what its operations wrote over.
 pub(crate) struct Ledger {
     pub(crate) accounts: IndexMap<u64, Totals>,
     pub(crate) holds: Holds,
@@ -126,7 +127,8 @@ impl Ledger {
 
     /// What a session has on an account in a group.
     pub(crate) fn held(&self, account: u64, session: u64, group: u64) -> u64
-        ensures { result ≡ standing (stored_of self.now.holds) (record { account = account; session = session; group = group }) }
+        ensures { result
+            ≡ standing (stored_of self.now.holds) (record { account = account; session = session; group = group }) }
     {
         self.holds.standing(Holder {
             account,
@@ -135,7 +137,8 @@ impl Ledger {
         })
     }
 
-    /// The quote of a slot where so much is free and the earlier slots have these quotes, and what is free once it has been served.
+    /// The quote of a slot where so much is free and the earlier slots have these quotes,
+    /// and what is free once it has been served.
     pub(crate) fn quote_slot(
         &self,
         account: u64,
@@ -144,9 +147,11 @@ impl Ledger {
         earlier: &[Quoted],
         slot: Option<Slot>,
     ) -> (Option<Quote>, u64)
-        requires { IfSome slot (λ s. funds_of (left_of (stored_of self.now.holds) account session free earlier.now) s < 2 ^ 64) }
+        requires { IfSome slot (λ s. funds_of (left_of (stored_of self.now.holds) account session free earlier.now) s
+            < 2 ^ 64) }
         ensures quote { result.0 ≡ quote_in (left_of (stored_of self.now.holds) account session free earlier.now) slot }
-        ensures free { result.1 ≡ (served (left_of (stored_of self.now.holds) account session free earlier.now) slot).free }
+        ensures free { result.1
+            ≡ (served (left_of (stored_of self.now.holds) account session free earlier.now) slot).free }
     {
         let Some(slot) = slot else {
             return (None, free);
@@ -178,7 +183,8 @@ impl Ledger {
         requires few { totals.unpaid + 2 ^ 64 ≤ 2 ^ 128 }
         requires room { HasRoom self.old 1 }
         requires placed { IsPlaced self.old.holds }
-        requires can { CanCarryOut (stored_of self.old.holds) op (outcome_at totals (held_on (stored_of self.old.holds) op) op) }
+        requires can { CanCarryOut (stored_of self.old.holds) op
+            (outcome_at totals (held_on (stored_of self.old.holds) op) op) }
         ensures outcome { result.0 ≡ outcome_at totals (held_on (stored_of self.old.holds) op) op }
         ensures fits { unpaid_of result.0 ≤ 2 ^ 64 }
         ensures settles { Settles self.old op result.0 result.1 self.new }
@@ -266,7 +272,8 @@ impl Ledger {
     fn unsettle(&mut self, op: Op, outcome: Outcome, before: Option<Before>)
         requires placed { IsPlaced self.old.holds }
         requires marked { IsMarked (stored_of self.old.holds) op before }
-        requires left { IsLeft (kept self.old.accounts (account_of op)) (held_on (undone (stored_of self.old.holds) op before) op) op outcome }
+        requires left { IsLeft (kept self.old.accounts (account_of op))
+            (held_on (undone (stored_of self.old.holds) op before) op) op outcome }
         ensures unsettles { Unsettles self.old op outcome before self.new }
     {
         self.holds.put_back(op, before);

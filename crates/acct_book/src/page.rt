@@ -19,11 +19,11 @@ fn unknown_in(slot: Option<Slot>) -> Option<Quote>
     }
 }
 
-/// A page of the account book, one of so many that share the accounts. A contract sees its number, its accounts in the order of their
-/// opening, its journal, and how many operations have room.
+/// A page of the account book, one of so many that share the accounts. A contract sees its number, its accounts in the
+/// order of their opening, its journal, and how many operations have room.
 ///
-/// Beside these it keeps each account's totals and each reservation, found by a hash, and what each operation wrote over, so that no
-/// call reads the journal.
+/// Beside these it keeps each account's totals and each reservation, found by a hash,
+/// and what each operation wrote over, so that no call reads the journal.
 pub struct Page {
     number: u64,
     pages: u64,
@@ -64,11 +64,12 @@ impl Page {
         Page::numbered(alloc, 0, 1)
     }
 
-    /// Page `number`, from 0, of a book of so many, without accounts. It is for the accounts whose number, divided by the count of
-    /// pages, leaves the page's. Takes no memory until the first is opened.
+    /// Page `number`, from 0, of a book of so many, without accounts. It is for the accounts whose number, divided by
+    /// the count of pages, leaves the page's. Takes no memory until the first is opened.
     pub fn numbered(alloc: Global, number: u64, pages: u64) -> Page
         requires { number < pages }
-        ensures { result ≡ record { number = number; pages = pages; book = record { accounts = []; journal = [] }; room = 0 } }
+        ensures { result
+            ≡ record { number = number; pages = pages; book = record { accounts = []; journal = [] }; room = 0 } }
     {
         Page {
             number,
@@ -84,8 +85,8 @@ impl Page {
         (self.number, self.pages)
     }
 
-    /// Opens an account with `given` units, after those that are open. Its number is that of a Subscription-Id-Data (RFC 8506
-    /// section 8.48); 0 stands for a request that names no account.
+    /// Opens an account with `given` units, after those that are open. Its number is that of a Subscription-Id-Data
+    /// (RFC 8506 section 8.48); 0 stands for a request that names no account.
     pub fn open_account(&mut self, id: u64, given: u64) -> Result<(), OpenError>
         requires some { 1 ≤ id }
         requires here { id % self.old.pages ≡ self.old.number }
@@ -114,8 +115,9 @@ impl Page {
         totals.quote(held, used, want)
     }
 
-    /// What the account would answer to the services of one request, slot by slot, each as if what the earlier slots used were paid
-    /// and what they are offered were reserved (RFC 8506 section 5.1.2). A slot without a service gets no quote. Takes no memory.
+    /// What the account would answer to the services of one request, slot by slot, each as if what the earlier slots
+    /// used were paid and what they are offered were reserved (RFC 8506 section 5.1.2). A slot without a service gets
+    /// no quote. Takes no memory.
     pub fn quote_groups(
         &self,
         account: u64,
@@ -174,8 +176,8 @@ impl Page {
         Ok(self.ledger.book(op))
     }
 
-    /// Carries operations out and books them, in their order, all or none: memory for all is taken before the first. Their
-    /// outcomes are at the journal's end.
+    /// Carries operations out and books them, in their order, all or none: memory for all is taken before the first.
+    /// Their outcomes are at the journal's end.
     pub fn apply_all(&mut self, ops: &[Op]) -> Result<(), NoMemory>
         ensures book { OnOk result (self.new
             ≡ with_book self.old (fold after self.old.book ops.now) (self.old.room - length ops.now)) }
@@ -191,7 +193,8 @@ impl Page {
         Ok(())
     }
 
-    /// Takes the last operation back: the book is as before it, a Release of many groups too. The room stays as it is. Takes no memory.
+    /// Takes the last operation back: the book is as before it, a Release of many groups too.
+    /// The room stays as it is. Takes no memory.
     pub fn take_back(&mut self)
         requires { 0 < length self.old.book.journal }
         ensures taken_back { self.new ≡ with_book self.old (taken_back self.old.book) self.old.room }

@@ -16,8 +16,8 @@ fn lend<T, F: FnOnce(&mut Page) -> T>(page: &mut Page, f: F) -> T
     f(page)
 }
 
-/// The pages of an account book, numbered from 0, each behind a lock of its own. A contract sees how many there are: what a page has
-/// booked may change at any time, and whenever its lock is free its totals are those of its journal.
+/// The pages of an account book, numbered from 0, each behind a lock of its own. A contract sees how many there are:
+/// what a page has booked may change at any time, and whenever its lock is free its totals are those of its journal.
 pub struct Pages {
     locks: Vec<Mutex<Page>>,
     // Has room for all pages, for them to be given back without memory.
@@ -83,8 +83,8 @@ impl Pages {
         account % self.count()
     }
 
-    /// Takes the lock of a page, lends the page to the closure and answers what that answers. Waits for the lock: the closure is to take
-    /// no other one, and not this one again.
+    /// Takes the lock of a page, lends the page to the closure and answers what that answers.
+    /// Waits for the lock: the closure is to take no other one, and not this one again.
     pub fn with_page<R: Wait, T, F: FnOnce(&mut Page) -> T>(&self, rt: &R, number: u64, f: F) -> T
         requires there { number < self.now }
         requires callable { F.IsAlwaysCallable f }
@@ -95,8 +95,8 @@ impl Pages {
         lend(&mut page, f)
     }
 
-    /// Takes the lock of a page. It is held as long as the guard is there. Waits for the lock: whoever holds it is to take no other one, and
-    /// not this one again.
+    /// Takes the lock of a page. It is held as long as the guard is there.
+    /// Waits for the lock: whoever holds it is to take no other one, and not this one again.
     pub fn lock<R: Wait>(&self, rt: &R, number: u64) -> MutexGuard<'_, Page>
         requires { number < self.now }
     {

@@ -7,8 +7,8 @@ use base_codes::ResultCode;
 /// What the account would answer to used and wanted units.
 #[derive(Clone, Copy, PartialEq, Eq)]
 pub struct Quote {
-    /// `Success`, `CreditLimitReached` where units are wanted and there are none, or `UserUnknown` where there is no such account
-    /// (RFC 6733 section 7.1, RFC 8506 section 9).
+    /// `Success`, `CreditLimitReached` where units are wanted and there are none,
+    /// or `UserUnknown` where there is no such account (RFC 6733 section 7.1, RFC 8506 section 9).
     pub verdict: ResultCode,
     /// The units that can be granted.
     pub offer: u64,

@@ -2,8 +2,8 @@
 ghost use Rattle.std.specs.Prelude.{◌≡◌};
 ghost use Rattle.acct_totals.specs.Amounts.{account_of, amount_of, unpaid_of};
 
-/// An operation on an account. A `session` is the number of a Session-Id (RFC 6733 section 8.8), a `group` that of a Rating-Group
-/// (RFC 8506 section 8.29) or 0, and the amounts are service units (RFC 8506 sections 8.17 to 8.19).
+/// An operation on an account. A `session` is the number of a Session-Id (RFC 6733 section 8.8), a `group` that of a
+/// Rating-Group (RFC 8506 section 8.29) or 0, and the amounts are service units (RFC 8506 sections 8.17 to 8.19).
 #[derive(Clone, Copy, PartialEq, Eq)]
 pub enum Op {
     /// Sets units aside for a session (RFC 8506 sections 5.2 and 5.3).

@@ -7,8 +7,8 @@ ghost use Rattle.acct_totals.specs.Slots.{free_after, held_by, is_numbered, verd
 use crate::answer::Quote;
 use base_codes::ResultCode;
 
-/// One service of a request (Multiple-Services-Credit-Control, RFC 8506 section 8.16): its group, and the service units that it used and
-/// wants.
+/// One service of a request (Multiple-Services-Credit-Control, RFC 8506 section 8.16):
+/// its group, and the service units that it used and wants.
 #[derive(Clone, Copy, PartialEq, Eq)]
 pub struct Slot {
     pub group: u64,
@@ -44,7 +44,8 @@ fn held_by(group: u64, held: u64, earlier: Quoted) -> u64
     }
 }
 
-/// The reservation of a group once these slots have been served: the offer of the last one of that group, else what it was before.
+/// The reservation of a group once these slots have been served:
+/// the offer of the last one of that group, else what it was before.
 pub fn held_after(group: u64, held: u64, earlier: &[Quoted]) -> u64
     ensures { result ≡ fold (held_by group) held earlier.now }
 {
@@ -72,8 +73,8 @@ fn any_numbered(number: u32, quotes: &[Option<Quote>]) -> bool
     quotes.iter().any(|quote| is_numbered(number, *quote))
 }
 
-/// The verdict of a whole request: that of an unknown account, else success where one of its slots has it, else that the credit limit
-/// is reached (RFC 8506 section 9).
+/// The verdict of a whole request: that of an unknown account, else success where one of its slots has it,
+/// else that the credit limit is reached (RFC 8506 section 9).
 pub fn request_verdict(quotes: &[Option<Quote>]) -> ResultCode
     ensures { result ≡ verdict_of_request quotes.now }
 {

@@ -1,3 +1,4 @@
+-- The definitions that the contracts of base_codes speak of.
 pub mod ResultCodes
 pub mod CommandCodes
 pub mod DeedCodes

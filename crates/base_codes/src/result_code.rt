@@ -113,11 +113,13 @@ impl ResultCode {
             ResultCode::UnsupportedVersion =>
                 "DIAMETER_UNSUPPORTED_VERSION: the version is not 1; is the sender speaking Diameter?",
             ResultCode::UnableToComply =>
-                "DIAMETER_UNABLE_TO_COMPLY: the message has over 128 AVPs in a list, over 4 levels of groups, or comes at the wrong time",
+                "DIAMETER_UNABLE_TO_COMPLY: the message has over 128 AVPs in a list, over 4 levels of groups, \
+                    or comes at the wrong time",
             ResultCode::InvalidAvpLength =>
                 "DIAMETER_INVALID_AVP_LENGTH: an AVP is cut off, or has a size that its type does not have",
             ResultCode::InvalidMessageLength =>
-                "DIAMETER_INVALID_MESSAGE_LENGTH: the Message Length is below 20, no multiple of 4 or not that of the message",
+                "DIAMETER_INVALID_MESSAGE_LENGTH: the Message Length is below 20, \
+                    no multiple of 4 or not that of the message",
             ResultCode::UserUnknown => "DIAMETER_USER_UNKNOWN: there is no such account",
             ResultCode::RatingFailed => "DIAMETER_RATING_FAILED: the service can't be rated",
         }

@@ -1,5 +1,6 @@
 -- What a call of a device changes in its counters, and why a read or a write fault comes.
-use Rattle.std.specs.Prelude.{◌≡◌, ◌<◌, ◌≤◌, ℕ, ◌+◌, ◌-◌, ◌^◌, ◌==◌, min, List, length, take, Option, Some, None, Result, Ok, Err, if◌then◌else◌, ◌⊎◌}
+use Rattle.std.specs.Prelude.{◌≡◌, ◌<◌, ◌≤◌, ℕ, ◌+◌, ◌-◌, ◌^◌, ◌==◌, min, List, length, take, Option, Some, None}
+use Rattle.std.specs.Prelude.{Result, Ok, Err, if◌then◌else◌, ◌⊎◌}
 use Rattle.std.specs.Io.KnownBytes.{Appends, Consumes, Keeps, IsAtEnd}
 use Rattle.base_device.specs.declared.status.Status.{Status}
 use Rattle.base_device.specs.declared.status.Status.TheVariants.{Fault}
@@ -13,7 +14,8 @@ failures_after (Err why) failures = failures + 1
 abbrev pub counted : ℕ → ℕ
 counted count = min (count + 1) (2 ^ 64 - 1)
 
--- the reads that would have had to wait, after one more read: only one that gave nothing, and that is no end, may be one
+-- the reads that would have had to wait, after one more read: only one that gave nothing, and that is no end,
+-- may be one
 abbrev pub Blocks : {E : Type 0} → Result (Option ℕ) E → (old new : ℕ) → Type 0
 Blocks (Ok (Some count)) old new = new ≡ old
 Blocks (Ok None) old new = (new ≡ old) ⊎ (new ≡ counted old)
@@ -37,12 +39,15 @@ Within (Err why) buffer = Unit {0}
 
 -- a read gives the front of what is left, and no octets only where none is left
 abbrev pub Gives : {E : Type 0} → Option (List ℕ) → Option (List ℕ) → Result (Option ℕ) E → List ℕ → Type 0
-Gives old new (Ok (Some count)) buffer = Consumes old new (take count buffer) × (count ≡ 0 → 0 < length buffer → IsAtEnd new)
+Gives old new (Ok (Some count)) buffer = Consumes old new (take count buffer)
+    × (count ≡ 0 → 0 < length buffer → IsAtEnd new)
 Gives old new (Ok None) buffer = Keeps old new
 Gives old new (Err why) buffer = Keeps old new
 
 -- A write took this many octets from the front, at least one, and no call failed.
-pub record IsTaken {O : Type 0} (contents : O → Option (List ℕ)) (failures idle : O → ℕ) (old new : O) (octets : List ℕ) (count : ℕ) : Type 0 where
+pub record IsTaken
+    {O : Type 0} (contents : O → Option (List ℕ)) (failures idle : O → ℕ) (old new : O) (octets : List ℕ)
+    (count : ℕ) : Type 0 where
   pub some : 0 < count
   pub within : count ≤ length octets
   pub appended : Appends (contents old) (contents new) (take count octets)
@@ -50,7 +55,8 @@ pub record IsTaken {O : Type 0} (contents : O → Option (List ℕ)) (failures i
   pub busy : idle new ≡ 0
 
 -- All octets were taken, and no call failed.
-pub record TakesWhole {O : Type 0} (contents : O → Option (List ℕ)) (failures idle : O → ℕ) (old new : O) (octets : List ℕ) : Type 0 where
+pub record TakesWhole
+    {O : Type 0} (contents : O → Option (List ℕ)) (failures idle : O → ℕ) (old new : O) (octets : List ℕ) : Type 0 where
   pub appended : Appends (contents old) (contents new) octets
   pub sound : failures new ≡ failures old
   pub busy : idle new ≡ 0
@@ -66,9 +72,11 @@ HasReadCause reads failures old new =
     (failures new ≡ failures old + 1) ⊎ ((failures new ≡ failures old) × (reads old + 1048576 ≤ reads new))
 
 -- A text was taken whole and the status is this one, or a write fault came and is the status.
-abbrev pub Tells : {O : Type 0} → (contents : O → Option (List ℕ)) → (failures idle : O → ℕ) → (old new : O) → List ℕ → (status answer : Status) → Type 0
+abbrev pub Tells : {O : Type 0} → (contents : O → Option (List ℕ)) → (failures idle : O → ℕ) → (old new : O) → List ℕ
+    → (status answer : Status) → Type 0
 Tells contents failures idle old new text status answer =
-    (TakesWhole contents failures idle old new text × (answer ≡ status)) ⊎ (HasWriteCause failures idle old new × (answer ≡ Fault))
+    (TakesWhole contents failures idle old new text × (answer ≡ status))
+    ⊎ (HasWriteCause failures idle old new × (answer ≡ Fault))
 
 -- One of the devices failed.
 abbrev pub HasFailed : {I O : Type 0} → (I → ℕ) → (O → ℕ) → (I → I → O → O → Type 0)
@@ -76,8 +84,11 @@ HasFailed read_failures write_failures source source' sink sink' =
     (read_failures source < read_failures source') ⊎ (write_failures sink < write_failures sink')
 
 -- Of a run: a fault comes only where a device failed or a bound was met, and a device's failure is told.
-pub record IsRun {I O : Type 0} (reads read_failures : I → ℕ) (write_failures idle : O → ℕ) (source source' : I) (sink sink' : O) (status : Status) : Type 0 where
-  pub cause : status ≡ Fault → HasReadCause reads read_failures source source' ⊎ HasWriteCause write_failures idle sink sink'
+pub record IsRun
+    {I O : Type 0} (reads read_failures : I → ℕ) (write_failures idle : O → ℕ) (source source' : I) (sink sink' : O)
+    (status : Status) : Type 0 where
+  pub cause : status ≡ Fault
+      → HasReadCause reads read_failures source source' ⊎ HasWriteCause write_failures idle sink sink'
   pub told : HasFailed read_failures write_failures source source' sink sink' → status ≡ Fault
   -- no call is made after a failed one, but for the text that tells it
   pub read_once : read_failures source' ≤ read_failures source + 1

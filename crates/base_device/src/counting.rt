@@ -22,7 +22,8 @@ pub struct Counting<T> {
 impl<T> Counting<T> {
     /// A device that has made no calls yet.
     pub fn new(device: T) -> Counting<T>
-        ensures { result ≡ record { device = device; reads = 0; writes = 0; failures = 0; blocked = 0; idle = 0; most_idle = 0 } }
+        ensures { result
+            ≡ record { device = device; reads = 0; writes = 0; failures = 0; blocked = 0; idle = 0; most_idle = 0 } }
     {
         Counting {
             device,

@@ -6,6 +6,7 @@ mod device;
 mod inputs;
 mod output;
 mod status;
+mod told;
 mod whole;
 
 pub use counting::Counting;
@@ -13,4 +14,5 @@ pub use device::{ByteSink, ByteSource, DeviceFailed};
 pub use inputs::{FileSource, Inputs, OpenError};
 pub use output::{MAX_IDLE_WRITES, WriteFault, tell, write_whole};
 pub use status::Status;
+pub use told::Told;
 pub use whole::{InputError, MAX_READS, read_input, tell_not_opened, tell_unread};

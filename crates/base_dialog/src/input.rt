@@ -46,7 +46,7 @@ fn answer_source<T: Answerer, I: FileSource, O: ByteSink>(
     ensures reads { I.reads source.new ≤ I.reads source.old + MAX_READS }
     ensures row { O.most_idle sink.new ≤ max (O.most_idle sink.old) MAX_IDLE_WRITES }
     ensures run { IsRun I.reads I.failures O.failures O.idle source.old source.new sink.old sink.new result }
-    ensures met { result ≢ Status.Fault → IsAnsweredFrom T.has_answered answerer I.remaining I.failures O.contents
+    ensures as_asked { result ≢ Status.Fault → IsAnsweredFrom T.has_answered answerer I.remaining I.failures O.contents
         O.failures O.idle source.old source.new sink.old sink.new result }
     ensures words { result ≢ Status.Usage }
 {
@@ -78,7 +78,7 @@ pub fn answer_input<T: Answerer, I: FileSource, O: ByteSink>(
     ensures reads { I.reads source.new ≤ I.reads source.old + MAX_READS }
     ensures row { O.most_idle sink.new ≤ max (O.most_idle sink.old) MAX_IDLE_WRITES }
     ensures run { IsRun I.reads I.failures O.failures O.idle source.old source.new sink.old sink.new result }
-    ensures met { result ≢ Status.Fault → IsAnswered T.has_answered answerer I.remaining I.reads I.failures
+    ensures as_asked { result ≢ Status.Fault → IsAnswered T.has_answered answerer I.remaining I.reads I.failures
         O.contents O.failures O.idle source.old source.new sink.old sink.new result }
     ensures words { result ≢ Status.Usage }
 {

@@ -1,2 +1,3 @@
+-- The definitions that the contracts of base_list speak of.
 pub mod Adding
 pub mod Named

@@ -1,5 +1,6 @@
 -- Values under names, as lists.
-use Rattle.std.specs.Prelude.{◌≢◌, ℕ, List, Option, Some, None, AllPairs, length, nat_le, position, is_some, if◌then◌else◌}
+use Rattle.std.specs.Prelude.{◌≢◌, ℕ, List, Option, Some, None, AllPairs, length, nat_le}
+use Rattle.std.specs.Prelude.{position, is_some, if◌then◌else◌}
 use Rattle.std.specs.List.{find}
 use Rattle.std.specs.Str.{bytes_eq}
 use Rattle.base_list.specs.declared.named.Named.{Named}

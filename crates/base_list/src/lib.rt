@@ -1,4 +1,5 @@
-//! Small lists that every layer needs: octets, values under names, values in room of fixed size, and why something is not added.
+//! Small lists that every layer needs: octets, values under names, values in room of fixed size,
+//! and why something is not added.
 #![tactic(auto)]
 
 mod error;

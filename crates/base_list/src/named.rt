@@ -1,6 +1,7 @@
 //! Values under names.
 
-ghost use Rattle.std.specs.Prelude.{◌≡◌, ◌<◌, ◌++◌, ◌∷◌, [], Some, None, OnOk, OnErr, IfErr, IfSome, length, take, ◌==◌};
+ghost use Rattle.std.specs.Prelude.{◌≡◌, ◌<◌, ◌++◌, ◌∷◌, [], Some, None, OnOk, OnErr, IfErr, IfSome};
+ghost use Rattle.std.specs.Prelude.{length, take, ◌==◌};
 ghost use Rattle.std.specs.List.{slice_get};
 
 use crate::error::{AddError, AddFault};
@@ -31,7 +32,8 @@ impl<T: Drop> From<Refused<T>> for AddError {
 }
 
 /// Values under names of their own, numbered from 0 in order of adding. Only the last ones are ever taken out, so a
-/// place stays that of its name. Looking for a name takes time in proportion to the list: it is for lists that are made once.
+/// place stays that of its name. Looking for a name takes time in proportion to the list:
+/// it is for lists that are made once.
 #[derive(Drop)]
 pub struct NamedList<T> {
     alloc: Global,

@@ -1,3 +1,4 @@
+//! The octets of a value: up to 32 in itself, more in memory.
 ghost use Rattle.std.specs.Prelude.{◌≡◌, ◌==◌, ◌≤◌, length, IsOk, IfOk};
 
 use smallvec::SmallVec;

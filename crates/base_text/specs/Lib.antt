@@ -1,3 +1,4 @@
+-- The definitions that the contracts of base_text speak of.
 pub mod Digits
 pub mod Stops
 pub mod Contents

@@ -1,5 +1,6 @@
 //! Octets from hexadecimal digits, in text that comes in pieces.
-ghost use Rattle.std.specs.Prelude.{◌≡◌, ◌<◌, ◌≤◌, ◌+◌, ◌*◌, ℕ, List, [], ◌∷◌, ◌++◌, false, None, Option, IfSome, length, take};
+ghost use Rattle.std.specs.Prelude.{◌≡◌, ◌<◌, ◌≤◌, ◌+◌, ◌*◌, ℕ, List, [], ◌∷◌, ◌++◌, false, None, Option};
+ghost use Rattle.std.specs.Prelude.{IfSome, length, take};
 ghost use Rattle.std.specs.Option.{ForSome, option_to_list};
 ghost use Rattle.hex.specs.Hex.{hex_digit_value};
 ghost use Rattle.base_text.specs.Digits.{is_blank, is_hex_text, Means};
@@ -85,27 +86,27 @@ fn pair_value(high: u8, low: u8) -> Option<u8>
 
 // What a character means, with the digit before: one octet or none, and a digit may be left over.
 #[derive(Clone, Copy)]
-struct Step {
+struct CharacterMeaning {
     octet: Option<u8>,
     half: Option<u8>,
 }
 
 // What a character means behind a digit or none; nothing where it is neither a digit nor a blank.
-fn character(half: Option<u8>, c: u8) -> Option<Step>
+fn character(half: Option<u8>, c: u8) -> Option<CharacterMeaning>
     requires { ForSome half (λ digit. digit < 16) }
     ensures value { IfSome result (λ step. Means half (c ∷ []) (option_to_list step.octet) step.half) }
     ensures none { result ≡ None → is_hex_text c ≡ false }
 {
     match (digit_value(c), half) {
-        (Some(low), Some(high)) => Some(Step {
+        (Some(low), Some(high)) => Some(CharacterMeaning {
             octet: Some(high * 16 + low),
             half: None,
         }),
-        (Some(high), None) => Some(Step {
+        (Some(high), None) => Some(CharacterMeaning {
             octet: None,
             half: Some(high),
         }),
-        (None, _) if is_blank_character(c) => Some(Step { octet: None, half }),
+        (None, _) if is_blank_character(c) => Some(CharacterMeaning { octet: None, half }),
         (None, _) => None,
     }
 }
@@ -116,8 +117,8 @@ fn is_blank_character(c: u8) -> bool
     matches!(c, b' ' | b'\t' | b'\n' | b'\r')
 }
 
-// Puts the octets of pairs of digits, from a place of a text on, into a piece from a place on: as many as stand there in a row
-// and fit. It says how many.
+// Puts the octets of pairs of digits, from a place of a text on, into a piece from a place on:
+// as many as stand there in a row and fit. It says how many.
 fn run_of_pairs(text: &[u8], piece: &mut [u8], used: usize, made: usize) -> usize
     requires used { used ≤ length text.now }
     requires made { made ≤ length piece.old }

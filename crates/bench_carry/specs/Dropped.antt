@@ -7,7 +7,7 @@ use Rattle.bench_item.specs.declared.item.Item.TheVariants.{Arm, Dial, Disarm, T
 use Rattle.bench_item.specs.declared.opening.Opening.TheVariants as openings
 use Rattle.bench_item.specs.declared.source.Source.{Source}
 use Rattle.bench_line.specs.Line.{LineView}
-use Rattle.bench_line.specs.Lines.{Past, StandFor, one_more, opened, with_step}
+use Rattle.bench_line.specs.Lines.{Past, AreLinesAfter, one_more, opened, with_step}
 use Rattle.bench_line.specs.Talk.{Meaning, meaning}
 use Rattle.bench_queue.specs.Outbox.{OutboxState}
 use Rattle.bench_shard.specs.View.{ShardView}
@@ -45,13 +45,13 @@ with_arrived s shards lines carried timers = record s {
 
 -- the lines go on so, and of each as many items are lifted as before
 pub record LinesGoOn (m : Meaning) (old new : List LineView) (go : List Past → List Past) : Type 0 where
-  pub stands : (pasts : List Past) → StandFor m old pasts → StandFor m new (go pasts)
+  pub stands : (pasts : List Past) → AreLinesAfter m old pasts → AreLinesAfter m new (go pasts)
   pub counts : map (λ l. l.lifted) new ≡ map (λ l. l.lifted) old
 
 -- one more line is there, of which nothing was lifted
 pub record OneLineMore (m : Meaning) (old new : List LineView) (peer generation : ℕ) : Type 0 where
-  pub stands : (pasts : List Past) → StandFor m old pasts
-      → StandFor m new (opened (openings.Dialled peer generation) pasts)
+  pub stands : (pasts : List Past) → AreLinesAfter m old pasts
+      → AreLinesAfter m new (opened (openings.Dialled peer generation) pasts)
   pub counts : map (λ l. l.lifted) new ≡ map (λ l. l.lifted) old ++ 0 ∷ []
 
 -- The item came where it is for: an event to the inbox of its machine's shard, a deed to its line, a dial to the lines,

@@ -1,3 +1,4 @@
+-- The definitions that the contracts of bench_carry speak of.
 pub mod Seen
 pub mod Undone
 pub mod Placed

@@ -21,7 +21,8 @@ books_of pages = map (λ p. p.book) pages
 abbrev pub numbers_of : List Paged → List (ℕ × ℕ)
 numbers_of pages = map (λ p. (p.number, p.pages)) pages
 
--- the parts of a bench whose shards, outboxes, lines, counts of what was dropped of each line, pages and wheel are these
+-- the parts of a bench whose shards, outboxes, lines, counts of what was dropped of each line,
+-- pages and wheel are these
 abbrev pub parts_of : List ShardView → List OutboxState → List LineView → List ℕ → List Paged → Timers → Stored
 parts_of shards outboxes lines carried pages wheel = record {
   shards = shards;

@@ -18,6 +18,8 @@ with_seen s shards outboxes lines = record s { shards = shards; outboxes = views
 -- the source has an outbox, from which an item can be lifted; of lines their crate tells
 abbrev pub CanBeLifted : Source → List ShardView → List OutboxState → Type 0
 CanBeLifted (Line line) shards outboxes = Unit {0}
-CanBeLifted (Shard shard) shards outboxes = (v : ShardView) × (slice_get shards shard ≡ Some v) × (can_lift v.outbox ≡ true)
-CanBeLifted (Desk desk) shards outboxes = (o : OutboxState) × (slice_get outboxes (suc desk) ≡ Some o) × (can_lift o.view ≡ true)
+CanBeLifted (Shard shard) shards outboxes =
+    (v : ShardView) × (slice_get shards shard ≡ Some v) × (can_lift v.outbox ≡ true)
+CanBeLifted (Desk desk) shards outboxes =
+    (o : OutboxState) × (slice_get outboxes (suc desk) ≡ Some o) × (can_lift o.view ≡ true)
 CanBeLifted Clock shards outboxes = (o : OutboxState) × (slice_get outboxes 0 ≡ Some o) × (can_lift o.view ≡ true)

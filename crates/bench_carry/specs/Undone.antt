@@ -24,7 +24,8 @@ at_book place f s = record s { books = changed_at place f s.books }
 
 -- a line, and of it how many items were dropped, never came to be
 abbrev pub unopened : Stored → Stored
-unopened s = record s { lines = line_taken_back changes.Opened s.lines; carried = take (length s.carried - 1) s.carried }
+unopened s =
+    record s { lines = line_taken_back changes.Opened s.lines; carried = take (length s.carried - 1) s.carried }
 
 -- the item that a source lifted last waits again
 abbrev pub unlifted : Source → Stored → Stored
@@ -52,10 +53,12 @@ abbrev pub undone : Undo → Stored → Stored
 undone Opened s = unopened s
 undone (Lines change) s = record s { lines = line_taken_back change s.lines }
 undone (Told desk) s = at_outbox (suc desk) (λ v. without_out v 1) s
-undone (Fired machine old posted) s = at_outbox 0 (λ v. without_out v posted) (record s { timers = with_timer s.timers machine old })
+undone (Fired machine old posted) s =
+    at_outbox 0 (λ v. without_out v posted) (record s { timers = with_timer s.timers machine old })
 undone (Lifted source) s = unlifted source s
 undone (Dropped source arrival) s = unarrived arrival (undropped source s)
-undone (Worked shard change page booked) s = at_shard shard (shard_taken_back change) (at_book page (taken_back_by booked) s)
+undone (Worked shard change page booked) s =
+    at_shard shard (shard_taken_back change) (at_book page (taken_back_by booked) s)
 
 -- the record takes nothing off a page of the book
 abbrev pub BooksNothing : Undo → Type 0

@@ -180,7 +180,8 @@ fn arrive_elsewhere(
     }
 }
 
-/// An item comes where it is for. Answers what takes that back. An event is copied as it is kept; of other items the plain form is small.
+/// An item comes where it is for. Answers what takes that back.
+/// An event is copied as it is kept; of other items the plain form is small.
 pub(crate) fn arrive(
     alloc: Global,
     shards: &mut [ShardState],

@@ -131,7 +131,8 @@ fn unopen(lines: &mut Lines<Listener>, carried: &mut Vec<usize>)
 
 // The item that a source lifted last waits again. Those of a connection are taken back by its own record.
 fn unlift(shards: &mut [ShardState], outboxes: &mut [Outbox], source: Source)
-    ensures { (s : Stored) → with_seen s shards.new outboxes.new s.lines ≡ unlifted source (with_seen s shards.old outboxes.old s.lines) }
+    ensures { (s : Stored)
+        → with_seen s shards.new outboxes.new s.lines ≡ unlifted source (with_seen s shards.old outboxes.old s.lines) }
 {
     match source {
         Source::Line(_) => {}
@@ -193,7 +194,8 @@ pub fn undo_at(
     undo: Undo,
 )
     requires placed { IsPlaced wheel.old undo }
-    requires booked { MayUndo undo (parts_of shards.old outboxes.old lines.old.lines carried.old.items pages.old wheel.old) }
+    requires booked { MayUndo undo (parts_of shards.old outboxes.old lines.old.lines
+        carried.old.items pages.old wheel.old) }
     ensures undone { parts_of shards.new outboxes.new lines.new.lines carried.new.items pages.new wheel.new
         ≡ undone undo (parts_of shards.old outboxes.old lines.old.lines carried.old.items pages.old wheel.old) }
     // What no record says is as it was.

@@ -1,5 +1,6 @@
 //! The item in the hand of a source is dropped where it is for.
-ghost use Rattle.std.specs.Prelude.{◌≡◌, ◌+◌, ◌-◌, ◌<◌, ◌≤◌, ℕ, IfOk, OnErr, OnOk, Some, false, length, slice_get, true};
+ghost use Rattle.std.specs.Prelude.{◌≡◌, ◌+◌, ◌-◌, ◌<◌, ◌≤◌, ℕ, IfOk, OnErr, OnOk, Some, false};
+ghost use Rattle.std.specs.Prelude.{length, slice_get, true};
 ghost use Rattle.bench_item.specs.declared.limit.TheConstants.{MAX_SHARDS};
 ghost use Rattle.bench_queue.specs.Outbox.{OutboxState, dropped_one, has_hand, undropped_one};
 ghost use Rattle.bench_shard.specs.View.{ShardView, with_outbox};

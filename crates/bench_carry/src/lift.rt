@@ -61,7 +61,8 @@ pub fn next_item(
     lines: &Lines<Listener>,
     source: Source,
 ) -> Result<Option<KeptItem>, AllocError>
-    ensures { IfOk result (λ item. (s : Stored) → item ≡ next_of source (with_seen s shards.now outboxes.now lines.now.lines)) }
+    ensures { IfOk result (λ item. (s : Stored)
+        → item ≡ next_of source (with_seen s shards.now outboxes.now lines.now.lines)) }
 {
     match source {
         Source::Line(line) => next_on_line(alloc, lines, line),
@@ -97,8 +98,10 @@ pub fn lift_at(
     source: Source,
 ) -> Undo
     requires { CanBeLifted source shards.old outboxes.old }
-    ensures lifted { (s : Stored) → with_seen s shards.new outboxes.new lines.new.lines ≡ lifted_from source (with_seen s shards.old outboxes.old lines.old.lines) }
-    ensures undone { (s : Stored) → undone result (with_seen s shards.new outboxes.new lines.new.lines) ≡ with_seen s shards.old outboxes.old lines.old.lines }
+    ensures lifted { (s : Stored) → with_seen s shards.new outboxes.new lines.new.lines
+        ≡ lifted_from source (with_seen s shards.old outboxes.old lines.old.lines) }
+    ensures undone { (s : Stored) → undone result (with_seen s shards.new outboxes.new lines.new.lines)
+        ≡ with_seen s shards.old outboxes.old lines.old.lines }
     ensures placed { (wheel : Timers) → IsPlaced wheel result }
     ensures unbooked { BooksNothing result }
     ensures rules { lines.new.rules ≡ lines.old.rules }

@@ -8,7 +8,7 @@ use Rattle.bench_item.specs.declared.opening.Opening.TheVariants as openings
 use Rattle.bench_item.specs.declared.step.Step.TheVariants.{Joined}
 use Rattle.bench_line.specs.Change.{taken_back}
 use Rattle.bench_line.specs.Line.{LineView}
-use Rattle.bench_line.specs.Lines.{LinesView, Past, StandFor, opened}
+use Rattle.bench_line.specs.Lines.{LinesView, Past, AreLinesAfter, opened}
 use Rattle.bench_line.specs.declared.change.Change.TheVariants as changes
 use Rattle.bench_log.specs.Logged.{Logged}
 use Rattle.bench_spec.specs.Items.{InOrder}
@@ -43,8 +43,8 @@ joined-follows settings log paused s order tied could = record {
 
 -- of the new connection nothing is lifted or dropped
 pub joined-goes_on : (w : Inside) (lines : List LineView) → IsSound w → refusal (settings_in w) w.log.entries (paused_in w) Joined ≡ None
-    → ((pasts : List Past) → StandFor (meaning_to w.lines.rules) w.lines.lines pasts
-    → StandFor (meaning_to w.lines.rules) lines (opened openings.Accepted pasts))
+    → ((pasts : List Past) → AreLinesAfter (meaning_to w.lines.rules) w.lines.lines pasts
+    → AreLinesAfter (meaning_to w.lines.rules) lines (opened openings.Accepted pasts))
     → map (λ l. l.lifted) lines ≡ map (λ l. l.lifted) w.lines.lines ++ 0 ∷ [] → GoesOn w Joined lines (w.carried.items ++ 0 ∷ [])
 joined-goes_on w lines sound could stands counts =
     let order = legal_order (settings_in w) w.log.entries sound.whole.legal in
@@ -54,8 +54,8 @@ joined-goes_on w lines sound could stands counts =
       tied =
           tied-joined (settings_in w) w.log.entries (stored_in w) lines sound.whole.tied order
           (subst
-          (λ who. (pasts : List Past) → StandFor (meaning_to who) w.lines.lines pasts
-          → StandFor (meaning_to who) lines (opened openings.Accepted pasts))
+          (λ who. (pasts : List Past) → AreLinesAfter (meaning_to who) w.lines.lines pasts
+          → AreLinesAfter (meaning_to who) lines (opened openings.Accepted pasts))
           sound.listens stands)
           counts;
     }

@@ -17,7 +17,6 @@ use Rattle.bench_item.specs.declared.step.StepFault.{StepFault}
 use Rattle.bench_item.specs.declared.step.StepFault.TheVariants.{Closed, Full, Nothing, Unknown}
 use Rattle.bench_line.specs.Line.{LineView}
 use Rattle.bench_line.specs.Lines as lines
-use Rattle.bench_line.specs.declared.fault.LineFault.TheVariants as faults
 use Rattle.bench_log.specs.Logged.{is_past}
 use Rattle.bench_spec.specs.Items.{lifted, outbox, posts}
 use Rattle.bench_spec.specs.Lines.{line_state, openings}
@@ -67,7 +66,7 @@ crowded-line settings log s (suc n) l tied is =
     ∙ ap (λ (k : ℕ). nat_le MAX_WAITING (length l.outbox - k)) (sym off)
 
 -- as many wait as may, or the log is full
-full-by : (crowded full : Bool) → line_fault_or (if crowded then Some faults.Full else None) full ≡ first_of ((full || crowded, Full) ∷ [])
+full-by : (crowded full : Bool) → line_fault_or (if crowded then Some Full else None) full ≡ first_of ((full || crowded, Full) ∷ [])
 full-by true true = refl
 full-by true false = refl
 full-by false true = refl
@@ -78,20 +77,20 @@ dialled-by : (l : LineView) (state : LineState) (full crowded : Bool) → lines.
     ≡ first_of ((not true, Unknown) ∷ (not (is_open (Some state)) && not (is_dialling (Some state)), Closed) ∷ (not (is_dialling (Some state)), Nothing) ∷ (full || crowded, Full) ∷ [])
 dialled-by l at.Closed full crowded e = refl
 dialled-by l at.Open full crowded e = refl
-dialled-by l (at.Dialling peer) full crowded e = ap (λ (b : Bool). line_fault_or (if b then Some faults.Full else None) full) e ∙ full-by crowded full
+dialled-by l (at.Dialling peer) full crowded e = ap (λ (b : Bool). line_fault_or (if b then Some Full else None) full) e ∙ full-by crowded full
 
 came-by : (l : LineView) (state : LineState) (full crowded : Bool) → lines.is_crowded l ≡ crowded
     → line_fault_or (lines.came_refused l state) full ≡ first_of ((not true, Unknown) ∷ (not (is_open (Some state)), Closed) ∷ (full || crowded, Full) ∷ [])
 came-by l at.Closed full crowded e = refl
-came-by l at.Open full crowded e = ap (λ (b : Bool). line_fault_or (if b then Some faults.Full else None) full) e ∙ full-by crowded full
+came-by l at.Open full crowded e = ap (λ (b : Bool). line_fault_or (if b then Some Full else None) full) e ∙ full-by crowded full
 came-by l (at.Dialling peer) full crowded e = refl
 
 lost-by : (l : LineView) (state : LineState) (full crowded : Bool) → lines.is_crowded l ≡ crowded
     → line_fault_or (lines.lost_refused l state) full
     ≡ first_of ((not true, Unknown) ∷ (not (is_open (Some state)) && not (is_dialling (Some state)), Closed) ∷ (full || crowded, Full) ∷ [])
 lost-by l at.Closed full crowded e = refl
-lost-by l at.Open full crowded e = ap (λ (b : Bool). line_fault_or (if b then Some faults.Full else None) full) e ∙ full-by crowded full
-lost-by l (at.Dialling peer) full crowded e = ap (λ (b : Bool). line_fault_or (if b then Some faults.Full else None) full) e ∙ full-by crowded full
+lost-by l at.Open full crowded e = ap (λ (b : Bool). line_fault_or (if b then Some Full else None) full) e ∙ full-by crowded full
+lost-by l (at.Dialling peer) full crowded e = ap (λ (b : Bool). line_fault_or (if b then Some Full else None) full) e ∙ full-by crowded full
 
 -- a line's dial is not acknowledged
 pub dialled-log : (settings : Settings) (log : List Entry) (paused : List Bool) (s : Stored) (line : ℕ) → IsTied settings log s

@@ -6,7 +6,8 @@ use Rattle.bench_line.specs.Line.{LineView}
 use Rattle.bench_queue.specs.Outbox.{OutboxState}
 use Rattle.bench_shard.specs.View.{ShardView}
 
--- whether the source is there: lines have the numbers from 1 on, each desk has the outbox behind that of its number, the clock the first
+-- whether the source is there: lines have the numbers from 1 on,
+-- each desk has the outbox behind that of its number, the clock the first
 abbrev pub has_source : Source → List ShardView → List OutboxState → List LineView → Bool
 has_source (Line line) shards outboxes lines = nat_lt 0 line && nat_le line (length lines)
 has_source (Shard shard) shards outboxes lines = nat_lt shard (length shards)

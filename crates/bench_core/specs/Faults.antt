@@ -2,8 +2,6 @@
 use Rattle.std.specs.Prelude.{Bool, false, List, Option, Some, None, find, option_map, if◌then◌else◌}
 use Rattle.bench_item.specs.declared.step.StepFault.{StepFault}
 use Rattle.bench_item.specs.declared.step.StepFault.TheVariants as step
-use Rattle.bench_line.specs.declared.fault.LineFault.{LineFault}
-use Rattle.bench_line.specs.declared.fault.LineFault.TheVariants.{Unknown, Closed, Nothing, Full, NoMemory}
 use Rattle.bench_shard.specs.declared.fault.WorkFault.{WorkFault}
 use Rattle.bench_shard.specs.declared.fault.WorkFault.TheVariants as shard
 use Rattle.bench_shard.specs.Refusal.{work_refusal}
@@ -13,17 +11,9 @@ use Rattle.bench_shard.specs.View.{ShardView, with_paused}
 abbrev pub first_of : List (Bool × StepFault) → Option StepFault
 first_of reasons = option_map (λ reason. reason.1) (find (λ reason. reason.0) reasons)
 
--- a line's fault as one of a step
-abbrev pub step_fault : LineFault → StepFault
-step_fault Unknown = step.Unknown
-step_fault Closed = step.Closed
-step_fault Nothing = step.Nothing
-step_fault Full = step.Full
-step_fault NoMemory = step.NoMemory
-
 -- a line's fault, or that the log is full
-abbrev pub line_fault_or : Option LineFault → Bool → Option StepFault
-line_fault_or (Some fault) full = Some (step_fault fault)
+abbrev pub line_fault_or : Option StepFault → Bool → Option StepFault
+line_fault_or (Some fault) full = Some fault
 line_fault_or None full = if full then Some step.Full else None
 
 -- a shard's fault as one of a step: which page it needs is no fault of a step

@@ -10,7 +10,8 @@ use Rattle.bench_spec.specs.Items.{firing}
 
 -- the machine of a number, if it is there
 abbrev pub numbered : List ShardView → ℕ → Option Key
-numbered shards machine = option_and_then (λ v. option_map key_in (slice_get v.names (place_of machine))) (slice_get shards (shard_of machine))
+numbered shards machine = option_and_then (λ v. option_map key_in (slice_get v.names (place_of machine)))
+    (slice_get shards (shard_of machine))
 
 -- what a timer that was armed with a generation fires at it
 abbrev pub fired : Node → List ShardView → ℕ → ℕ → List Item

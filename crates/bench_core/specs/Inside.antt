@@ -54,8 +54,8 @@ IsPageAt count k page = (page.number ≡ k) × (page.pages ≡ count)
 abbrev pub IsShardCount : ℕ → Type 0
 IsShardCount count = (0 < count) × (count ≤ MAX_SHARDS)
 
--- the world is whole, its lines listen as its settings say, each page has its number, it has a page and a shard, and the wheel has places for
--- all timers that are set again where steps are taken back
+-- the world is whole, its lines listen as its settings say, each page has its number, it has a page and a shard, and
+-- the wheel has places for all timers that are set again where steps are taken back
 pub record IsSound (w : Inside) : Type 0 where
   pub whole : IsWhole (settings_in w) w.log.entries (stored_in w) w.undo.records
   pub listens : w.lines.rules ≡ listening (settings_in w)

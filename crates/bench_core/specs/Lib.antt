@@ -1,3 +1,4 @@
+-- The definitions that the contracts of bench_core speak of.
 pub mod Entries
 pub mod Whole
 pub mod Inside

@@ -42,7 +42,8 @@ abbrev pub IsAnother : Tables → Book → ShardView → MachineItem → Handled
 IsAnother tables book v item handled = next_in v.inbox ≡ Some item → BecomesIn tables book v item handled → ⊥
 
 -- work is done on this item, and this became of it
-pub record IsRedone (tables : Tables) (shard page : ℕ) (item : MachineItem) (handled : Handled) (v w : ShardView) (p q : Paged) (log logged : List Entry)
+pub record IsRedone (tables : Tables) (shard page : ℕ) (item : MachineItem) (handled : Handled) (v w : ShardView)
+    (p q : Paged) (log logged : List Entry)
     (undos undone : List Undo) : Type 0 where
   pub done : IsDone tables shard page v w p q log logged undos undone
   pub item_is : done.work.item ≡ item

@@ -18,7 +18,8 @@ shards_at_start peers count = map (λ number. opened number peers) (range_with_l
 -- each of them is what a log without entries says
 abbrev pub AreStanding : Configured → ℕ → Type 0
 AreStanding peers count =
-    (settings : Settings) (number : ℕ) → number < count → peers ≡ peers_of settings.node → Stands settings [] (opened number peers)
+    (settings : Settings) (number : ℕ) → number < count
+    → peers ≡ peers_of settings.node → Stands settings [] (opened number peers)
 
 -- a page of the account book, of so many, with its accounts
 abbrev pub page_at_start : ℕ → List Opened → ℕ → Paged

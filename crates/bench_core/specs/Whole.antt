@@ -8,12 +8,13 @@ use Rattle.bench_views.specs.Stored.{IsTied, Stored}
 pub use Rattle.bench_carry.specs.Parts.{MayUndo}
 use Rattle.bench_carry.specs.Undone.{undone}
 
--- The parts at each place of a log, backwards: those at the last place are what the whole log says, and the last record takes them to those
--- before it.
+-- The parts at each place of a log, backwards: those at the last place are what the whole log says,
+-- and the last record takes them to those before it.
 pub data CanGoBack (settings : Settings) : List Undo → List Entry → Stored → Type 0 where
   AtStart : (s : Stored) → IsTied settings [] s → CanGoBack settings [] [] s
   Behind :
-      (undos : List Undo) (log : List Entry) (old new : Stored) (undo : Undo) (e : Entry) (all : List Undo) (whole : List Entry)
+      (undos : List Undo) (log : List Entry) (old new : Stored) (undo : Undo) (e : Entry) (all : List Undo)
+      (whole : List Entry)
       → CanGoBack settings undos log old
       → IsTied settings whole new
       → MayUndo undo new

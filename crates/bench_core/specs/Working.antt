@@ -23,7 +23,8 @@ abbrev pub Holds : Paged → Paged → Book → Type 0
 Holds old new book = (new.number ≡ old.number) × (new.pages ≡ old.pages) × (new.book ≡ book)
 
 -- what is written where work is done: the shard, the page, the entry, and the record that takes it back
-pub record IsWritten (shard page : ℕ) (work : Work) (v w : ShardView) (p q : Paged) (log logged : List Entry) (undos undone : List Undo) : Type 0 where
+pub record IsWritten (shard page : ℕ) (work : Work) (v w : ShardView) (p q : Paged) (log logged : List Entry)
+    (undos undone : List Undo) : Type 0 where
   pub shard_is : w ≡ after_work v work.item work.handled work.effects.posts
   pub page_is : Holds p q (fold after p.book work.effects.ops)
   pub log_is : logged ≡ log ++ work_entry shard work.item work.handled ∷ []
@@ -32,14 +33,16 @@ pub record IsWritten (shard page : ℕ) (work : Work) (v w : ShardView) (p q : P
   pub undo_is : undone ≡ undos ++ Worked shard change page (length work.effects.ops) ∷ []
 
 -- nothing is written
-pub record IsUnwritten (v w : ShardView) (p q : Paged) (log logged : List Entry) (undos undone : List Undo) : Type 0 where
+pub record IsUnwritten (v w : ShardView) (p q : Paged) (log logged : List Entry)
+    (undos undone : List Undo) : Type 0 where
   pub shard_is : w ≡ v
   pub page_is : Holds p q p.book
   pub log_is : logged ≡ log
   pub undo_is : undone ≡ undos
 
 -- work is done on what the shard is to do next
-pub record IsDone (tables : Tables) (shard page : ℕ) (v w : ShardView) (p q : Paged) (log logged : List Entry) (undos undone : List Undo) : Type 0 where
+pub record IsDone (tables : Tables) (shard page : ℕ) (v w : ShardView) (p q : Paged) (log logged : List Entry)
+    (undos undone : List Undo) : Type 0 where
   pub work : Work
   pub decided : IsWork tables p.book v work
   pub written : IsWritten shard page work v w p q log logged undos undone

@@ -6,7 +6,8 @@ use crate::keeping::Core;
 use bench_carry::undo_at;
 
 impl Core {
-    /// Takes the last step back, where one was taken. Says whether. Which shards are paused stays as it is. Takes no memory.
+    /// Takes the last step back, where one was taken. Says whether.
+    /// Which shards are paused stays as it is. Takes no memory.
     pub fn back(&mut self) -> bool
         ensures ok { IsTrue result → GoesBackTo self.old self.new }
         ensures none { IsFalse result → (self.old.log ≡ []) × (self.new ≡ self.old) }

@@ -36,7 +36,8 @@ fn timer_kind(role: Role) -> &'static [u8]
 
 /// The event of a timer of a machine of that role; none where the laws have no such kind. Takes no memory.
 fn timer_event(laws: &LawBook, role: Role) -> Option<Event>
-    ensures { result ≡ option_map (λ kind. record { kind = kind; facts = no_facts }) (place_of (timer_kind role) laws.now.kinds) }
+    ensures { result
+        ≡ option_map (λ kind. record { kind = kind; facts = no_facts }) (place_of (timer_kind role) laws.now.kinds) }
 {
     laws.known();
     let kind = laws.kinds().find(timer_kind(role))?;
@@ -53,7 +54,8 @@ fn firing_item(
     key: Key,
     generation: u64,
 ) -> Result<Option<Item>, AllocError>
-    ensures { IfOk result (λ item. (peers : Configured) → option_to_list item ≡ firing (node_of laws.now peers) generation key) }
+    ensures { IfOk result (λ item. (peers : Configured)
+        → option_to_list item ≡ firing (node_of laws.now peers) generation key) }
 {
     let Some(event) = timer_event(laws, key.role) else {
         return Ok(None);
@@ -94,7 +96,8 @@ fn fired_item(
     machine: u64,
     generation: u64,
 ) -> Result<Option<Item>, AllocError>
-    ensures { IfOk result (λ item. (peers : Configured) → option_to_list item ≡ fired (node_of laws.now peers) shards.now machine generation) }
+    ensures { IfOk result (λ item. (peers : Configured)
+        → option_to_list item ≡ fired (node_of laws.now peers) shards.now machine generation) }
 {
     match key_numbered(alloc, shards, machine)? {
         None => Ok(None),
@@ -119,7 +122,8 @@ fn fired_entry(
     generation: u64,
     item: Option<Item>,
 ) -> Result<KeptEntry, AllocError>
-    ensures { IfOk result (λ kept. kept ≡ record { step = steps.Fired machine generation; item = item; handled = None }) }
+    ensures { IfOk result (λ kept. kept
+        ≡ record { step = steps.Fired machine generation; item = item; handled = None }) }
 {
     let entry = Entry {
         step: Step::Fired {

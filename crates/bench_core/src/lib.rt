@@ -15,7 +15,7 @@
 //! | `back` | the last step is taken back |
 //! | `pause` | a shard is paused, and goes on |
 //! | `step` | a step is taken, or refused |
-//! | `replay`, `replay_carried`, `replay_work` | an entry is added as it is: of any step, of one that works no shard, of work |
+//! | `replay`, `replay_carried`, `replay_work` | an entry is added as it is: of any step, without work, of work |
 #![tactic(auto)]
 
 mod back;

@@ -1,5 +1,6 @@
 //! What a world shows: each look is a view of its log.
-ghost use Rattle.std.specs.Prelude.{◌≡◌, ◌%◌, ◌+◌, ◌<◌, ◌≤◌, IfOk, IfSome, None, Some, length, map, option_copied, option_map, slice_get};
+ghost use Rattle.std.specs.Prelude.{◌≡◌, ◌%◌, ◌+◌, ◌<◌, ◌≤◌, IfOk, IfSome, None, Some, length, map};
+ghost use Rattle.std.specs.Prelude.{option_copied, option_map, slice_get};
 ghost use Rattle.std.specs.Option.{option_and_then};
 ghost use Rattle.acct_book.specs.Book.{Paged, totals_of};
 ghost use Rattle.bench_item.specs.Keys.{home, number_at, shard_of};
@@ -61,7 +62,8 @@ fn number_at(shard: usize, place: usize) -> u64
 /// The number of a machine, if it is there.
 fn number_in(shards: &[ShardState], key: &Key) -> Option<u64>
     requires { IsShardCount (length shards.now) }
-    ensures { result ≡ option_and_then (λ v. option_map (number_at (home (length shards.now) key.now.name)) (place_in v key.now))
+    ensures { result
+        ≡ option_and_then (λ v. option_map (number_at (home (length shards.now) key.now.name)) (place_in v key.now))
         (slice_get shards.now (home (length shards.now) key.now.name)) }
 {
     let home = home(shards.len(), key);
@@ -78,7 +80,8 @@ fn number_in(shards: &[ShardState], key: &Key) -> Option<u64>
 /// What stands on an account, by its page of so many.
 fn totals_in(pages: &[Page], count: u64, account: u64) -> Option<Totals>
     requires { 0 < count }
-    ensures value { (page : Paged) → slice_get pages.now (account % count) ≡ Some page → result ≡ totals_of page.book account }
+    ensures value { (page : Paged) → slice_get pages.now (account % count) ≡ Some page
+        → result ≡ totals_of page.book account }
     ensures bound { IfSome result (λ t. t.reserved + t.debited ≤ t.given) }
 {
     match pages.get((account % count) as usize) {

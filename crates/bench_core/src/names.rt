@@ -12,8 +12,8 @@ use bench_item::{MAX_MACHINES, Role};
 use bench_move::Roles;
 use bench_shard::{LentKey, ShardState};
 
-/// The names that a world shows, as it lends them: those of the kinds of events and of the states of each role's table, by their places,
-/// and the keys of the machines, by their numbers. Nothing is copied.
+/// The names that a world shows, as it lends them: those of the kinds of events and of the states of each role's table,
+/// by their places, and the keys of the machines, by their numbers. Nothing is copied.
 ///
 /// Looks: `kinds`, `states`, `machine`.
 #[derive(Clone, Copy)]
@@ -50,10 +50,12 @@ impl<'a> LentNames<'a> {
 }
 
 impl Core {
-    /// The names that the world shows: those of its kinds of events, of the states of its tables and of its machines. Takes no memory.
+    /// The names that the world shows: those of its kinds of events,
+    /// of the states of its tables and of its machines. Takes no memory.
     pub fn names(&self) -> LentNames<'_>
         ensures kinds { kinds_lent result ≡ (names_of self.now.settings self.now.log).kinds }
-        ensures states { (role : OfRole) → states_lent result role ≡ (names_of self.now.settings self.now.log).states role }
+        ensures states { (role : OfRole)
+            → states_lent result role ≡ (names_of self.now.settings self.now.log).states role }
         ensures machines { machines_lent result ≡ (names_of self.now.settings self.now.log).machines }
     {
         LentNames {

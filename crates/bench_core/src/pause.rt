@@ -5,7 +5,8 @@ ghost use Rattle.bench_spec.specs.Taken.{with_paused};
 use crate::keeping::Core;
 
 impl Core {
-    /// A shard stops: it handles nothing until it goes on. Says whether there is one of that number; else nothing changes.
+    /// A shard stops: it handles nothing until it goes on.
+    /// Says whether there is one of that number; else nothing changes.
     pub fn pause(&mut self, shard: u32) -> bool
         ensures there { result ≡ nat_lt shard self.old.settings.node.shards }
         ensures paused { IsTrue result → self.new ≡ with_paused self.old (slice_set self.old.paused shard true) }

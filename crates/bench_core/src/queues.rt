@@ -1,5 +1,6 @@
 //! What waits, how many machines there are, and how many desks.
-ghost use Rattle.std.specs.Prelude.{◌≡◌, ◌<◌, ◌≤◌, [], IfOk, None, Some, length, option_map, option_to_list, slice_get, true};
+ghost use Rattle.std.specs.Prelude.{◌≡◌, ◌<◌, ◌≤◌, [], IfOk, None, Some, length, option_map};
+ghost use Rattle.std.specs.Prelude.{option_to_list, slice_get, true};
 ghost use Rattle.std.specs.Option.{option_map_or};
 ghost use Rattle.bench_queue.specs.Inbox.{items_in};
 ghost use Rattle.bench_spec.specs.Refusal.{is_source};
@@ -43,10 +44,11 @@ impl Core {
         self.desk_count
     }
 
-    /// How many machines a shard has, if it is there: that at place `k` has the number `shard · 4,096 + k`, and `key` has its key. Takes no
-    /// memory.
+    /// How many machines a shard has, if it is there:
+    /// that at place `k` has the number `shard · 4,096 + k`, and `key` has its key. Takes no memory.
     pub fn machines(&self, shard: u32) -> Option<usize>
-        ensures there { shard < self.now.settings.node.shards → result ≡ Some (length ((shown self.now).machines shard)) }
+        ensures there { shard < self.now.settings.node.shards
+            → result ≡ Some (length ((shown self.now).machines shard)) }
         ensures none { self.now.settings.node.shards ≤ shard → result ≡ None }
     {
         machines_in(&self.shards, shard)
@@ -54,13 +56,15 @@ impl Core {
 
     /// The items that wait at a shard, oldest first; none where it is not there.
     pub fn inbox(&self, shard: u32) -> Result<Series<MachineItem>, AllocError>
-        ensures there { IfOk result (λ items. shard < self.now.settings.node.shards → items ≡ (shown self.now).inbox_of shard) }
+        ensures there { IfOk result (λ items. shard < self.now.settings.node.shards
+            → items ≡ (shown self.now).inbox_of shard) }
         ensures none { IfOk result (λ items. self.now.settings.node.shards ≤ shard → items ≡ []) }
     {
         inbox_in(self.alloc, &self.shards, shard)
     }
 
-    /// The item in a source's hand, if one lies there: lifted, and not dropped yet. Looked at only where the source is there.
+    /// The item in a source's hand, if one lies there: lifted, and not dropped yet.
+    /// Looked at only where the source is there.
     pub fn hand(&self, source: Source) -> Result<Option<Item>, AllocError>
         ensures { IfOk result (λ item. is_source self.now.settings self.now.log source ≡ true
             → option_to_list item ≡ (shown self.now).hand_of source) }

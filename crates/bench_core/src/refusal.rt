@@ -1,16 +1,17 @@
 //! Why a step is refused, memory aside.
-ghost use Rattle.std.specs.Prelude.{◌≡◌, ◌==◌, ℕ, List, [], Some, None, false, length, nat_lt, slice_get, if◌then◌else◌};
+ghost use Rattle.std.specs.Prelude.{◌≡◌, ◌==◌, ℕ, List, [], Some, None, false, length};
+ghost use Rattle.std.specs.Prelude.{nat_lt, slice_get, if◌then◌else◌};
 ghost use Rattle.std.specs.FinMap as map;
 ghost use Rattle.std.specs.Option.{option_map_or};
 ghost use Rattle.bench_item.specs.Keys.{shard_of};
 ghost use Rattle.bench_item.specs.declared.step.Step.TheVariants as steps;
 ghost use Rattle.bench_spec.specs.Refusal.{refusal};
 ghost use Rattle.bench_views.specs.Timers.{generation_of};
-ghost use Rattle.bench_core.specs.Faults.{line_fault_or, shard_fault, step_fault, unpaused_shard_fault, work_fault, work_fault_or};
+ghost use Rattle.bench_core.specs.Faults.{line_fault_or, shard_fault};
+ghost use Rattle.bench_core.specs.Faults.{unpaused_shard_fault, work_fault, work_fault_or};
 
 use crate::keeping::Core;
 use bench_item::{MAX_MACHINES, StepFault};
-use bench_line::LineFault;
 use bench_shard::{ShardState, WorkFault};
 use tick_wheel::Wheel;
 
@@ -21,25 +22,12 @@ pub(crate) fn held(holds: bool, fault: StepFault, rest: Option<StepFault>) -> Op
     if holds { Some(fault) } else { rest }
 }
 
-/// A line's fault as one of a step.
-fn step_fault(fault: LineFault) -> StepFault
-    ensures { result ≡ step_fault fault }
-{
-    match fault {
-        LineFault::Unknown => StepFault::Unknown,
-        LineFault::Closed => StepFault::Closed,
-        LineFault::Nothing => StepFault::Nothing,
-        LineFault::Full => StepFault::Full,
-        LineFault::NoMemory => StepFault::NoMemory,
-    }
-}
-
 /// A line's fault, or that the log is full.
-fn line_fault_or(fault: Option<LineFault>, full: bool) -> Option<StepFault>
+fn line_fault_or(fault: Option<StepFault>, full: bool) -> Option<StepFault>
     ensures { result ≡ line_fault_or fault full }
 {
     match fault {
-        Some(fault) => Some(step_fault(fault)),
+        Some(fault) => Some(fault),
         None => held(full, StepFault::Full, None),
     }
 }
@@ -125,7 +113,8 @@ impl Core {
 
     // Why no octets come on a line.
     pub(crate) fn came_fault(&self, line: u32) -> Option<StepFault>
-        ensures { (piece : List ℕ) → result ≡ refusal self.now.settings self.now.log self.now.paused (steps.Came line piece) }
+        ensures { (piece : List ℕ)
+            → result ≡ refusal self.now.settings self.now.log self.now.paused (steps.Came line piece) }
     {
         let fault = self.lines.came_fault(line as u64);
         let full = self.log.is_full();

@@ -54,7 +54,8 @@ impl Core {
     ) -> Result<(), ReplayError>
         requires { IsCarried step }
         ensures ok { OnOk result (Replays self.old self.new (whole_entry step item handled)) }
-        ensures illegal { IsErrOf result ReplayError.Illegal → MayFollow self.old.settings self.old.log (whole_entry step item handled) → ⊥ }
+        ensures illegal { IsErrOf result ReplayError.Illegal
+            → MayFollow self.old.settings self.old.log (whole_entry step item handled) → ⊥ }
         ensures err { OnErr result (self.new ≡ self.old) }
     {
         if handled.is_some() {
@@ -72,7 +73,8 @@ impl Core {
         room: &mut Stepped,
     ) -> Result<(), ReplayError>
         ensures ok { OnOk result (Replays self.old self.new (whole_entry (steps.Work shard) item handled)) }
-        ensures illegal { IsErrOf result ReplayError.Illegal → MayFollow self.old.settings self.old.log (whole_entry (steps.Work shard) item handled) → ⊥ }
+        ensures illegal { IsErrOf result ReplayError.Illegal
+            → MayFollow self.old.settings self.old.log (whole_entry (steps.Work shard) item handled) → ⊥ }
         ensures err { OnErr result (self.new ≡ self.old) }
     {
         match work_parts(item, handled) {
@@ -81,9 +83,10 @@ impl Core {
         }
     }
 
-    /// Adds an entry as it is, where it may follow those before it, whatever is paused. The callbacks are not asked: where a shard works,
-    /// what the entry says of its item is checked by the laws. `room` is where a move is checked, and what stands there is gone. An entry
-    /// is found to be another than the one that may follow by making that one, which takes memory: want of memory may be told first.
+    /// Adds an entry as it is, where it may follow those before it, whatever is paused. The callbacks are not asked:
+    /// where a shard works, what the entry says of its item is checked by the laws. `room` is where a move is checked,
+    /// and what stands there is gone. An entry is found to be another than the one that may follow by making that one,
+    /// which takes memory: want of memory may be told first.
     pub fn replay(&mut self, entry: Entry, room: &mut Stepped) -> Result<(), ReplayError>
         ensures ok { OnOk result (Replays self.old self.new entry) }
         ensures illegal { IsErrOf result ReplayError.Illegal → MayFollow self.old.settings self.old.log entry → ⊥ }

@@ -77,7 +77,8 @@ impl Core {
     ) -> Result<(), ReplayError>
         requires { IsCarried step }
         ensures ok { OnOk result (Replays self.old self.new (carried_entry step item.now)) }
-        ensures illegal { IsErrOf result ReplayError.Illegal → MayFollow self.old.settings self.old.log (carried_entry step item.now) → ⊥ }
+        ensures illegal { IsErrOf result ReplayError.Illegal
+            → MayFollow self.old.settings self.old.log (carried_entry step item.now) → ⊥ }
         ensures err { OnErr result (self.new ≡ self.old) }
     {
         if self.refusal(&step).is_some() {

@@ -37,9 +37,11 @@ fn redo_task(
     room: &mut Stepped,
 ) -> Result<(), ReplayError>
     requires task { IsTask roles.now.laws shard.old task.now }
-    ensures ok { OnOk result (IsRedone roles.now number place item handled shard.old shard.new page.old page.new log.old.entries log.new.entries undo.old.records undo.new.records) }
+    ensures ok { OnOk result (IsRedone roles.now number place item handled shard.old shard.new page.old page.new
+        log.old.entries log.new.entries undo.old.records undo.new.records) }
     ensures illegal { IsErrOf result ReplayError.Illegal → IsAnother roles.now page.old.book shard.old item handled }
-    ensures err { OnErr result (IsUnwritten shard.old shard.new page.old page.new log.old.entries log.new.entries undo.old.records undo.new.records) }
+    ensures err { OnErr result (IsUnwritten shard.old shard.new page.old page.new log.old.entries log.new.entries
+        undo.old.records undo.new.records) }
 {
     if !are_machine_items_same(&task.item, &item) {
         return Err(ReplayError::Illegal);
@@ -69,7 +71,8 @@ impl Core {
     ) -> Result<(), ReplayError>
         requires { refusal self.old.settings self.old.log [] (steps.Work shard) ≡ None }
         ensures ok { OnOk result (Replays self.old self.new (work_entry shard item handled)) }
-        ensures illegal { IsErrOf result ReplayError.Illegal → MayFollow self.old.settings self.old.log (work_entry shard item handled) → ⊥ }
+        ensures illegal { IsErrOf result ReplayError.Illegal
+            → MayFollow self.old.settings self.old.log (work_entry shard item handled) → ⊥ }
         ensures err { OnErr result (self.new ≡ self.old) }
     {
         let alloc = self.alloc;
@@ -103,7 +106,8 @@ impl Core {
         room: &mut Stepped,
     ) -> Result<(), ReplayError>
         ensures ok { OnOk result (Replays self.old self.new (work_entry shard item handled)) }
-        ensures illegal { IsErrOf result ReplayError.Illegal → MayFollow self.old.settings self.old.log (work_entry shard item handled) → ⊥ }
+        ensures illegal { IsErrOf result ReplayError.Illegal
+            → MayFollow self.old.settings self.old.log (work_entry shard item handled) → ⊥ }
         ensures err { OnErr result (self.new ≡ self.old) }
     {
         if self.unpaused_work_fault(shard).is_some() {

@@ -76,8 +76,9 @@ impl Core {
         }
     }
 
-    /// Takes a step, or refuses it: for the first of its reasons, and for memory only where there is none. The registries' callbacks are
-    /// asked where a shard works; `room` is where a move is decided, and what stands there is gone.
+    /// Takes a step, or refuses it: for the first of its reasons, and for memory only where there is none.
+    /// The registries' callbacks are asked where a shard works; `room` is where a move is decided, and
+    /// what stands there is gone.
     pub fn step(
         &mut self,
         registries: &[Registry],

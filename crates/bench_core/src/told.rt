@@ -38,7 +38,8 @@ fn is_for_peer(laws: &LawBook, kind: u8) -> bool
 
 /// Whether a desk may tell a client's session an event of that kind.
 fn is_for_client(laws: &LawBook, kind: u8) -> bool
-    ensures { result ≡ list_any (is_kind_of laws.now kind) (codes "Begin" ∷ codes "More" ∷ codes "End" ∷ codes "One" ∷ []) }
+    ensures { result
+        ≡ list_any (is_kind_of laws.now kind) (codes "Begin" ∷ codes "More" ∷ codes "End" ∷ codes "One" ∷ []) }
 {
     is_kind_of(laws, kind, b"Begin")
         || is_kind_of(laws, kind, b"More")
@@ -72,7 +73,8 @@ fn is_session(name: &[u8]) -> bool
 
 /// Whether a desk may tell a machine an event of that kind.
 fn may_tell(laws: &LawBook, peers: &Peers, key: &Key, kind: u8) -> bool
-    ensures { (settings : Settings) → settings.node ≡ node_of laws.now peers.now → result ≡ may_tell settings key.now kind }
+    ensures { (settings : Settings) → settings.node ≡ node_of laws.now peers.now
+        → result ≡ may_tell settings key.now kind }
 {
     let name = key.name.as_slice();
     match key.role {

@@ -70,7 +70,8 @@ fn waiting_of(
     lines: &Lines<Listener>,
     source: Source,
 ) -> Result<Series<Item>, AllocError>
-    ensures { IfOk result (λ items. (s : Stored) → items ≡ waiting_of source (with_seen s shards.now outboxes.now lines.now.lines)) }
+    ensures { IfOk result (λ items. (s : Stored)
+        → items ≡ waiting_of source (with_seen s shards.now outboxes.now lines.now.lines)) }
 {
     match source {
         Source::Line(line) => Ok(Series::new(waiting_on(alloc, lines, line as u64)?)),
@@ -83,7 +84,8 @@ fn waiting_of(
 impl Core {
     /// The items that a source has put out and that were not lifted, oldest first; none where it is not there.
     pub fn outbox(&self, source: Source) -> Result<Series<Item>, AllocError>
-        ensures there { IfOk result (λ items. is_source self.now.settings self.now.log source ≡ true → items ≡ (shown self.now).outbox_of source) }
+        ensures there { IfOk result (λ items. is_source self.now.settings self.now.log source ≡ true
+            → items ≡ (shown self.now).outbox_of source) }
         ensures none { IfOk result (λ items. is_source self.now.settings self.now.log source ≡ false → items ≡ []) }
     {
         waiting_of(

@@ -55,8 +55,10 @@ pub(crate) fn write(
     work: &Work,
 ) -> Result<(), AllocError>
     requires { Fits shard.old work.now.item work.now.handled }
-    ensures ok { OnOk result (IsWritten number place work.now shard.old shard.new page.old page.new log.old.entries log.new.entries undo.old.records undo.new.records) }
-    ensures err { OnErr result (IsUnwritten shard.old shard.new page.old page.new log.old.entries log.new.entries undo.old.records undo.new.records) }
+    ensures ok { OnOk result (IsWritten number place work.now shard.old shard.new page.old page.new log.old.entries
+        log.new.entries undo.old.records undo.new.records) }
+    ensures err { OnErr result (IsUnwritten shard.old shard.new page.old page.new log.old.entries log.new.entries
+        undo.old.records undo.new.records) }
 {
     let kept = KeptEntry::keep_work(alloc, number, &work.item, &work.handled)?;
     let ops = work.effects.ops.as_slice();
@@ -91,8 +93,10 @@ fn do_task(
 ) -> Result<(), AllocError>
     requires task { IsTask roles.now.laws shard.old task }
     requires laws { registry.now.book ≡ roles.now.laws }
-    ensures ok { OnOk result (IsDone roles.now number place shard.old shard.new page.old page.new log.old.entries log.new.entries undo.old.records undo.new.records) }
-    ensures err { OnErr result (IsUnwritten shard.old shard.new page.old page.new log.old.entries log.new.entries undo.old.records undo.new.records) }
+    ensures ok { OnOk result (IsDone roles.now number place shard.old shard.new page.old page.new log.old.entries
+        log.new.entries undo.old.records undo.new.records) }
+    ensures err { OnErr result (IsUnwritten shard.old shard.new page.old page.new log.old.entries log.new.entries
+        undo.old.records undo.new.records) }
 {
     let work = shard.prepare(alloc, roles, registry, page, task, room)?;
     write(alloc, number, shard, place, page, log, undo, &work)

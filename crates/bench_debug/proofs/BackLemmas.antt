@@ -11,7 +11,7 @@ use Rattle.bench_spec.specs.Taken.{GoesBackTo, Run, Takes}
 use Rattle.bench_spec.proofs.BackLemmas.{back_from_step}
 use Rattle.debug_text.specs.declared.command.CommandFault.{CommandFault}
 use Rattle.debug_text.specs.declared.command.CommandFault.TheVariants.{NoMemory}
-use Rattle.script_text.specs.declared.asked.Asked.{Asked}
+use Rattle.script_text.specs.declared.asked.ScriptStep.{ScriptStep}
 use Rattle.bench_debug.specs.Asking.{IsRefused, refusal_with, step_of}
 use Rattle.bench_debug.specs.Debug.{Advances, Debugging, Refuses, StepsTo, refused_at, with_back, with_taken}
 
@@ -54,7 +54,7 @@ on_ok (Ok x) P e h = h
 on_ok (Err x) P e h = absurd cc
 
 -- the step that a script asks for was taken, and its entry is the last one
-pub advanced_by : (old new : Debugging) (ask : Asked) (step : Step) → slice_get old.script old.next ≡ Some ask
+pub advanced_by : (old new : Debugging) (ask : ScriptStep) (step : Step) → slice_get old.script old.next ≡ Some ask
     → step_of old.world ask ≡ Some step → Takes old.world new.world step → new ≡ with_taken old new.world → Advances old new
 advanced_by old new ask step asks asked takes moved = (
   takes.entry,
@@ -74,12 +74,12 @@ read_back old new e read s is =
     subst (StepsTo old new) same s
 
 -- a step was refused; or memory was wanting
-pub refused_by : (old new : Debugging) (ask : Asked) (fault : CommandFault) → slice_get old.script old.next ≡ Some ask
+pub refused_by : (old new : Debugging) (ask : ScriptStep) (fault : CommandFault) → slice_get old.script old.next ≡ Some ask
     → IsRefused old.world ask fault → new ≡ refused_at old fault → Refuses old new fault
 refused_by old new ask fault asks refused moved =
-    (subst (λ (o : Option Asked). IsSomeAnd o (λ a. IsRefused old.world a fault)) (sym asks) refused, moved)
+    (subst (λ (o : Option ScriptStep). IsSomeAnd o (λ a. IsRefused old.world a fault)) (sym asks) refused, moved)
 
-pub short_at : (old new : Debugging) (ask : Asked) (step : Step) → slice_get old.script old.next ≡ Some ask
+pub short_at : (old new : Debugging) (ask : ScriptStep) (step : Step) → slice_get old.script old.next ≡ Some ask
     → step_of old.world ask ≡ Some step → refusal old.world.settings old.world.log old.world.paused step ≡ None → new ≡ old
     → Refuses old new NoMemory
 short_at old new ask step asks asked could same =

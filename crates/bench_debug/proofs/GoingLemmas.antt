@@ -5,7 +5,7 @@ use Rattle.std.specs.List.{range_with_len}
 use Rattle.std.proofs.lemmas.List.{drop-append-le, drop_all, length-append, take-append-le, take_all}
 use Rattle.bench_item.specs.declared.entry.Entry.{Entry}
 use Rattle.bench_spec.specs.Taken.{Run, with_log}
-use Rattle.script_text.specs.declared.asked.Asked.{Asked}
+use Rattle.script_text.specs.declared.asked.ScriptStep.{ScriptStep}
 use Rattle.bench_debug.specs.Asking.{TakesAsked}
 use Rattle.bench_debug.specs.Debug.{Debugging, Forward, Passed, StepsTo, Stopped, TakesAt, entries_from, place_of, run_at}
 use Rattle.bench_debug.specs.Meets.{first_met, stops}
@@ -53,11 +53,11 @@ forward_more old mid new e count f s =
     subst (λ (a : Run). IsSomeAnd (slice_get old.script (old.next + k)) (TakesAsked a (run_at new.world (place_of old + k + 1)))) (sym (front (place_of old + k) (omega (arith, at, h))))
     (subst (λ (b : Run). IsSomeAnd (slice_get old.script (old.next + k)) (TakesAsked (run_at mid.world (place_of old + k)) b)) (sym (front (place_of old + k + 1) (omega (arith, at, h)))) (f.each k h)) in
     let asked : slice_get old.script (old.next + count) ≡ Some s.ask =
-    sym (ap (λ (xs : List Asked). slice_get xs mid.next) f.script ∙ ap (λ (n : ℕ). slice_get old.script n) f.next) ∙ s.asks in
+    sym (ap (λ (xs : List ScriptStep). slice_get xs mid.next) f.script ∙ ap (λ (n : ℕ). slice_get old.script n) f.next) ∙ s.asks in
     let before : mid.world ≡ run_at new.world (place_of old + count) = sym (front (place_of old + count) (omega (arith, at)) ∙ run_whole mid.world (place_of old + count) at) in
     let after : new.world ≡ run_at new.world (place_of old + count + 1) = sym (run_whole new.world (place_of old + count + 1) (omega (arith, one, at))) in
     let last : TakesAt old new count =
-    subst (λ (o : Option Asked). IsSomeAnd o (TakesAsked (run_at new.world (place_of old + count)) (run_at new.world (place_of old + count + 1)))) (sym asked)
+    subst (λ (o : Option ScriptStep). IsSomeAnd o (TakesAsked (run_at new.world (place_of old + count)) (run_at new.world (place_of old + count + 1)))) (sym asked)
     (subst (λ (a : Run). TakesAsked a (run_at new.world (place_of old + count + 1)) s.ask) before (subst (λ (b : Run). TakesAsked mid.world b s.ask) after s.taken)) in
     record {
       place = omega (arith, one, at);

@@ -1,6 +1,8 @@
 -- What the commands of a debugger do to its place and its script, and what each replies, or why it is refused.
-use Rattle.std.specs.Prelude.{◌≡◌, ◌≢◌, ℕ, ◌+◌, ◌-◌, ◌<◌, ◌==◌, ◌||◌, not, nat_le, Bool, false, List, [], ◌∷◌, ◌++◌, filter, find, length, drop, take, reverse}
-use Rattle.std.specs.Prelude.{Option, None, Some, is_none, option_map, slice_get, slice_index, unwrap_or, IsSomeAnd, MatchBool, Result, Ok, Err, ◌⊎◌}
+use Rattle.std.specs.Prelude.{◌≡◌, ◌≢◌, ℕ, ◌+◌, ◌-◌, ◌<◌, ◌==◌, ◌||◌, not, nat_le, Bool, false, List, [], ◌∷◌, ◌++◌}
+use Rattle.std.specs.Prelude.{filter, find, length, drop, take, reverse}
+use Rattle.std.specs.Prelude.{Option, None, Some, is_none, option_map, slice_get, slice_index, unwrap_or, IsSomeAnd}
+use Rattle.std.specs.Prelude.{MatchBool, Result, Ok, Err, ◌⊎◌}
 use Rattle.std.specs.List.{list_any, range_with_len}
 use Rattle.bench_item.specs.declared.entry.Entry.{Entry}
 use Rattle.bench_item.specs.declared.key.Key.{Key}
@@ -23,10 +25,13 @@ use Rattle.debug_text.specs.declared.command.Breakpoint.TheVariants.{Row}
 use Rattle.debug_text.specs.declared.command.Command.{Command}
 use Rattle.debug_text.specs.declared.command.Command.TheVariants as commands
 use Rattle.debug_text.specs.declared.command.CommandFault.{CommandFault}
-use Rattle.debug_text.specs.declared.command.CommandFault.TheVariants.{AtStart, BadNumber, NoMemory, NoSuchAccount, NoSuchBreakpoint, NoSuchMachine, NoSuchRow, StepRefused, TooManyBreakpoints}
+use Rattle.debug_text.specs.declared.command.CommandFault.TheVariants.{AtStart, BadNumber, NoMemory, NoSuchAccount}
+use Rattle.debug_text.specs.declared.command.CommandFault.TheVariants.{NoSuchBreakpoint, NoSuchMachine, NoSuchRow}
+use Rattle.debug_text.specs.declared.command.CommandFault.TheVariants.{StepRefused, TooManyBreakpoints}
 use Rattle.debug_text.specs.declared.reply.Reply.{Reply}
-use Rattle.debug_text.specs.declared.reply.Reply.TheVariants.{Text, End, At, StoppedAt, EndAt, WasSet, WasCleared, Stands, AreTotals, IsAt, Help}
-use Rattle.script_text.specs.declared.asked.Asked.{Asked}
+use Rattle.debug_text.specs.declared.reply.Reply.TheVariants.{Text, End, At, StoppedAt, EndAt, WasSet, WasCleared}
+use Rattle.debug_text.specs.declared.reply.Reply.TheVariants.{Stands, AreTotals, IsAt, Help}
+use Rattle.script_text.specs.declared.asked.ScriptStep.{ScriptStep}
 use Rattle.sent_text.specs.Sent.{Tells}
 use Rattle.tab_print.specs.Printed.{row_line, widths_of}
 use Rattle.tab_text.specs.Contents.{Contents}
@@ -41,7 +46,7 @@ use Rattle.bench_debug.specs.declared.debugger.TheConstants.{MAX_NUMBER}
 -- back the place in the script; and the breakpoints that are set, with how many ever were
 pub record Debugging : Type 0 where
   pub world : Run
-  pub script : List Asked
+  pub script : List ScriptStep
   pub next : ℕ
   pub taken : List ℕ
   pub set : List SetBreakpoint
@@ -58,7 +63,7 @@ debugging world progress = record {
 }
 
 -- a debugger of a world, at the start of its script
-abbrev pub started : Run → List Asked → Debugging
+abbrev pub started : Run → List ScriptStep → Debugging
 started world script = record { world = world; script = script; next = 0; taken = []; set = []; count = 0 }
 
 -- how many steps are taken
@@ -74,7 +79,7 @@ with_passed d = record d { next = d.next + 1 }
 
 -- the step that the script asks for next was taken, and this is its entry
 pub record StepsTo (old new : Debugging) (entry : Entry) : Type 0 where
-  pub ask : Asked
+  pub ask : ScriptStep
   pub asks : slice_get old.script old.next ≡ Some ask
   pub taken : TakesAsked old.world new.world ask
   pub is_entry : taken.takes.entry ≡ entry
@@ -199,7 +204,8 @@ GoesTo old new place result =
 -- `rgo`: back to the place before the last entry that meets a breakpoint, or to the start where none does; there it is
 -- refused, and elsewhere for want of memory alone
 abbrev pub GoesBackMet : Debugging → Debugging → Result Reply CommandFault → Type 0
-GoesBackMet old new (Ok (StoppedAt place number)) = LastMet old.set old.world.log place number × (new ≡ gone_back old place)
+GoesBackMet old new (Ok (StoppedAt place number)) =
+    LastMet old.set old.world.log place number × (new ≡ gone_back old place)
 GoesBackMet old new (Ok (At place)) =
     (place ≡ 0) × (old.world.log ≢ []) × MeetsNone old.set old.world.log × (new ≡ gone_back old 0)
 GoesBackMet old new (Ok reply) = ⊥
@@ -264,8 +270,8 @@ pub record TellsWhy (run : Run) (key : Key) (text : List ℕ) : Type 0 where
   pub move : move_in key entry ≡ Some moved
   pub told : text ≡ why_text run key (number, entry) moved
 
--- `why KEY`: of the last move of the machine; refused where it has not moved, or for want of memory, which it may take to
--- see that
+-- `why KEY`: of the last move of the machine; refused where it has not moved, or for want of memory,
+-- which it may take to see that
 abbrev pub Whys : Debugging → Debugging → Key → Result Reply CommandFault → Type 0
 Whys old new key (Ok (Text text)) = TellsWhy old.world key text × (new ≡ old)
 Whys old new key (Ok reply) = ⊥
@@ -285,7 +291,8 @@ Replies old new commands.Queues (Text text) = (text ≡ queues_text old.world) �
 Replies old new commands.Timers (Text text) = (text ≡ timers_text old.world) × (new ≡ old)
 Replies old new commands.Lines (Text text) = (text ≡ lines_text old.world) × (new ≡ old)
 Replies old new (commands.Sent line) (Text text) = Tells ((shown old.world).sent_of line) text × (new ≡ old)
-Replies old new (commands.ListRow role row) (Text text) = (Some text ≡ row_text (table_of old.world.settings role) row) × (new ≡ old)
+Replies old new (commands.ListRow role row) (Text text) =
+    (Some text ≡ row_text (table_of old.world.settings role) row) × (new ≡ old)
 Replies old new (commands.TotalsOf account) (AreTotals totals) =
     ((shown old.world).totals_at account ≡ Some totals) × (new ≡ old)
 Replies old new commands.Accounts (Text text) = (text ≡ accounts_text old.world) × (new ≡ old)

@@ -1,3 +1,4 @@
+-- The definitions that the contracts of bench_debug speak of.
 pub mod Asking
 pub mod Meets
 pub mod Tables

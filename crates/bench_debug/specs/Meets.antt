@@ -1,5 +1,6 @@
 -- Where a breakpoint is met.
-use Rattle.std.specs.Prelude.{◌≡◌, ℕ, ◌++◌, length, min, not, ◌==◌, ◌&&◌, ◌||◌, Bool, false, List, [], ◌∷◌, map, filter, is_some, slice_index, Option, Some, None}
+use Rattle.std.specs.Prelude.{◌≡◌, ℕ, ◌++◌, length, min, not, ◌==◌, ◌&&◌, ◌||◌, Bool, false, List, [], ◌∷◌, map, filter}
+use Rattle.std.specs.Prelude.{is_some, slice_index, Option, Some, None}
 use Rattle.std.specs.Option.{option_map_or}
 use Rattle.bench_item.specs.declared.entry.Entry.{Entry}
 use Rattle.bench_item.specs.declared.entry.Handled.{Handled}

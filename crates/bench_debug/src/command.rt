@@ -23,7 +23,9 @@ use tab_print::print_row;
 impl Debugger {
     ghost use Rattle.bench_debug.specs.Debug.{Answers, Commands, Does, Whys};
     ghost use Rattle.bench_debug.specs.Seen.{seen};
-    ghost use Rattle.debug_text.specs.declared.command.Command.TheVariants.{Accounts, Back, History, Lines, ListRow, Queues, Sent, Show, Timers, TotalsOf, Where};
+    ghost use Rattle.debug_text.specs.declared.command.Command.TheVariants.{Accounts, Back, History, Lines, ListRow};
+    ghost use Rattle.debug_text.specs.declared.command.Command.TheVariants.{Queues, Sent, Show};
+    ghost use Rattle.debug_text.specs.declared.command.Command.TheVariants.{Timers, TotalsOf, Where};
 
     /// `back`
     fn back(&mut self) -> Result<Reply, CommandFault>
@@ -77,7 +79,8 @@ impl Debugger {
 
     /// The text of the move in an entry.
     fn why_text(&self, key: &Key, number: u64, entry: &Entry) -> Result<Octets, AllocError>
-        ensures { IfOk result (λ text. (moved : OneMove) → move_in key.now entry.now ≡ Some moved → text ≡ why_text self.now.core key.now (number, entry.now) moved) }
+        ensures { IfOk result (λ text. (moved : OneMove) → move_in key.now entry.now ≡ Some moved
+            → text ≡ why_text self.now.core key.now (number, entry.now) moved) }
     {
         let mut text = Vec::new(self.alloc);
         put_why(self.alloc, &mut text, &self.core, key, number, entry)?;

@@ -6,7 +6,7 @@ ghost use Rattle.bench_debug.specs.Asking.{IsRefused, IsRefusedWith, step_of};
 use bench_core::Core;
 use bench_item::{Key, Step, StepFault};
 use debug_text::CommandFault;
-use script_text::Asked;
+use script_text::ScriptStep;
 use std::alloc::{AllocError, Global};
 
 /// The same key in memory of its own.
@@ -67,8 +67,10 @@ fn free_step(alloc: Global, core: &Core, step: &Step) -> Result<Step, CommandFau
 /// That a timer fires, where it may.
 fn free_firing(core: &Core, machine: u64, generation: u64) -> Result<Step, CommandFault>
     ensures step { IfOk result (λ step. step ≡ Step.Fired machine generation) }
-    ensures could { OnOk result (refusal core.now.settings core.now.log core.now.paused (Step.Fired machine generation) ≡ None) }
-    ensures fault { IfErr result (IsRefusedWith (refusal core.now.settings core.now.log core.now.paused (Step.Fired machine generation))) }
+    ensures could { OnOk result
+        (refusal core.now.settings core.now.log core.now.paused (Step.Fired machine generation) ≡ None) }
+    ensures fault { IfErr result
+        (IsRefusedWith (refusal core.now.settings core.now.log core.now.paused (Step.Fired machine generation))) }
 {
     let step = Step::Fired {
         machine,
@@ -81,14 +83,14 @@ fn free_firing(core: &Core, machine: u64, generation: u64) -> Result<Step, Comma
 }
 
 /// The step that a script asks for, where it may be taken; or why it may not.
-pub(crate) fn next_step(alloc: Global, core: &Core, ask: &Asked) -> Result<Step, CommandFault>
+pub(crate) fn next_step(alloc: Global, core: &Core, ask: &ScriptStep) -> Result<Step, CommandFault>
     ensures step { IfOk result (λ step. step_of core.now ask.now ≡ Some step) }
     ensures could { IfOk result (λ step. refusal core.now.settings core.now.log core.now.paused step ≡ None) }
     ensures fault { IfErr result (IsRefused core.now ask.now) }
 {
     match ask {
-        Asked::Step(step) => free_step(alloc, core, step),
-        Asked::Fired { key, generation } => match core.number_of(key) {
+        ScriptStep::Step(step) => free_step(alloc, core, step),
+        ScriptStep::Fired { key, generation } => match core.number_of(key) {
             Some(machine) => free_firing(core, machine, *generation),
             None => Err(CommandFault::StepRefused(StepFault::Unknown)),
         },

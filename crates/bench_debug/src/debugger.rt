@@ -1,5 +1,7 @@
 //! A debugger: its bench, its place in the script, one step and back.
-ghost use Rattle.std.specs.Prelude.{◌≡◌, ◌<◌, ◌-◌, [], IfErr, IfOk, IfSome, IsFalse, IsTrue, MatchBool, MatchOption, OnErr, OnOk, OnSome, None, Some, length, map, option_copied, slice_get, slice_index, vec_len};
+ghost use Rattle.std.specs.Prelude.{◌≡◌, ◌<◌, ◌-◌, [], IfErr, IfOk, IfSome, IsFalse, IsTrue, MatchBool, MatchOption};
+ghost use Rattle.std.specs.Prelude.{OnErr, OnOk, OnSome, None, Some, length, map, option_copied};
+ghost use Rattle.std.specs.Prelude.{slice_get, slice_index, vec_len};
 ghost use Rattle.bench_script.specs.Printed.{taken_text};
 ghost use Rattle.bench_script.specs.Ran.{IsRunBy};
 ghost use Rattle.bench_spec.specs.Refusal.{refusal};
@@ -11,7 +13,7 @@ use bench_core::Core;
 use bench_item::{Entry, Step};
 use bench_script::put_taken;
 use debug_text::{Breakpoint, CommandFault, Reply};
-use script_text::Asked;
+use script_text::ScriptStep;
 use std::alloc::{AllocError, Global};
 use tab_call::Registry;
 use tab_step::Stepped;
@@ -29,7 +31,7 @@ pub struct SetBreakpoint {
 /// Where a debugger stands in its script, and which breakpoints are set.
 #[derive(Drop)]
 pub struct Progress {
-    pub(crate) script: Vec<Asked>,
+    pub(crate) script: Vec<ScriptStep>,
     // The place in the script of the next step.
     pub(crate) next: usize,
     // Of each step that was taken the place in the script.
@@ -63,7 +65,7 @@ impl Drop for Debugger {
 }
 
 /// What a script asks for at a place.
-fn ask_at(script: &[Asked], place: usize) -> Option<&Asked>
+fn ask_at(script: &[ScriptStep], place: usize) -> Option<&ScriptStep>
     ensures asked { option_copied result ≡ slice_get script.now place }
     ensures within { OnSome result (place < length script.now) }
 {
@@ -91,11 +93,12 @@ fn taken_text(alloc: Global, core: &Core, entry: &Entry) -> Result<Octets, Alloc
 }
 
 impl Debugger {
-    ghost use Rattle.bench_debug.specs.Debug.{Advances, IsAtEnd, Refuses, Steps, StepsTo, refused_at, started, with_back, with_taken};
+    ghost use Rattle.bench_debug.specs.Debug.{Advances, IsAtEnd, Refuses, Steps, StepsTo, refused_at};
+    ghost use Rattle.bench_debug.specs.Debug.{started, with_back, with_taken};
     ghost use Rattle.bench_debug.specs.Seen.{seen};
 
     /// A debugger of a bench, at the start of a script.
-    pub fn new(alloc: Global, core: Core, script: Vec<Asked>) -> Result<Debugger, AllocError>
+    pub fn new(alloc: Global, core: Core, script: Vec<ScriptStep>) -> Result<Debugger, AllocError>
         ensures { IfOk result (λ d. seen d ≡ started core script.items) }
     {
         let room = Box::new(alloc, Stepped::new())?;
@@ -122,7 +125,8 @@ impl Debugger {
 
     /// Takes the last step back; says whether there was one. Takes no memory.
     pub(crate) fn undo(&mut self) -> bool
-        ensures ok { IsTrue result → GoesBackTo self.old.core self.new.core × (seen self.new ≡ with_back (seen self.old) self.new.core) }
+        ensures ok { IsTrue result
+            → GoesBackTo self.old.core self.new.core × (seen self.new ≡ with_back (seen self.old) self.new.core) }
         ensures none { IsFalse result → (self.old.core.log ≡ []) × (seen self.new ≡ seen self.old) }
     {
         if !self.core.back() {
@@ -138,7 +142,8 @@ impl Debugger {
         requires by { IsRunBy self.old.core (map (λ r. r.book) registries.now) }
         requires next { self.old.progress.next < vec_len self.old.progress.script }
         requires could { refusal self.old.core.settings self.old.core.log self.old.core.paused step ≡ None }
-        ensures ok { OnOk result (Takes self.old.core self.new.core step × (seen self.new ≡ with_taken (seen self.old) self.new.core)) }
+        ensures ok { OnOk result (Takes self.old.core self.new.core step
+            × (seen self.new ≡ with_taken (seen self.old) self.new.core)) }
         ensures err { OnErr result (seen self.new ≡ seen self.old) }
     {
         self.progress.taken.push(self.progress.next)?;
@@ -160,11 +165,12 @@ impl Debugger {
         }
     }
 
-    /// Takes the step that the script asks for next; says whether there was one. Why it isn't taken: it is refused, and the script goes past
-    /// it; or memory lacks, and nothing changes.
+    /// Takes the step that the script asks for next; says whether there was one.
+    /// Why it isn't taken: it is refused, and the script goes past it; or memory lacks, and nothing changes.
     pub(crate) fn advance(&mut self, registries: &[Registry]) -> Result<bool, CommandFault>
         requires { IsRunBy self.old.core (map (λ r. r.book) registries.now) }
-        ensures step { IfOk result (λ took. MatchBool took (Advances (seen self.old) (seen self.new)) (IsAtEnd (seen self.old) × (seen self.new ≡ seen self.old))) }
+        ensures step { IfOk result (λ took. MatchBool took (Advances (seen self.old) (seen self.new))
+            (IsAtEnd (seen self.old) × (seen self.new ≡ seen self.old))) }
         ensures within { IfOk result (λ took. IsTrue took → self.old.progress.next < vec_len self.old.progress.script) }
         ensures fault { IfErr result (Refuses (seen self.old) (seen self.new)) }
     {
@@ -193,11 +199,14 @@ impl Debugger {
         }
     }
 
-    /// The same, and reads the entry of the step; none at the script's end. Where memory lacks for the entry, the step is taken back.
+    /// The same, and reads the entry of the step; none at the script's end.
+    /// Where memory lacks for the entry, the step is taken back.
     pub(crate) fn take(&mut self, registries: &[Registry]) -> Result<Option<Entry>, CommandFault>
         requires { IsRunBy self.old.core (map (λ r. r.book) registries.now) }
-        ensures step { IfOk result (λ entry. MatchOption entry (IsAtEnd (seen self.old) × (seen self.new ≡ seen self.old)) (StepsTo (seen self.old) (seen self.new))) }
-        ensures within { IfOk result (λ entry. OnSome entry (self.old.progress.next < vec_len self.old.progress.script)) }
+        ensures step { IfOk result (λ entry. MatchOption entry
+            (IsAtEnd (seen self.old) × (seen self.new ≡ seen self.old)) (StepsTo (seen self.old) (seen self.new))) }
+        ensures within { IfOk result (λ entry. OnSome entry (self.old.progress.next
+            < vec_len self.old.progress.script)) }
         ensures fault { IfErr result (Refuses (seen self.old) (seen self.new)) }
     {
         if self.advance(registries)? {

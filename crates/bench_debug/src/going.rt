@@ -77,7 +77,8 @@ impl Debugger {
         self.go_on(registries, place)
     }
 
-    /// The last entry that meets a breakpoint, if one does: its place, from 0, and the least number of those that it meets.
+    /// The last entry that meets a breakpoint, if one does:
+    /// its place, from 0, and the least number of those that it meets.
     fn last_met(&self) -> Result<Option<(usize, u64)>, AllocError>
         ensures { IfOk result (λ met. MatchOption met (MeetsNone self.now.progress.set.items self.now.core.log)
             (λ at. LastMet self.now.progress.set.items self.now.core.log at.0 at.1)) }

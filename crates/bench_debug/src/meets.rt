@@ -72,7 +72,8 @@ fn is_met_at(breakpoint: &Breakpoint, item: &MachineItem) -> bool
 
 /// Whether an item that is handled, and its move, meet a breakpoint.
 fn is_met_with(breakpoint: &Breakpoint, handled: Option<&Handled>, item: &MachineItem) -> bool
-    ensures { result ≡ is_met_with breakpoint.now (move_with (option_map (λ handled. handled.now) handled.entry)) item.now }
+    ensures { result
+        ≡ is_met_with breakpoint.now (move_with (option_map (λ handled. handled.now) handled.entry)) item.now }
 {
     is_met_at(breakpoint, item)
         || match handled {

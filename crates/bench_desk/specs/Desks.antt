@@ -1,5 +1,6 @@
 -- What a desk is to a contract, and why a tell or a look is refused.
-use Rattle.std.specs.Prelude.{◌≡◌, ◌<◌, ◌≤◌, ◌+◌, ◌||◌, ℕ, not, nat_lt, Bool, List, [], ◌∷◌, ◌++◌, find, flat_map, length}
+use Rattle.std.specs.Prelude.{◌≡◌, ◌<◌, ◌≤◌, ◌+◌, ◌||◌, ℕ, not, nat_lt, Bool, List, [], ◌∷◌, ◌++◌}
+use Rattle.std.specs.Prelude.{find, flat_map, length}
 use Rattle.std.specs.Prelude.{option_map, slice_get, slice_index, unwrap_or, Option}
 use Rattle.std.specs.Option.{option_and_then}
 use Rattle.tab_step.specs.declared.machine.MachineState.{MachineState}

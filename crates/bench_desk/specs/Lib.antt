@@ -1,3 +1,4 @@
+-- The definitions that the contracts of bench_desk speak of.
 pub mod May
 pub mod Parts
 pub mod Desks

@@ -1,5 +1,6 @@
 -- A shard with the stamped entries of what was done to it.
-use Rattle.std.specs.Prelude.{◌≡◌, ◌-◌, ◌||◌, ℕ, Bool, List, [], ◌∷◌, ◌++◌, filter, length, map, Some, None, if◌then◌else◌}
+use Rattle.std.specs.Prelude.{◌≡◌, ◌-◌, ◌||◌, ℕ, Bool, List, [], ◌∷◌, ◌++◌, filter, length, map}
+use Rattle.std.specs.Prelude.{Some, None, if◌then◌else◌}
 use Rattle.bench_item.specs.Keys.{Node, node_of}
 use Rattle.bench_item.specs.Steps.{is_same_source}
 use Rattle.bench_item.specs.declared.entry.Entry.{Entry}

@@ -1,5 +1,6 @@
 -- What a shard's part becomes where it handles its oldest item, and where what it put out is lifted.
-use Rattle.std.specs.Prelude.{◌≡◌, ◌/◌, ◌%◌, ◌==◌, ℕ, Bool, List, [], ◌∷◌, ◌++◌, fold, Option, Some, None, option_map, slice_get, if◌then◌else◌}
+use Rattle.std.specs.Prelude.{◌≡◌, ◌/◌, ◌%◌, ◌==◌, ℕ, Bool, List, [], ◌∷◌, ◌++◌, fold, Option, Some, None}
+use Rattle.std.specs.Prelude.{option_map, slice_get, if◌then◌else◌}
 use Rattle.acct_book.specs.Book.{Book, Paged, after}
 use Rattle.bench_item.specs.declared.entry.Entry.{Entry}
 use Rattle.bench_item.specs.declared.entry.Handled.{Handled}
@@ -60,7 +61,8 @@ abbrev pub Holds : Paged → Paged → Book → Type 0
 Holds old new book = (new.number ≡ old.number) × (new.pages ≡ old.pages) × (new.book ≡ book)
 
 -- what is written where work is done: the shard, the page, the entry and its stamp
-pub record IsWritten (work : Work) (stamp : ℕ) (v w : ShardView) (p q : Paged) (log logged : List Entry) (stamps drawn : List ℕ) : Type 0 where
+pub record IsWritten (work : Work) (stamp : ℕ) (v w : ShardView) (p q : Paged) (log logged : List Entry)
+    (stamps drawn : List ℕ) : Type 0 where
   pub shard_is : w ≡ after_work v work.item work.handled work.effects.posts
   pub page_is : Holds p q (fold after p.book work.effects.ops)
   pub log_is : logged ≡ log ++ work_entry v.number work.item work.handled ∷ []
@@ -74,7 +76,8 @@ pub record IsUnwritten (v w : ShardView) (p q : Paged) (log logged : List Entry)
   pub stamps_are : drawn ≡ stamps
 
 -- work is done on what the shard is to do next
-pub record IsDone (tables : Tables) (stamp : ℕ) (v w : ShardView) (p q : Paged) (log logged : List Entry) (stamps drawn : List ℕ) : Type 0 where
+pub record IsDone (tables : Tables) (stamp : ℕ) (v w : ShardView) (p q : Paged) (log logged : List Entry)
+    (stamps drawn : List ℕ) : Type 0 where
   pub work : Work
   pub decided : IsWork tables p.book v work
   pub written : IsWritten work stamp v w p q log logged stamps drawn
@@ -129,5 +132,6 @@ paused_part v paused = record { tables = v.tables; shard = with_paused v.shard p
 -- the machine of a number, if it is one of the shard's
 abbrev pub key_in_part : PartView → ℕ → Option Key
 key_in_part v machine =
-    if machine / MAX_MACHINES == v.shard.number then option_map key_in (slice_get v.shard.names (machine % MAX_MACHINES))
+    if machine / MAX_MACHINES == v.shard.number
+    then option_map key_in (slice_get v.shard.names (machine % MAX_MACHINES))
     else None

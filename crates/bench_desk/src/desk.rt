@@ -21,9 +21,9 @@ fn is_agreed(told: u64, seen: u64, waiting: u64, handled: u64) -> bool
     waiting + handled == told && seen <= handled
 }
 
-/// Who tells machines events, and looks at them: it keeps the entries of what it told and all that it saw, in order, each with its stamp.
-/// A contract sees these. Beside them it keeps counts: of each shard how much it told it, and how much of that had been handled there when
-/// it last looked.
+/// Who tells machines events, and looks at them: it keeps the entries of what it told and all that it saw, in order,
+/// each with its stamp. A contract sees these. Beside them it keeps counts: of each shard how much it told it, and how
+/// much of that had been handled there when it last looked.
 ///
 /// In: `tell_in`, `look_in`. Looks: `number`, `shards`, `len`, `lent`.
 pub struct Desk {
@@ -135,8 +135,8 @@ impl Desk {
         self.seen[home(self.shards, key)]
     }
 
-    // Whether the counts of a machine's shard agree with its own: all that it told the shard waits there or was handled, and no less was
-    // handled than before.
+    // Whether the counts of a machine's shard agree with its own:
+    // all that it told the shard waits there or was handled, and no less was handled than before.
     pub(crate) fn agrees(&self, key: &Key, waiting: u64, handled: u64) -> bool
         requires { waiting + handled < 2 ^ 64 }
         ensures { (settings : Settings) (stamp : ℕ) (stands : MachineState) → settings.node.shards ≡ self.now.shards

@@ -117,21 +117,24 @@ impl Desk {
         })
     }
 
-    /// Looks at a machine, in the shard that it is of, which is lent, and keeps what it saw with the stamp that was drawn for it.
+    /// Looks at a machine, in the shard that it is of, which is lent,
+    /// and keeps what it saw with the stamp that was drawn for it.
     pub fn look_in(&mut self, part: &ShardPart, stamp: u64, key: &Key) -> Result<Look, DeskFault>
         requires here { home self.old.shards key.now.name ≡ part.now.shard.number }
         requires same { part.now.shard.peers.shards ≡ self.old.shards }
         // The shard's state and registers, and the desk's counts there.
         ensures ok { IfOk result (λ look. seen_as stamp key.now look ≡ look_at part.now self.old.number stamp key.now) }
         ensures kept { IfOk result (λ look. self.new ≡ with_kept self.old (Saw (seen_as stamp key.now look) ∷ [])) }
-        // All that the desk told the shard waits there or was handled, and no less was handled than when it last looked.
+        // All that the desk told the shard waits there or was handled,
+        // and no less was handled than when it last looked.
         ensures agreed { IfOk result (λ look. (settings : Settings) → settings.node.shards ≡ self.old.shards
             → agrees settings self.old.number self.old.kept (seen_as stamp key.now look) ≡ true) }
         // It is refused only for the first reason that holds, and for memory only where none does.
         ensures could { (settings : Settings) → settings.node ≡ node_in part.now
             → IfOk result (λ look. look_refusal settings part.now self.old stamp key.now ≡ None) }
         ensures fault { (settings : Settings) → settings.node ≡ node_in part.now
-            → IfErr result (λ f. f ≡ unwrap_or (look_refusal settings part.now self.old stamp key.now) DeskFault.NoMemory) }
+            → IfErr result (λ f. f
+            ≡ unwrap_or (look_refusal settings part.now self.old stamp key.now) DeskFault.NoMemory) }
         ensures err { OnErr result (self.new ≡ self.old) }
     {
         if let Some(fault) = self.look_refusal(part, stamp, key) {

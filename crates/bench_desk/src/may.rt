@@ -33,7 +33,8 @@ fn is_for_peer(laws: &LawBook, kind: u8) -> bool
 
 /// Whether a desk may tell a client's session an event of that kind.
 fn is_for_client(laws: &LawBook, kind: u8) -> bool
-    ensures { result ≡ list_any (is_kind_of laws.now kind) (codes "Begin" ∷ codes "More" ∷ codes "End" ∷ codes "One" ∷ []) }
+    ensures { result
+        ≡ list_any (is_kind_of laws.now kind) (codes "Begin" ∷ codes "More" ∷ codes "End" ∷ codes "One" ∷ []) }
 {
     is_kind_of(laws, kind, b"Begin")
         || is_kind_of(laws, kind, b"More")
@@ -79,7 +80,8 @@ pub fn may_look(peers: &Peers, key: &Key) -> bool
 
 /// Whether a desk may tell a machine an event of that kind.
 pub fn may_tell(laws: &LawBook, peers: &Peers, key: &Key, kind: u8) -> bool
-    ensures { (settings : Settings) → settings.node ≡ node_of laws.now peers.now → result ≡ may_tell settings key.now kind }
+    ensures { (settings : Settings) → settings.node ≡ node_of laws.now peers.now
+        → result ≡ may_tell settings key.now kind }
 {
     let name = key.name.as_slice();
     match key.role {

@@ -42,7 +42,8 @@ pub(crate) fn told_entry(
     key: &Key,
     event: &Event,
 ) -> Result<KeptEntry, AllocError>
-    ensures { IfOk result (λ entry. entry ≡ record { step = Told desk key.now event.now; item = None; handled = None }) }
+    ensures { IfOk result (λ entry. entry
+        ≡ record { step = Told desk key.now event.now; item = None; handled = None }) }
 {
     let key = copy_key(alloc, key)?;
     let entry = Entry {

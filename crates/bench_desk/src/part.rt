@@ -1,5 +1,6 @@
 //! A shard with the stamped entries of what was done to it.
-ghost use Rattle.std.specs.Prelude.{◌≡◌, ◌<◌, ◌+◌, ◌^◌, [], IfOk, IfErr, OnOk, OnErr, count_by, length, vec_len, vec_capacity};
+ghost use Rattle.std.specs.Prelude.{◌≡◌, ◌<◌, ◌+◌, ◌^◌, [], IfOk, IfErr, OnOk, OnErr, count_by};
+ghost use Rattle.std.specs.Prelude.{length, vec_len, vec_capacity};
 ghost use Rattle.std.specs.Arc.{arc_value};
 ghost use Rattle.bench_item.specs.Keys.{home};
 ghost use Rattle.bench_item.specs.Steps.{is_same_source};
@@ -7,7 +8,8 @@ ghost use Rattle.bench_item.specs.declared.source.Source.TheVariants.{Desk};
 ghost use Rattle.bench_queue.specs.Inbox.{nothing_in};
 ghost use Rattle.bench_queue.specs.Inbox.{items_in};
 ghost use Rattle.bench_spec.specs.Refusal.{is_crowded, is_log_full};
-ghost use Rattle.bench_desk.specs.Parts.{arrive_error, drop_entry, entries_in, handled_from, is_full, waiting_from, with_arrival};
+ghost use Rattle.bench_desk.specs.Parts.{arrive_error, drop_entry, entries_in, handled_from};
+ghost use Rattle.bench_desk.specs.Parts.{is_full, waiting_from, with_arrival};
 
 use base_list::Octets;
 use bench_item::{Entry, Item, Key, MAX_ENTRIES, MAX_WAITING, MachineItem, Source, Step};
@@ -18,8 +20,9 @@ use std::alloc::{AllocError, Global};
 use std::marker::Model;
 use std::sync::Arc;
 
-/// A shard with its tables, and the entries of its part of the log: its Work, what was lifted from it, and what was dropped at it. Each
-/// entry has the stamp that was drawn for it. A contract sees the tables, the shard and the stamped entries.
+/// A shard with its tables, and the entries of its part of the log: its Work, what was lifted from it, and
+/// what was dropped at it. Each entry has the stamp that was drawn for it. A contract sees the tables, the
+/// shard and the stamped entries.
 ///
 /// In: `arrive`. Looks: `shard`, `roles`, `counts`, `is_full`, `len`, `stamp`, `entry`.
 pub struct ShardPart {
@@ -54,9 +57,11 @@ impl Model for ShardPart {
 
     ghost Value = { PartView };
 
-    ghost view = { λ p. record { tables = arc_value p.roles; shard = p.shard; entries = stamped_of p.stamps.items p.log.entries } };
+    ghost view = { λ p.
+        record { tables = arc_value p.roles; shard = p.shard; entries = stamped_of p.stamps.items p.log.entries } };
 
-    ghost invariant = { λ p. IsKept (arc_value p.roles) p.shard p.sources.items p.log.entries × (length p.stamps.items ≡ length p.log.entries) };
+    ghost invariant = { λ p. IsKept (arc_value p.roles) p.shard p.sources.items p.log.entries
+        × (length p.stamps.items ≡ length p.log.entries) };
 }
 
 /// Makes room for one more entry of a log that is not full, for its stamp, and for its source. Nothing else changes.
@@ -201,7 +206,8 @@ impl ShardPart {
         (waiting as u64, handled as u64)
     }
 
-    /// An item comes from a source, behind the others: a Drop, with the stamp that was drawn for it. It is to be for this shard.
+    /// An item comes from a source, behind the others: a Drop, with the stamp that was drawn for it.
+    /// It is to be for this shard.
     pub fn arrive(&mut self, source: Source, stamp: u64, item: &MachineItem) -> Result<(), PutError>
         requires { home self.old.shard.peers.shards item.now.key.name ≡ self.old.shard.number }
         ensures ok { OnOk result (self.new ≡ with_arrival self.old source stamp item.now) }

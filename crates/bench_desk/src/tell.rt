@@ -45,7 +45,8 @@ impl Desk {
         requires same { part.old.shard.peers.shards ≡ self.old.shards }
         requires room { is_full part.old ≡ false }
         requires own_room { is_desk_full self.old.kept ≡ false }
-        ensures desk { OnOk result (self.new ≡ with_kept self.old (tell_kept self.old.number stamps key.now event.now)) }
+        ensures desk { OnOk result (self.new
+            ≡ with_kept self.old (tell_kept self.old.number stamps key.now event.now)) }
         ensures part { OnOk result (part.new ≡ with_arrival part.old (FromDesk self.old.number) (slice_index stamps 2)
             (record { key = key.now; event = event.now; condition = None; session = [] })) }
         ensures err { OnErr result ((self.new ≡ self.old) × (part.new ≡ part.old)) }
@@ -78,8 +79,8 @@ impl Desk {
         Ok(())
     }
 
-    /// Tells a machine an event, in the shard that it is of, which is lent. The stamps were drawn for the Told, its Lift, and the Drop at
-    /// the shard: the first two entries the desk keeps, the third stands in the shard's part.
+    /// Tells a machine an event, in the shard that it is of, which is lent. The stamps were drawn for the Told, its
+    /// Lift, and the Drop at the shard: the first two entries the desk keeps, the third stands in the shard's part.
     pub fn tell_in(
         &mut self,
         part: &mut ShardPart,
@@ -90,14 +91,16 @@ impl Desk {
         requires here { home self.old.shards key.now.name ≡ part.old.shard.number }
         requires same { part.old.shard.peers.shards ≡ self.old.shards }
         // Just that item is put.
-        ensures desk { OnOk result (self.new ≡ with_kept self.old (tell_kept self.old.number stamps key.now event.now)) }
+        ensures desk { OnOk result (self.new
+            ≡ with_kept self.old (tell_kept self.old.number stamps key.now event.now)) }
         ensures part { OnOk result (part.new ≡ with_arrival part.old (FromDesk self.old.number) (slice_index stamps 2)
             (record { key = key.now; event = event.now; condition = None; session = [] })) }
         // It is refused only for the first reason that holds, and for memory only where none does.
         ensures could { (settings : Settings) → settings.node ≡ node_in part.old
             → OnOk result (tell_refusal settings part.old self.old key.now event.now.kind ≡ None) }
         ensures fault { (settings : Settings) → settings.node ≡ node_in part.old
-            → IfErr result (λ f. f ≡ unwrap_or (tell_refusal settings part.old self.old key.now event.now.kind) DeskFault.NoMemory) }
+            → IfErr result (λ f. f
+            ≡ unwrap_or (tell_refusal settings part.old self.old key.now event.now.kind) DeskFault.NoMemory) }
         ensures err { OnErr result ((self.new ≡ self.old) × (part.new ≡ part.old)) }
     {
         if let Some(fault) = self.tell_refusal(part, key, event) {

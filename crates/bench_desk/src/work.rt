@@ -1,5 +1,6 @@
 //! A shard's part handles its oldest item, and hands on what it put out.
-ghost use Rattle.std.specs.Prelude.{◌≡◌, ◌<◌, ◌≤◌, false, true, None, Some, IfOk, IfErr, OnOk, OnErr, fold, length, map, vec_len, vec_capacity, unwrap_or};
+ghost use Rattle.std.specs.Prelude.{◌≡◌, ◌<◌, ◌≤◌, false, true, None, Some, IfOk, IfErr, OnOk, OnErr, fold, length};
+ghost use Rattle.std.specs.Prelude.{map, vec_len, vec_capacity, unwrap_or};
 ghost use Rattle.acct_book.specs.Book.{after};
 ghost use Rattle.bench_queue.specs.Outbox.{items_out, next_out};
 ghost use Rattle.bench_shard.specs.Tasks.{IsTask};
@@ -8,7 +9,9 @@ ghost use Rattle.bench_spec.specs.Merged.{Did};
 ghost use Rattle.bench_spec.specs.Refusal.{is_empty};
 ghost use Rattle.bench_parts.specs.Views.{kept_in};
 ghost use Rattle.bench_desk.specs.Parts.{entries_in};
-ghost use Rattle.bench_desk.specs.Working.{FitsEntry, Holds, IsDone, IsLifted, IsUnwritten, IsWorked, IsWritten, after_entry, key_in_part, lift_entry, lift_refusal, paused_part, with_lift, work_entry, work_refusal};
+ghost use Rattle.bench_desk.specs.Working.{FitsEntry, Holds, IsDone, IsLifted, IsUnwritten, IsWorked, IsWritten};
+ghost use Rattle.bench_desk.specs.Working.{after_entry, key_in_part, lift_entry, lift_refusal, paused_part};
+ghost use Rattle.bench_desk.specs.Working.{with_lift, work_entry, work_refusal};
 
 use crate::fault::CarryFault;
 use crate::part::ShardPart;
@@ -96,8 +99,10 @@ fn write(
     work: Work,
 ) -> Result<(), AllocError>
     requires { Fits shard.old work.item work.handled }
-    ensures ok { OnOk result (IsWritten work stamp shard.old shard.new page.old page.new log.old.entries log.new.entries stamps.old.items stamps.new.items) }
-    ensures err { OnErr result (IsUnwritten shard.old shard.new page.old page.new log.old.entries log.new.entries stamps.old.items stamps.new.items) }
+    ensures ok { OnOk result (IsWritten work stamp shard.old shard.new page.old page.new log.old.entries log.new.entries
+        stamps.old.items stamps.new.items) }
+    ensures err { OnErr result (IsUnwritten shard.old shard.new page.old page.new log.old.entries log.new.entries
+        stamps.old.items stamps.new.items) }
 {
     let Work {
         item,
@@ -133,8 +138,10 @@ fn do_task(
 ) -> Result<(), AllocError>
     requires task { IsTask roles.now.laws shard.old task }
     requires laws { registry.now.book ≡ roles.now.laws }
-    ensures ok { OnOk result (IsDone roles.now stamp shard.old shard.new page.old page.new log.old.entries log.new.entries stamps.old.items stamps.new.items) }
-    ensures err { OnErr result (IsUnwritten shard.old shard.new page.old page.new log.old.entries log.new.entries stamps.old.items stamps.new.items) }
+    ensures ok { OnOk result (IsDone roles.now stamp shard.old shard.new page.old page.new log.old.entries
+        log.new.entries stamps.old.items stamps.new.items) }
+    ensures err { OnErr result (IsUnwritten shard.old shard.new page.old page.new log.old.entries log.new.entries
+        stamps.old.items stamps.new.items) }
 {
     let work = shard.prepare(alloc, roles, registry, page, task, room)?;
     write(alloc, shard, page, log, stamps, stamp, work)
@@ -162,7 +169,8 @@ fn next_post(alloc: Global, shard: &ShardState) -> Result<Item, AllocError>
     }
 }
 
-/// Writes that the oldest item which a shard put out is lifted and taken out of its hand, or nothing where memory is refused.
+/// Writes that the oldest item which a shard put out is lifted and taken out of its hand,
+/// or nothing where memory is refused.
 fn write_lift(
     alloc: Global,
     shard: &mut ShardState,
@@ -171,8 +179,10 @@ fn write_lift(
     stamp: u64,
 ) -> Result<(), AllocError>
     requires { is_empty (items_out shard.old.outbox) ≡ false }
-    ensures ok { OnOk result (IsLifted stamp shard.old shard.new log.old.entries log.new.entries stamps.old.items stamps.new.items) }
-    ensures err { OnErr result ((shard.new ≡ shard.old) × (log.new.entries ≡ log.old.entries) × (stamps.new.items ≡ stamps.old.items)) }
+    ensures ok { OnOk result (IsLifted stamp shard.old shard.new log.old.entries log.new.entries
+        stamps.old.items stamps.new.items) }
+    ensures err { OnErr result ((shard.new ≡ shard.old)
+        × (log.new.entries ≡ log.old.entries) × (stamps.new.items ≡ stamps.old.items)) }
 {
     let _shards = shard.peers().shards();
     let item = next_post(alloc, shard)?;
@@ -187,8 +197,8 @@ fn write_lift(
 }
 
 impl ShardPart {
-    /// Why it does not work, memory aside: Paused; Nothing where no item waits; Full where its outbox lacks the room for a step, or its part
-    /// has as many entries as it may. Takes no memory.
+    /// Why it does not work, memory aside: Paused; Nothing where no item waits;
+    /// Full where its outbox lacks the room for a step, or its part has as many entries as it may. Takes no memory.
     pub fn work_refusal(&self) -> Option<WorkFault>
         ensures { result ≡ work_refusal self.now }
     {
@@ -216,8 +226,9 @@ impl ShardPart {
         }
     }
 
-    /// Handles its oldest item, as `task` told it, with the page of the account book that this needs, any page where it needs none: a Work,
-    /// with the stamp that was drawn for it. A move is decided by the registry's callbacks, in `room`. Refused for memory alone.
+    /// Handles its oldest item, as `task` told it, with the page of the account book that this needs, any page where it
+    /// needs none: a Work, with the stamp that was drawn for it. A move is decided by the registry's callbacks, in
+    /// `room`. Refused for memory alone.
     pub fn work(
         &mut self,
         registry: &Registry,
@@ -247,7 +258,8 @@ impl ShardPart {
         )
     }
 
-    /// Why nothing is lifted, memory aside: Nothing where no item waits; Full where its part has as many entries as it may. Takes no memory.
+    /// Why nothing is lifted, memory aside: Nothing where no item waits;
+    /// Full where its part has as many entries as it may. Takes no memory.
     pub fn lift_refusal(&self) -> Option<CarryFault>
         ensures { result ≡ lift_refusal self.now }
     {

@@ -1,2 +1,13 @@
 pub mod ReplayLemmas
 pub mod PartLemmas
+pub mod LogLemmas
+pub mod CheckLemmas
+pub mod FedLemmas
+pub mod DeskLemmas
+pub mod FoldLemmas
+pub mod GivenLemmas
+pub mod TimesLemmas
+pub mod MergeLemmas
+pub mod ApartLemmas
+pub mod BookLemmas
+pub mod ExactLemmas

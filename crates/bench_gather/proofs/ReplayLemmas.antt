@@ -1,5 +1,6 @@
 -- A log is replayed entry by entry.
-use Rattle.std.proofs.Common.{◌≡◌, ◌∙◌, ◌+◌, ◌<◌, ◌≤◌, ℕ, zero, suc, List, [], ◌∷◌, ◌++◌, Bool, true, false, length, take, drop, refl, ap, sym, subst, arith}
+use Rattle.std.proofs.Common.{◌≡◌, ◌∙◌, ◌+◌, ◌<◌, ◌≤◌, ℕ, zero, suc, List, [], ◌∷◌, ◌++◌, Bool, true, false, length}
+use Rattle.std.proofs.Common.{take, drop, refl, ap, sym, subst, arith}
 use Rattle.std.specs.Prelude.{slice_get, Some, IsTrue, IsFalse, Err}
 use Rattle.std.proofs.lemmas.List.{length_push, take-append-drop}
 use Rattle.bench_item.specs.declared.entry.Entry.{Entry}
@@ -38,9 +39,11 @@ pub is-longest : (settings : Settings) (log : List Entry) (k : ℕ) → k < leng
 is-longest settings log k within legal none =
     let there = is-there log k within in
     let next : k + 1 ≡ suc k = omega arith in
-    let grown : take (k + 1) log ≡ take k log ++ there.0 ∷ [] = ap (λ n. take n log) next ∙ take-next log k there.0 there.1 in
+    let grown : take (k + 1) log ≡ take k log ++ there.0 ∷ [] =
+    ap (λ n. take n log) next ∙ take-next log k there.0 there.1 in
     let stops : IsLegal settings (take (k + 1) log) → ⊥ =
-    λ longer. none there.0 there.1 (MayFollow-last settings (take k log) there.0 (subst (IsLegal settings) grown longer)) in (
+    λ longer. none there.0 there.1
+    (MayFollow-last settings (take k log) there.0 (subst (IsLegal settings) grown longer)) in (
       λ whole.
           stops (IsLegal-front settings (take (k + 1) log) (drop (k + 1) log)
           (subst (IsLegal settings) (sym (take-append-drop (k + 1) log)) whole)),
@@ -76,7 +79,8 @@ unwound-all old new count u all =
     ap (with_log new) (no-log new.log empty) ∙ u.same
 
 -- an entry was not added, and all steps are taken back: the world is as it was, and the longest front is told
-stays : (old mid last new : Run) (log : List Entry) (k : ℕ) → old.log ≡ [] → mid ≡ with_log old (take k log) → last ≡ mid
+stays : (old mid last new : Run) (log : List Entry) (k : ℕ) → old.log ≡ [] → mid ≡ with_log old (take k log)
+    → last ≡ mid
     → new ≡ with_log last [] → new ≡ old
 stays old mid last new log k empty is same back =
     back ∙ ap (λ (r : Run). with_log r []) (same ∙ is) ∙ ap (with_log old) (sym empty)

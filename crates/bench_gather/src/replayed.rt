@@ -34,8 +34,9 @@ fn replay_at(
     }
 }
 
-/// Replays a log on a world at its opening. Where it is not legal, the fault tells how many of its entries are, the most; then, and where
-/// memory is refused, the world is as it was. No callback is asked. `room` is where moves are checked, and what stands there is gone.
+/// Replays a log on a world at its opening. Where it is not legal, the fault tells how many of its entries are, the
+/// most; then, and where memory is refused, the world is as it was. No callback is asked. `room` is where moves are
+/// checked, and what stands there is gone.
 pub fn replay_log(
     alloc: Global,
     core: &mut Core,

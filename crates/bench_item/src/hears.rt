@@ -57,11 +57,16 @@ pub trait Hears: Drop {
     ghost octets_of: { Self → LineItem → List ℕ };
 
     /// What a connection makes of a message: its octets, whole.
-    fn hear(&self, alloc: Global, at: Heard, octets: &[u8]) -> Result<Turn, AllocError>
+    fn on_message(&self, alloc: Global, at: Heard, octets: &[u8]) -> Result<Turn, AllocError>
         ensures { IfOk result (λ turn. turn ≡ heard self.now at octets.now) };
 
     /// What it puts out at an event.
-    fn turn(&self, alloc: Global, at: Heard, event: LineEvent) -> Result<Option<Item>, AllocError>
+    fn on_event(
+        &self,
+        alloc: Global,
+        at: Heard,
+        event: LineEvent,
+    ) -> Result<Option<Item>, AllocError>
         ensures { IfOk result (λ post. post ≡ turned self.now at event) };
 
     /// Puts the octets of the message that a deed sends. A refused call leaves the octets as they were.

@@ -2,10 +2,12 @@
 
 ghost use Rattle.std.specs.Prelude.{◌≡◌};
 ghost use Rattle.bench_item.specs.Steps.{number_of};
+ghost use Rattle.bench_item.specs.declared.step.StepFault.TheVariants.{NoMemory};
 
 use crate::key::Key;
 use crate::source::Source;
 use base_list::Octets;
+use std::alloc::{AllocError, AllocFailed};
 use tab_step::Event;
 
 /// A step of the bench: each is taken as a whole or refused.
@@ -62,5 +64,21 @@ impl StepFault {
             StepFault::NoMemory => 5,
             StepFault::Paused => 6,
         }
+    }
+}
+
+impl From<AllocError> for StepFault {
+    ghost from_gives = { λ _ e. e ≡ NoMemory };
+
+    fn from(_e: AllocError) -> StepFault {
+        StepFault::NoMemory
+    }
+}
+
+impl<T: Drop> From<AllocFailed<T>> for StepFault {
+    ghost from_gives = { λ _ e. e ≡ NoMemory };
+
+    fn from(_e: AllocFailed<T>) -> StepFault {
+        StepFault::NoMemory
     }
 }

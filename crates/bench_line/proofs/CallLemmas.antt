@@ -10,12 +10,12 @@ use Rattle.bench_item.specs.declared.line_state.LineState.{LineState}
 use Rattle.bench_item.specs.declared.line_state.LineState.TheVariants as state
 use Rattle.bench_item.specs.declared.opening.Opening.{Opening}
 use Rattle.bench_item.specs.Lines.{LineStep, Acknowledged, Received, Gone, Delivered}
-use Rattle.bench_line.specs.declared.fault.LineFault.{LineFault}
+use Rattle.bench_item.specs.declared.step.StepFault.{StepFault}
 use Rattle.bench_line.specs.declared.line.Before.{Before}
 use Rattle.bench_line.specs.declared.line.FramerBefore.TheVariants.{Same}
 use Rattle.bench_line.specs.Before.{before_of, restored}
 use Rattle.bench_line.specs.Line.{LineView, Stands, acknowledged, lost, delivered}
-use Rattle.bench_line.specs.Lines.{IsPlace, Past, StandFor, StandFrom, fault_at, line_at, put_out, with_line, with_step, refusal_by, dialled_refused, came_refused, lost_refused, dialled_refusal, came_refusal, lost_refusal}
+use Rattle.bench_line.specs.Lines.{IsPlace, Past, AreLinesAfter, StandFrom, fault_at, line_at, put_out, with_line, with_step, refusal_by, dialled_refused, came_refused, lost_refused, dialled_refusal, came_refusal, lost_refusal}
 use Rattle.bench_line.specs.Rounds.{Receives}
 use Rattle.bench_line.specs.Talk.{Meaning, fault_met, stream_of}
 use Rattle.bench_line.proofs.StandLemmas.{stands-set}
@@ -27,7 +27,7 @@ use Rattle.bench_line.proofs.DeedLemmas.{delivers}
 pub at_place : (ls : List LineView) (line place : ℕ) (l : LineView) → IsPlace ls line place → l ≡ get_or ls place l → slice_get ls place ≡ Some l
 at_place ls line place l p e = slice_get-get_or ls place l p.within ∙ ap Some (sym e)
 
-by_line : (refused : LineView → Option LineFault) (ls : List LineView) (line place : ℕ) (l : LineView) → IsPlace ls line place → slice_get ls place ≡ Some l → refusal_by refused (line_at ls line) ≡ None → refused l ≡ None
+by_line : (refused : LineView → Option StepFault) (ls : List LineView) (line place : ℕ) (l : LineView) → IsPlace ls line place → slice_get ls place ≡ Some l → refusal_by refused (line_at ls line) ≡ None → refused l ≡ None
 by_line refused ls line place l p e r = ap (refusal_by refused) (sym (line_at-place ls line place p.some p.is ∙ e)) ∙ r
 
 dialled_by : (l : LineView) (x : LineState) → dialled_refused l x ≡ None → (peer : ℕ) × (x ≡ state.Dialling peer)
@@ -46,21 +46,21 @@ lost_by l state.Open e c = absurd cc
 lost_by l (state.Dialling peer) e c = absurd cc
 
 pub dialled-stands : (m : Meaning) (ls : List LineView) (line place : ℕ) (l new : LineView) → IsPlace ls line place → dialled_refusal ls line ≡ None → l ≡ get_or ls place l → new ≡ acknowledged m line l
-    → (pasts : List Past) → StandFor m ls pasts → StandFor m (set ls place new) (with_step line Acknowledged pasts)
+    → (pasts : List Past) → AreLinesAfter m ls pasts → AreLinesAfter m (set ls place new) (with_step line Acknowledged pasts)
 dialled-stands m ls line place l new p r e n =
     let is = at_place ls line place l p e in
     let d = dialled_by l l.state (by_line (λ x. dialled_refused x x.state) ls line place l p is r) in
     stands-set m line place Acknowledged ls l new p is (λ opening happened s. subst (λ (x : LineView). Stands m line x opening (happened ++ Acknowledged ∷ [])) (sym n) (acknowledges m line l opening happened d.0 s d.1))
 
 pub lost-stands : (m : Meaning) (ls : List LineView) (line place : ℕ) (l new : LineView) → IsPlace ls line place → lost_refusal ls line ≡ None → l ≡ get_or ls place l → new ≡ lost m line l
-    → (pasts : List Past) → StandFor m ls pasts → StandFor m (set ls place new) (with_step line Gone pasts)
+    → (pasts : List Past) → AreLinesAfter m ls pasts → AreLinesAfter m (set ls place new) (with_step line Gone pasts)
 lost-stands m ls line place l new p r e n =
     let is = at_place ls line place l p e in
     let d = lost_by l l.state (by_line (λ x. lost_refused x x.state) ls line place l p is r) in
     stands-set m line place Gone ls l new p is (λ opening happened s. subst (λ (x : LineView). Stands m line x opening (happened ++ Gone ∷ [])) (sym n) (loses m line l opening happened s d))
 
 pub delivered-stands : (m : Meaning) (ls : List LineView) (line place : ℕ) (item : LineItem) (l new : LineView) → IsPlace ls line place → l ≡ get_or ls place l → new ≡ delivered m item l
-    → (pasts : List Past) → StandFor m ls pasts → StandFor m (set ls place new) (with_step line (Delivered item) pasts)
+    → (pasts : List Past) → AreLinesAfter m ls pasts → AreLinesAfter m (set ls place new) (with_step line (Delivered item) pasts)
 delivered-stands m ls line place item l new p e n =
     let is = at_place ls line place l p e in
     stands-set m line place (Delivered item) ls l new p is (λ opening happened s. subst (λ (x : LineView). Stands m line x opening (happened ++ Delivered item ∷ [])) (sym n) (delivers m line l opening happened item s))
@@ -118,14 +118,14 @@ abbrev pub ReceivesOn : Meaning → ℕ → List ℕ → LineView → LineView �
 ReceivesOn m line piece l new ended = (opening : Opening) (happened : List LineStep) → Stands m line l opening happened → l.state ≡ state.Open → Receives m line opening happened piece new ended
 
 pub came-stands : (m : Meaning) (ls : List LineView) (line place : ℕ) (piece : List ℕ) (l new : LineView) (ended : Option FrameFault) → IsPlace ls line place → came_refusal ls line ≡ None → l ≡ get_or ls place l → ReceivesOn m line piece l new ended
-    → (pasts : List Past) → StandFor m ls pasts → StandFor m (set ls place new) (with_step line (Received piece) pasts)
+    → (pasts : List Past) → AreLinesAfter m ls pasts → AreLinesAfter m (set ls place new) (with_step line (Received piece) pasts)
 came-stands m ls line place piece l new ended p r e h =
     let is = at_place ls line place l p e in
     let going = came_by l l.state (by_line (λ x. came_refused x x.state) ls line place l p is r) in
     stands-set m line place (Received piece) ls l new p is (λ opening happened s. (h opening happened s going).stands)
 
 pub came-ended : (m : Meaning) (ls : List LineView) (line place : ℕ) (piece : List ℕ) (l new : LineView) (ended : Option FrameFault) → IsPlace ls line place → came_refusal ls line ≡ None → l ≡ get_or ls place l → ReceivesOn m line piece l new ended
-    → (pasts : List Past) → StandFor m ls pasts → ended ≡ fault_at m line piece pasts
+    → (pasts : List Past) → AreLinesAfter m ls pasts → ended ≡ fault_at m line piece pasts
 came-ended m ls line place piece l new ended p r e h pasts s =
     let is = at_place ls line place l p e in
     let going = came_by l l.state (by_line (λ x. came_refused x x.state) ls line place l p is r) in

@@ -7,7 +7,7 @@ use Rattle.bench_item.specs.declared.line_state.LineState.TheVariants as state
 use Rattle.bench_item.specs.Lines.{Undialled, is_dial}
 use Rattle.bench_line.specs.Dials.{states_of_dial, standing_as, redialled}
 use Rattle.bench_line.specs.Line.{LineView, undialled}
-use Rattle.bench_line.specs.Lines.{Past, StandFrom, StandFor, one_more}
+use Rattle.bench_line.specs.Lines.{Past, StandFrom, AreLinesAfter, one_more}
 use Rattle.bench_line.specs.Talk.{Meaning}
 use Rattle.bench_line.proofs.DeedLemmas.{undials}
 
@@ -23,7 +23,7 @@ from-undialled m first peer generation [] (past ∷ pasts) s = elim s [ ]
 from-undialled m first peer generation (x ∷ ls) [] s = elim s [ ]
 from-undialled m first peer generation (x ∷ ls) (past ∷ pasts) s = (undials m first x past.opening past.happened peer generation s.0, from-undialled m (first + 1) peer generation ls pasts s.1)
 
-pub stands-undialled : (m : Meaning) (peer generation : ℕ) (ls : List LineView) (pasts : List Past) → StandFor m ls pasts → StandFor m (map (undialled peer generation) ls) (map (one_more (Undialled peer generation)) pasts)
+pub stands-undialled : (m : Meaning) (peer generation : ℕ) (ls : List LineView) (pasts : List Past) → AreLinesAfter m ls pasts → AreLinesAfter m (map (undialled peer generation) ls) (map (one_more (Undialled peer generation)) pasts)
 stands-undialled m peer generation ls pasts s = record { each = from-undialled m 1 peer generation ls pasts s.each }
 
 redialled-yes : (peer generation : ℕ) (states : List LineState) (x : LineView) (ls : List LineView) → is_dial peer generation x.opening ≡ true → redialled peer generation states (x ∷ ls) ≡ standing_as states x ∷ redialled peer generation (drop 1 states) ls

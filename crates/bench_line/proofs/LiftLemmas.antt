@@ -5,7 +5,7 @@ use Rattle.std.proofs.lemmas.Bool.{ltb-true}
 use Rattle.bench_item.specs.declared.opening.Opening.{Opening}
 use Rattle.bench_item.specs.Lines.{LineStep}
 use Rattle.bench_line.specs.Line.{LineView, Stands}
-use Rattle.bench_line.specs.Lines.{IsPlace, Past, StandFrom, StandFor, line_at, lifted_one, with_line, with_line_at, with_step, with_step_at}
+use Rattle.bench_line.specs.Lines.{IsPlace, Past, StandFrom, AreLinesAfter, line_at, lifted_one, with_line, with_line_at, with_step, with_step_at}
 use Rattle.bench_line.specs.Talk.{Meaning}
 use Rattle.bench_line.proofs.AliveLemmas.{keeps_same}
 use Rattle.bench_line.proofs.ChangeLemmas.{changed}
@@ -32,12 +32,12 @@ step-none m first zero step (x ∷ ls) (past ∷ pasts) s e = absurd cc
 step-none m first (suc place) step (x ∷ ls) (past ∷ pasts) s e = ap (λ (ps : List Past). past ∷ ps) (step-none m (first + 1) place step ls pasts s.1 e)
 
 -- All lines stand for a step of one that is not there.
-pub stands-none : (m : Meaning) (ls : List LineView) (line : ℕ) (step : LineStep) → line_at ls line ≡ None → (pasts : List Past) → StandFor m ls pasts → StandFor m ls (with_step line step pasts)
+pub stands-none : (m : Meaning) (ls : List LineView) (line : ℕ) (step : LineStep) → line_at ls line ≡ None → (pasts : List Past) → AreLinesAfter m ls pasts → AreLinesAfter m ls (with_step line step pasts)
 stands-none m ls line step e pasts s = by (line == 0) e
   where
-    by : (b : Bool) → (if b then None else slice_get ls (line - 1)) ≡ None → StandFor m ls (if b then pasts else with_step_at (line - 1) step pasts)
+    by : (b : Bool) → (if b then None else slice_get ls (line - 1)) ≡ None → AreLinesAfter m ls (if b then pasts else with_step_at (line - 1) step pasts)
     by true h = s
-    by false h = subst (StandFor m ls) (sym (step-none m 1 (line - 1) step ls pasts s.each h)) s
+    by false h = subst (AreLinesAfter m ls) (sym (step-none m 1 (line - 1) step ls pasts s.each h)) s
 
 stands-lifted : (m : Meaning) (line : ℕ) (l : LineView) (opening : Opening) (happened : List LineStep) → Stands m line l opening happened → Stands m line (lifted_one l) opening happened
 stands-lifted m line l opening happened s = by (nat_lt l.lifted (length l.outbox)) refl
@@ -55,10 +55,10 @@ from-lifted m first zero (x ∷ ls) (past ∷ pasts) s = (stands-lifted m first 
 from-lifted m first (suc place) (x ∷ ls) (past ∷ pasts) s = (s.0, from-lifted m (first + 1) place ls pasts s.1)
 
 -- All lines stand as before once an item is lifted.
-pub stands-lift : (m : Meaning) (ls : List LineView) (line : ℕ) → (pasts : List Past) → StandFor m ls pasts → StandFor m (with_line line lifted_one ls) pasts
+pub stands-lift : (m : Meaning) (ls : List LineView) (line : ℕ) → (pasts : List Past) → AreLinesAfter m ls pasts → AreLinesAfter m (with_line line lifted_one ls) pasts
 stands-lift m ls line pasts s = by (line == 0)
   where
-    by : (b : Bool) → StandFor m (if b then ls else with_line_at (line - 1) lifted_one ls) pasts
+    by : (b : Bool) → AreLinesAfter m (if b then ls else with_line_at (line - 1) lifted_one ls) pasts
     by true = s
     by false = record { each = from-lifted m 1 (line - 1) ls pasts s.each }
 

@@ -1,6 +1,6 @@
 -- A call is refused where there is no such line, or else by the line.
 use Rattle.std.proofs.Common.{◌≡◌, ℕ, List, get_or, Some, None, ap, ◌∙◌}
-use Rattle.bench_line.specs.declared.fault.LineFault.TheVariants.{Unknown}
+use Rattle.bench_item.specs.declared.step.StepFault.TheVariants.{Unknown}
 use Rattle.bench_line.specs.declared.places.Call.{Call}
 use Rattle.bench_line.specs.declared.places.Call.TheVariants.{Dialled, Came, Lost}
 use Rattle.bench_line.specs.Line.{LineView}

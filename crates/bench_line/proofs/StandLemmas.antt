@@ -5,7 +5,7 @@ use Rattle.std.proofs.lemmas.Bool.Decides.{nat_tests}
 use Rattle.bench_item.specs.declared.opening.Opening.{Opening}
 use Rattle.bench_item.specs.Lines.{LineStep}
 use Rattle.bench_line.specs.Line.{LineView, Stands}
-use Rattle.bench_line.specs.Lines.{Past, StandFrom, StandFor, IsPlace, with_step_at, with_step, opened}
+use Rattle.bench_line.specs.Lines.{Past, StandFrom, AreLinesAfter, IsPlace, with_step_at, with_step, opened}
 use Rattle.bench_line.specs.Talk.{Meaning}
 
 -- A line that stands for one step more.
@@ -38,14 +38,14 @@ with_step-place line place step pasts z p = rw (z, p) refl
 
 -- One line stands for one step more.
 pub stands-set : (m : Meaning) (line place : ℕ) (step : LineStep) (ls : List LineView) (l new : LineView) → IsPlace ls line place → slice_get ls place ≡ Some l → StandsOn m line step l new
-    → (pasts : List Past) → StandFor m ls pasts → StandFor m (set ls place new) (with_step line step pasts)
+    → (pasts : List Past) → AreLinesAfter m ls pasts → AreLinesAfter m (set ls place new) (with_step line step pasts)
 stands-set m line place step ls l new p e h pasts s =
     let number : line ≡ 1 + place = grind (arith, nat_tests, p.some, p.is) in
     let each = from-set m 1 place line step ls pasts l new number s.each e h in
     record { each = subst (λ (ps : List Past). StandFrom m 1 (set ls place new) ps) (sym (with_step-place line place step pasts p.some p.is)) each }
 
 -- One line more stands, to which nothing happened yet.
-pub stands-push : (m : Meaning) (ls : List LineView) (l : LineView) (opening : Opening) → Stands m (length ls + 1) l opening [] → (pasts : List Past) → StandFor m ls pasts → StandFor m (ls ++ l ∷ []) (opened opening pasts)
+pub stands-push : (m : Meaning) (ls : List LineView) (l : LineView) (opening : Opening) → Stands m (length ls + 1) l opening [] → (pasts : List Past) → AreLinesAfter m ls pasts → AreLinesAfter m (ls ++ l ∷ []) (opened opening pasts)
 stands-push m ls l opening h pasts s = record { each = from-push m 1 (length ls + 1) ls pasts l opening (omega arith) s.each h }
 
 -- what follows from what a call that was taken did

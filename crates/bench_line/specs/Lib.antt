@@ -1,5 +1,4 @@
 -- What connections put out, answer and keep.
-pub mod Fault
 pub mod Messages
 pub mod Talk
 pub mod Line

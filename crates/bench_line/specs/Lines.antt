@@ -9,8 +9,8 @@ use Rattle.bench_item.specs.declared.line_state.LineState.{LineState}
 use Rattle.bench_item.specs.declared.line_state.LineState.TheVariants as at
 use Rattle.bench_item.specs.declared.opening.Opening.{Opening}
 use Rattle.bench_item.specs.Lines.{LineStep}
-use Rattle.bench_line.specs.declared.fault.LineFault.{LineFault}
-use Rattle.bench_line.specs.declared.fault.LineFault.TheVariants as faults
+use Rattle.bench_item.specs.declared.step.StepFault.{StepFault}
+use Rattle.bench_item.specs.declared.step.StepFault.TheVariants as faults
 use Rattle.bench_line.specs.Line.{LineView, Stands}
 use Rattle.bench_line.specs.Talk.{Meaning, fault_met, stream_of}
 
@@ -89,7 +89,7 @@ StandFrom m line (l ∷ lines) (past ∷ pasts) =
 StandFrom m line lines pasts = ⊥
 
 -- The lines are what was done to each makes of it.
-pub record StandFor (m : Meaning) (all : List LineView) (pasts : List Past) : Type 0 where
+pub record AreLinesAfter (m : Meaning) (all : List LineView) (pasts : List Past) : Type 0 where
   pub each : StandFrom m 1 all pasts
 
 -- the fault that a piece shows on a line, where no message closes the line before it
@@ -108,41 +108,41 @@ put_out lines line = option_map_or (λ l. length l.outbox) (line_at lines line) 
 abbrev pub is_crowded : LineView → Bool
 is_crowded l = nat_le MAX_WAITING (length l.outbox - l.lifted)
 
-abbrev pub full_of : LineView → Option LineFault
+abbrev pub full_of : LineView → Option StepFault
 full_of l = if is_crowded l then Some faults.Full else None
 
 -- why a line is not opened
-abbrev pub opening_refusal : List LineView → Option LineFault
+abbrev pub opening_refusal : List LineView → Option StepFault
 opening_refusal lines = if nat_le MAX_LINES (length lines) then Some faults.Full else None
 
 -- why a call on a line is refused: there is none of that number, or what the line says
-abbrev pub refusal_by : (LineView → Option LineFault) → Option LineView → Option LineFault
+abbrev pub refusal_by : (LineView → Option StepFault) → Option LineView → Option StepFault
 refusal_by refused None = Some faults.Unknown
 refusal_by refused (Some l) = refused l
 
 -- why an acknowledgement is refused
-abbrev pub dialled_refused : LineView → LineState → Option LineFault
+abbrev pub dialled_refused : LineView → LineState → Option StepFault
 dialled_refused l at.Closed = Some faults.Closed
 dialled_refused l at.Open = Some faults.Nothing
 dialled_refused l (at.Dialling peer) = full_of l
 
-abbrev pub dialled_refusal : List LineView → ℕ → Option LineFault
+abbrev pub dialled_refusal : List LineView → ℕ → Option StepFault
 dialled_refusal lines line = refusal_by (λ l. dialled_refused l l.state) (line_at lines line)
 
 -- why a piece is refused: the octets of a line that is being dialled are no messages yet
-abbrev pub came_refused : LineView → LineState → Option LineFault
+abbrev pub came_refused : LineView → LineState → Option StepFault
 came_refused l at.Open = full_of l
 came_refused l state = Some faults.Closed
 
-abbrev pub came_refusal : List LineView → ℕ → Option LineFault
+abbrev pub came_refusal : List LineView → ℕ → Option StepFault
 came_refusal lines line = refusal_by (λ l. came_refused l l.state) (line_at lines line)
 
 -- why a loss is refused
-abbrev pub lost_refused : LineView → LineState → Option LineFault
+abbrev pub lost_refused : LineView → LineState → Option StepFault
 lost_refused l at.Closed = Some faults.Closed
 lost_refused l state = full_of l
 
-abbrev pub lost_refusal : List LineView → ℕ → Option LineFault
+abbrev pub lost_refusal : List LineView → ℕ → Option StepFault
 lost_refusal lines line = refusal_by (λ l. lost_refused l l.state) (line_at lines line)
 
 -- The line of that number is at that place.

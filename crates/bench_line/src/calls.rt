@@ -4,11 +4,10 @@ ghost use Rattle.bench_line.specs.Line.{undialled};
 ghost use Rattle.bench_line.specs.Dials.{states_of_dial};
 
 use crate::change::Change;
-use crate::fault::LineFault;
 use crate::line::Line;
 use crate::lines::Lines;
 use crate::places::Call;
-use bench_item::{Hears, LineItem, LineState};
+use bench_item::{Hears, LineItem, LineState, StepFault};
 use dia_frame::FrameFault;
 use std::alloc::Global;
 
@@ -32,24 +31,25 @@ pub struct Posted {
 
 impl<T: Hears> Lines<T> {
     ghost use Rattle.bench_item.specs.Lines.{Acknowledged, Received, Gone, Delivered, Undialled};
-    ghost use Rattle.bench_line.specs.Lines.{Past, StandFor, one_more, with_step, fault_at, put_out, dialled_refusal};
+    ghost use Rattle.bench_line.specs.Lines.{Past, AreLinesAfter, one_more, with_step};
+    ghost use Rattle.bench_line.specs.Lines.{fault_at, put_out, dialled_refusal};
     ghost use Rattle.bench_line.specs.Lines.{came_refusal, lost_refusal};
     ghost use Rattle.bench_line.specs.Lines.{with_line, lifted_one};
     ghost use Rattle.bench_line.specs.Talk.{meaning};
     ghost use Rattle.bench_line.specs.Change.{taken_back};
 
     /// The dial of a connection was acknowledged.
-    pub fn dialled(&mut self, line: u64) -> Result<Posted, LineFault>
+    pub fn dialled(&mut self, line: u64) -> Result<Posted, StepFault>
         ensures free { OnOk result (dialled_refusal self.old.lines line ≡ None) }
         ensures stands { OnOk result ((pasts : List Past)
-            → StandFor (meaning T.heard T.turned T.octets_of self.old.rules) self.old.lines pasts
-            → StandFor (meaning T.heard T.turned T.octets_of self.old.rules) self.new.lines
+            → AreLinesAfter (meaning T.heard T.turned T.octets_of self.old.rules) self.old.lines pasts
+            → AreLinesAfter (meaning T.heard T.turned T.octets_of self.old.rules) self.new.lines
             (with_step line Acknowledged pasts)) }
         ensures posted { IfOk result (λ r. put_out self.new.lines line ≡ put_out self.old.lines line + r.posted) }
         ensures lifted { OnOk result (map (λ l. l.lifted) self.new.lines ≡ map (λ l. l.lifted) self.old.lines) }
         ensures undone { IfOk result (λ r. taken_back r.change self.new.lines ≡ self.old.lines) }
         ensures rules { self.new.rules ≡ self.old.rules }
-        ensures fault { IfErr result (λ f. f ≡ unwrap_or (dialled_refusal self.old.lines line) LineFault.NoMemory) }
+        ensures fault { IfErr result (λ f. f ≡ unwrap_or (dialled_refusal self.old.lines line) StepFault.NoMemory) }
         ensures err { OnErr result (self.new ≡ self.old) }
     {
         let place = self.find_for(line, Call::Dialled)?;
@@ -62,21 +62,21 @@ impl<T: Hears> Lines<T> {
     }
 
     /// Octets came on a connection. Those that complete a message, or show a fault, are heard; the fault closes it.
-    pub fn came(&mut self, line: u64, piece: &[u8]) -> Result<Came, LineFault>
+    pub fn came(&mut self, line: u64, piece: &[u8]) -> Result<Came, StepFault>
         ensures free { OnOk result (came_refusal self.old.lines line ≡ None) }
         ensures stands { OnOk result ((pasts : List Past)
-            → StandFor (meaning T.heard T.turned T.octets_of self.old.rules) self.old.lines pasts
-            → StandFor (meaning T.heard T.turned T.octets_of self.old.rules) self.new.lines
+            → AreLinesAfter (meaning T.heard T.turned T.octets_of self.old.rules) self.old.lines pasts
+            → AreLinesAfter (meaning T.heard T.turned T.octets_of self.old.rules) self.new.lines
             (with_step line (Received piece.now) pasts)) }
         // The fault of the stream, unless a message closed the connection before it.
         ensures ended { IfOk result (λ r. (pasts : List Past)
-            → StandFor (meaning T.heard T.turned T.octets_of self.old.rules) self.old.lines pasts
+            → AreLinesAfter (meaning T.heard T.turned T.octets_of self.old.rules) self.old.lines pasts
             → r.ended ≡ fault_at (meaning T.heard T.turned T.octets_of self.old.rules) line piece.now pasts) }
         ensures posted { IfOk result (λ r. put_out self.new.lines line ≡ put_out self.old.lines line + r.posted) }
         ensures lifted { OnOk result (map (λ l. l.lifted) self.new.lines ≡ map (λ l. l.lifted) self.old.lines) }
         ensures undone { IfOk result (λ r. taken_back r.change self.new.lines ≡ self.old.lines) }
         ensures rules { self.new.rules ≡ self.old.rules }
-        ensures fault { IfErr result (λ f. f ≡ unwrap_or (came_refusal self.old.lines line) LineFault.NoMemory) }
+        ensures fault { IfErr result (λ f. f ≡ unwrap_or (came_refusal self.old.lines line) StepFault.NoMemory) }
         ensures err { OnErr result (self.new ≡ self.old) }
     {
         let place = self.find_for(line, Call::Came)?;
@@ -92,17 +92,17 @@ impl<T: Hears> Lines<T> {
     }
 
     /// A connection was lost, or its dial refused.
-    pub fn lost(&mut self, line: u64) -> Result<Posted, LineFault>
+    pub fn lost(&mut self, line: u64) -> Result<Posted, StepFault>
         ensures free { OnOk result (lost_refusal self.old.lines line ≡ None) }
         ensures stands { OnOk result ((pasts : List Past)
-            → StandFor (meaning T.heard T.turned T.octets_of self.old.rules) self.old.lines pasts
-            → StandFor (meaning T.heard T.turned T.octets_of self.old.rules) self.new.lines
+            → AreLinesAfter (meaning T.heard T.turned T.octets_of self.old.rules) self.old.lines pasts
+            → AreLinesAfter (meaning T.heard T.turned T.octets_of self.old.rules) self.new.lines
             (with_step line Gone pasts)) }
         ensures posted { IfOk result (λ r. put_out self.new.lines line ≡ put_out self.old.lines line + r.posted) }
         ensures lifted { OnOk result (map (λ l. l.lifted) self.new.lines ≡ map (λ l. l.lifted) self.old.lines) }
         ensures undone { IfOk result (λ r. taken_back r.change self.new.lines ≡ self.old.lines) }
         ensures rules { self.new.rules ≡ self.old.rules }
-        ensures fault { IfErr result (λ f. f ≡ unwrap_or (lost_refusal self.old.lines line) LineFault.NoMemory) }
+        ensures fault { IfErr result (λ f. f ≡ unwrap_or (lost_refusal self.old.lines line) StepFault.NoMemory) }
         ensures err { OnErr result (self.new ≡ self.old) }
     {
         let place = self.find_for(line, Call::Lost)?;
@@ -116,15 +116,15 @@ impl<T: Hears> Lines<T> {
 
     /// A deed is dropped to a connection: one that sends a message, or a Close. Where the connection is closed or
     /// unknown nothing is done.
-    pub fn deliver(&mut self, item: &LineItem) -> Result<Change, LineFault>
+    pub fn deliver(&mut self, item: &LineItem) -> Result<Change, StepFault>
         ensures stands { OnOk result ((pasts : List Past)
-            → StandFor (meaning T.heard T.turned T.octets_of self.old.rules) self.old.lines pasts
-            → StandFor (meaning T.heard T.turned T.octets_of self.old.rules) self.new.lines
+            → AreLinesAfter (meaning T.heard T.turned T.octets_of self.old.rules) self.old.lines pasts
+            → AreLinesAfter (meaning T.heard T.turned T.octets_of self.old.rules) self.new.lines
             (with_step item.now.line (Delivered item.now) pasts)) }
         ensures lifted { OnOk result (map (λ l. l.lifted) self.new.lines ≡ map (λ l. l.lifted) self.old.lines) }
         ensures undone { IfOk result (λ change. taken_back change self.new.lines ≡ self.old.lines) }
         ensures rules { self.new.rules ≡ self.old.rules }
-        ensures fault { IfErr result (λ f. f ≡ LineFault.NoMemory) }
+        ensures fault { IfErr result (λ f. f ≡ StepFault.NoMemory) }
         ensures err { OnErr result (self.new ≡ self.old) }
     {
         let Ok(place) = self.find(item.line) else {
@@ -138,16 +138,16 @@ impl<T: Hears> Lines<T> {
     }
 
     /// The dial of that peer and generation is given up: a connection that it opened closes.
-    pub fn undial(&mut self, peer: u64, generation: u64) -> Result<Change, LineFault>
+    pub fn undial(&mut self, peer: u64, generation: u64) -> Result<Change, StepFault>
         ensures lines { OnOk result (self.new.lines ≡ map (undialled peer generation) self.old.lines) }
         ensures stands { OnOk result ((pasts : List Past)
-            → StandFor (meaning T.heard T.turned T.octets_of self.old.rules) self.old.lines pasts
-            → StandFor (meaning T.heard T.turned T.octets_of self.old.rules) self.new.lines
+            → AreLinesAfter (meaning T.heard T.turned T.octets_of self.old.rules) self.old.lines pasts
+            → AreLinesAfter (meaning T.heard T.turned T.octets_of self.old.rules) self.new.lines
             (map (one_more (Undialled peer generation)) pasts)) }
         ensures lifted { OnOk result (map (λ l. l.lifted) self.new.lines ≡ map (λ l. l.lifted) self.old.lines) }
         ensures undone { IfOk result (λ change. taken_back change self.new.lines ≡ self.old.lines) }
         ensures rules { self.new.rules ≡ self.old.rules }
-        ensures fault { IfErr result (λ f. f ≡ LineFault.NoMemory) }
+        ensures fault { IfErr result (λ f. f ≡ StepFault.NoMemory) }
         ensures err { OnErr result (self.new ≡ self.old) }
     {
         let states = states_of_dial(self.alloc, &self.lines, peer, generation)?;
@@ -164,8 +164,8 @@ impl<T: Hears> Lines<T> {
         ensures lifted { self.new.lines ≡ with_line line lifted_one self.old.lines }
         ensures rules { self.new.rules ≡ self.old.rules }
         ensures stands { (pasts : List Past)
-            → StandFor (meaning T.heard T.turned T.octets_of self.old.rules) self.old.lines pasts
-            → StandFor (meaning T.heard T.turned T.octets_of self.old.rules) self.new.lines pasts }
+            → AreLinesAfter (meaning T.heard T.turned T.octets_of self.old.rules) self.old.lines pasts
+            → AreLinesAfter (meaning T.heard T.turned T.octets_of self.old.rules) self.new.lines pasts }
         ensures undone { taken_back result self.new.lines ≡ self.old.lines }
     {
         let Ok(place) = self.find(line) else {
@@ -185,9 +185,9 @@ fn states_of_dial(
     lines: &[Line],
     peer: u64,
     generation: u64,
-) -> Result<Vec<LineState>, LineFault>
+) -> Result<Vec<LineState>, StepFault>
     ensures ok { IfOk result (λ states. states.items ≡ states_of_dial peer generation lines.now) }
-    ensures fault { IfErr result (λ f. f ≡ LineFault.NoMemory) }
+    ensures fault { IfErr result (λ f. f ≡ StepFault.NoMemory) }
 {
     let mut states = Vec::new(alloc);
     for line in lines {

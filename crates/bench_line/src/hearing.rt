@@ -1,11 +1,10 @@
 //! What happens to one connection.
 ghost use Rattle.std.specs.Prelude.{◌≡◌, List, length, is_some, IfOk, IfErr, IfSome, MatchOption, OnOk, OnErr};
 
-use crate::fault::LineFault;
 use crate::line::{Before, FramerBefore, Line};
 use crate::round::{Round, fed};
 use base_codes::DeedCode;
-use bench_item::{Hears, LineEvent, LineItem, LineState};
+use bench_item::{Hears, LineEvent, LineItem, LineState, StepFault};
 use dia_frame::{FrameFault, Framer};
 use std::alloc::Global;
 use std::mem;
@@ -35,13 +34,13 @@ impl Line {
         alloc: Global,
         rules: &T,
         line: u64,
-    ) -> Result<(), LineFault>
+    ) -> Result<(), StepFault>
         ensures ok { OnOk result (self.new
             ≡ acknowledged (meaning T.heard T.turned T.octets_of rules.now) line self.old) }
-        ensures fault { IfErr result (λ f. f ≡ LineFault.NoMemory) }
+        ensures fault { IfErr result (λ f. f ≡ StepFault.NoMemory) }
         ensures err { OnErr result (self.new ≡ self.old) }
     {
-        let post = rules.turn(alloc, self.found(line), LineEvent::Acknowledged)?;
+        let post = rules.on_event(alloc, self.found(line), LineEvent::Acknowledged)?;
         self.put_out(post)?;
         self.state = LineState::Open;
         Ok(())
@@ -53,12 +52,12 @@ impl Line {
         alloc: Global,
         rules: &T,
         line: u64,
-    ) -> Result<(), LineFault>
+    ) -> Result<(), StepFault>
         ensures ok { OnOk result (self.new ≡ lost (meaning T.heard T.turned T.octets_of rules.now) line self.old) }
-        ensures fault { IfErr result (λ f. f ≡ LineFault.NoMemory) }
+        ensures fault { IfErr result (λ f. f ≡ StepFault.NoMemory) }
         ensures err { OnErr result (self.new ≡ self.old) }
     {
-        let post = rules.turn(alloc, self.found(line), self.loss())?;
+        let post = rules.on_event(alloc, self.found(line), self.loss())?;
         self.put_out(post)?;
         self.state = LineState::Closed;
         Ok(())
@@ -71,14 +70,14 @@ impl Line {
         rules: &T,
         line: u64,
         piece: &[u8],
-    ) -> Result<(Option<FrameFault>, Before), LineFault>
+    ) -> Result<(Option<FrameFault>, Before), StepFault>
         ensures stands { IfOk result (λ r. (opening : Opening) (happened : List LineStep)
             → Stands (meaning T.heard T.turned T.octets_of rules.now) line self.old opening happened
             → self.old.state ≡ LineState.Open
             → Receives (meaning T.heard T.turned T.octets_of rules.now) line opening happened piece.now self.new r.0) }
         ensures outbox { IfOk result (λ r. r.1.outbox ≡ length self.old.outbox) }
         ensures undone { IfOk result (λ r. restored r.1 self.new ≡ self.old) }
-        ensures fault { IfErr result (λ f. f ≡ LineFault.NoMemory) }
+        ensures fault { IfErr result (λ f. f ≡ StepFault.NoMemory) }
         ensures err { OnErr result (self.new ≡ self.old) }
     {
         match self.hold(piece)? {
@@ -88,13 +87,13 @@ impl Line {
     }
 
     // Holds a piece, where it completes no message and shows no fault.
-    fn hold(&mut self, piece: &[u8]) -> Result<Option<Before>, LineFault>
+    fn hold(&mut self, piece: &[u8]) -> Result<Option<Before>, StepFault>
         ensures held { IfOk result (λ r. is_some r ≡ can_hold self.old.framer piece.now) }
         ensures ok { IfOk result (λ r. MatchOption r (self.new ≡ self.old)
             (λ _. IsHolding piece.now self.old self.new)) }
         ensures outbox { IfOk result (λ r. IfSome r (λ before. before.outbox ≡ length self.old.outbox)) }
         ensures undone { IfOk result (λ r. IfSome r (λ before. restored before self.new ≡ self.old)) }
-        ensures fault { IfErr result (λ f. f ≡ LineFault.NoMemory) }
+        ensures fault { IfErr result (λ f. f ≡ StepFault.NoMemory) }
         ensures err { OnErr result (self.new ≡ self.old) }
     {
         let held = self.framer.rest_len();
@@ -113,14 +112,14 @@ impl Line {
         rules: &T,
         line: u64,
         piece: &[u8],
-    ) -> Result<(Option<FrameFault>, Before), LineFault>
+    ) -> Result<(Option<FrameFault>, Before), StepFault>
         ensures stands { IfOk result (λ r. (opening : Opening) (happened : List LineStep)
             → Stands (meaning T.heard T.turned T.octets_of rules.now) line self.old opening happened
             → self.old.state ≡ LineState.Open
             → Receives (meaning T.heard T.turned T.octets_of rules.now) line opening happened piece.now self.new r.0) }
         ensures outbox { IfOk result (λ r. r.1.outbox ≡ length self.old.outbox) }
         ensures undone { IfOk result (λ r. restored r.1 self.new ≡ self.old) }
-        ensures fault { IfErr result (λ f. f ≡ LineFault.NoMemory) }
+        ensures fault { IfErr result (λ f. f ≡ StepFault.NoMemory) }
         ensures err { OnErr result (self.new ≡ self.old) }
     {
         let mut before = self.before();
@@ -141,12 +140,12 @@ impl Line {
         rules: &T,
         line: u64,
         piece: &[u8],
-    ) -> Result<Listened, LineFault>
+    ) -> Result<Listened, StepFault>
         ensures heard { IfOk result (λ r. (opening : Opening) (happened : List LineStep)
             → IsAlive (meaning T.heard T.turned T.octets_of rules.now) line self.now opening happened
             → IsHeard (meaning T.heard T.turned T.octets_of rules.now) line self.now opening (stream_of happened)
             piece.now r.framer r.round r.ended) }
-        ensures fault { IfErr result (λ f. f ≡ LineFault.NoMemory) }
+        ensures fault { IfErr result (λ f. f ≡ StepFault.NoMemory) }
     {
         let mut framer = self.framer.copy()?;
         let fault = fed(&mut framer, piece)?;
@@ -160,10 +159,10 @@ impl Line {
     }
 
     // Keeps what was heard, and hands out the framer before it.
-    fn keep(&mut self, framer: Framer, round: Round) -> Result<Framer, LineFault>
+    fn keep(&mut self, framer: Framer, round: Round) -> Result<Framer, StepFault>
         ensures ok { OnOk result (self.new ≡ kept framer round self.old) }
         ensures before { IfOk result (λ f. f ≡ self.old.framer) }
-        ensures fault { IfErr result (λ f. f ≡ LineFault.NoMemory) }
+        ensures fault { IfErr result (λ f. f ≡ StepFault.NoMemory) }
         ensures err { OnErr result (self.new ≡ self.old) }
     {
         let Round {
@@ -188,10 +187,10 @@ impl Line {
         alloc: Global,
         rules: &T,
         item: &LineItem,
-    ) -> Result<(), LineFault>
+    ) -> Result<(), StepFault>
         ensures ok { OnOk result (self.new
             ≡ delivered (meaning T.heard T.turned T.octets_of rules.now) item.now self.old) }
-        ensures fault { IfErr result (λ f. f ≡ LineFault.NoMemory) }
+        ensures fault { IfErr result (λ f. f ≡ StepFault.NoMemory) }
         ensures err { OnErr result (self.new ≡ self.old) }
     {
         if let LineState::Closed = self.state {

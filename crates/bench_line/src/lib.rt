@@ -10,14 +10,12 @@
 //! | `line` | one connection: how it is kept, and how it is seen |
 //! | `hearing` | what happens to one connection |
 //! | `round` | what the messages of one piece come to, before any of it is kept |
-//! | `fault` | why a call is refused |
 //! | `limit` | the longest message |
 #![tactic(auto)]
 
 mod back;
 mod calls;
 mod change;
-mod fault;
 mod hearing;
 mod limit;
 mod line;
@@ -29,7 +27,6 @@ pub use bench_item::{Hears, Item, LineItem, LineState, MAX_LINES, MAX_WAITING, O
 pub use calls::{Came, Posted};
 pub use change::Change;
 pub use dia_frame::FrameFault;
-pub use fault::LineFault;
 pub use limit::MAX_MESSAGE;
 pub use line::{Before, FramerBefore};
 pub use lines::Lines;

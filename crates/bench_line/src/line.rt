@@ -2,10 +2,9 @@
 ghost use Rattle.std.specs.Prelude.{◌≡◌, ◌++◌, length, IfErr, OnOk, OnErr, option_to_list, option_copied, slice_get};
 ghost use Rattle.std.specs.Prelude.{nat_lt, ◌-◌};
 
-use crate::fault::LineFault;
 use crate::limit::MAX_MESSAGE;
 use crate::places::Call;
-use bench_item::{Heard, Item, LineEvent, LineState, MAX_WAITING, Opening};
+use bench_item::{Heard, Item, LineEvent, LineState, MAX_WAITING, Opening, StepFault};
 use dia_frame::Framer;
 use std::alloc::Global;
 use std::marker::Model;
@@ -129,9 +128,9 @@ impl Line {
     }
 
     /// Puts an item out, if there is one.
-    pub(crate) fn put_out(&mut self, post: Option<Item>) -> Result<(), LineFault>
+    pub(crate) fn put_out(&mut self, post: Option<Item>) -> Result<(), StepFault>
         ensures ok { OnOk result (self.new ≡ record self.old { outbox = self.old.outbox ++ option_to_list post }) }
-        ensures fault { IfErr result (λ f. f ≡ LineFault.NoMemory) }
+        ensures fault { IfErr result (λ f. f ≡ StepFault.NoMemory) }
         ensures err { OnErr result (self.new ≡ self.old) }
     {
         if let Some(item) = post {
@@ -185,32 +184,32 @@ impl Line {
     }
 
     // That it is crowded, where it is.
-    fn full(&self) -> Option<LineFault>
+    fn full(&self) -> Option<StepFault>
         ensures { result ≡ full_of self.now }
     {
         if self.is_crowded() {
-            Some(LineFault::Full)
+            Some(StepFault::Full)
         } else {
             None
         }
     }
 
     /// Why it refuses a call, if it does.
-    pub(crate) fn refusal(&self, call: Call) -> Option<LineFault>
+    pub(crate) fn refusal(&self, call: Call) -> Option<StepFault>
         ensures { result ≡ refused_by call self.now }
     {
         match call {
             Call::Dialled => match self.state {
-                LineState::Closed => Some(LineFault::Closed),
-                LineState::Open => Some(LineFault::Nothing),
+                LineState::Closed => Some(StepFault::Closed),
+                LineState::Open => Some(StepFault::Nothing),
                 LineState::Dialling { .. } => self.full(),
             },
             Call::Came => match self.state {
-                LineState::Closed | LineState::Dialling { .. } => Some(LineFault::Closed),
+                LineState::Closed | LineState::Dialling { .. } => Some(StepFault::Closed),
                 LineState::Open => self.full(),
             },
             Call::Lost => match self.state {
-                LineState::Closed => Some(LineFault::Closed),
+                LineState::Closed => Some(StepFault::Closed),
                 LineState::Open | LineState::Dialling { .. } => self.full(),
             },
         }

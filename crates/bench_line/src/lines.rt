@@ -2,9 +2,8 @@
 ghost use Rattle.std.specs.Prelude.{◌≡◌, ◌+◌, ◌++◌, ◌∷◌, [], List, length, IfOk, IfErr, OnOk, OnErr, None};
 ghost use Rattle.std.specs.Prelude.{option_copied, unwrap_or, min, take, drop, map};
 
-use crate::fault::LineFault;
 use crate::line::Line;
-use bench_item::{Hears, Item, LineState, MAX_LINES, Opening};
+use bench_item::{Hears, Item, LineState, MAX_LINES, Opening, StepFault};
 use std::alloc::Global;
 use std::marker::Model;
 
@@ -40,7 +39,7 @@ impl<T> Model for Lines<T> {
 
 impl<T: Hears> Lines<T> {
     ghost use Rattle.bench_item.specs.declared.opening.Opening.TheVariants as openings;
-    ghost use Rattle.bench_line.specs.Lines.{Past, StandFor, opened, opening_refusal};
+    ghost use Rattle.bench_line.specs.Lines.{Past, AreLinesAfter, opened, opening_refusal};
     ghost use Rattle.bench_line.specs.Lines.{item_on, lifted_on, next_on, state_on, sent_on};
     ghost use Rattle.bench_line.specs.Line.{new_line};
     ghost use Rattle.bench_line.specs.Talk.{meaning};
@@ -50,7 +49,7 @@ impl<T: Hears> Lines<T> {
     /// No connections. Takes no memory.
     pub fn new(alloc: Global, rules: T) -> Lines<T>
         ensures value { result ≡ record { rules = rules; lines = [] } }
-        ensures stands { StandFor (meaning T.heard T.turned T.octets_of rules) result.lines [] }
+        ensures stands { AreLinesAfter (meaning T.heard T.turned T.octets_of rules) result.lines [] }
     {
         Lines {
             alloc,
@@ -60,15 +59,15 @@ impl<T: Hears> Lines<T> {
     }
 
     // Opens a connection, and answers its number.
-    fn add(&mut self, opening: Opening) -> Result<u64, LineFault>
+    fn add(&mut self, opening: Opening) -> Result<u64, StepFault>
         ensures free { OnOk result (opening_refusal self.old.lines ≡ None) }
         ensures number { IfOk result (λ line. line ≡ length self.old.lines + 1) }
         ensures ok { OnOk result (self.new ≡ record self.old { lines = self.old.lines ++ new_line opening ∷ [] }) }
-        ensures fault { IfErr result (λ f. f ≡ unwrap_or (opening_refusal self.old.lines) LineFault.NoMemory) }
+        ensures fault { IfErr result (λ f. f ≡ unwrap_or (opening_refusal self.old.lines) StepFault.NoMemory) }
         ensures err { OnErr result (self.new ≡ self.old) }
     {
         if self.lines.len() >= MAX_LINES {
-            return Err(LineFault::Full);
+            return Err(StepFault::Full);
         }
         let line = Line::new(self.alloc, opening);
         self.lines.push(line)?;
@@ -76,17 +75,18 @@ impl<T: Hears> Lines<T> {
     }
 
     /// The peer's side opened a connection. Answers its number. It is taken back by `Change::Opened`.
-    pub fn joined(&mut self) -> Result<u64, LineFault>
+    pub fn joined(&mut self) -> Result<u64, StepFault>
         ensures free { OnOk result (opening_refusal self.old.lines ≡ None) }
         ensures number { IfOk result (λ line. line ≡ length self.old.lines + 1) }
         ensures stands { OnOk result ((pasts : List Past)
-            → StandFor (meaning T.heard T.turned T.octets_of self.old.rules) self.old.lines pasts
-            → StandFor (meaning T.heard T.turned T.octets_of self.old.rules) self.new.lines
+            → AreLinesAfter (meaning T.heard T.turned T.octets_of self.old.rules) self.old.lines pasts
+            → AreLinesAfter (meaning T.heard T.turned T.octets_of self.old.rules) self.new.lines
             (opened openings.Accepted pasts)) }
-        ensures lifted { OnOk result (map (λ l. l.lifted) self.new.lines ≡ map (λ l. l.lifted) self.old.lines ++ 0 ∷ []) }
+        ensures lifted { OnOk result (map (λ l. l.lifted) self.new.lines
+            ≡ map (λ l. l.lifted) self.old.lines ++ 0 ∷ []) }
         ensures undone { OnOk result (taken_back Change.Opened self.new.lines ≡ self.old.lines) }
         ensures rules { self.new.rules ≡ self.old.rules }
-        ensures fault { IfErr result (λ f. f ≡ unwrap_or (opening_refusal self.old.lines) LineFault.NoMemory) }
+        ensures fault { IfErr result (λ f. f ≡ unwrap_or (opening_refusal self.old.lines) StepFault.NoMemory) }
         ensures err { OnErr result (self.new ≡ self.old) }
     {
         self.add(Opening::Accepted)
@@ -94,17 +94,18 @@ impl<T: Hears> Lines<T> {
 
     /// A dial opens a connection to the peer whose machine has that number. Answers its number. It is taken back by
     /// `Change::Opened`.
-    pub fn dial(&mut self, peer: u64, generation: u64) -> Result<u64, LineFault>
+    pub fn dial(&mut self, peer: u64, generation: u64) -> Result<u64, StepFault>
         ensures free { OnOk result (opening_refusal self.old.lines ≡ None) }
         ensures number { IfOk result (λ line. line ≡ length self.old.lines + 1) }
         ensures stands { OnOk result ((pasts : List Past)
-            → StandFor (meaning T.heard T.turned T.octets_of self.old.rules) self.old.lines pasts
-            → StandFor (meaning T.heard T.turned T.octets_of self.old.rules) self.new.lines
+            → AreLinesAfter (meaning T.heard T.turned T.octets_of self.old.rules) self.old.lines pasts
+            → AreLinesAfter (meaning T.heard T.turned T.octets_of self.old.rules) self.new.lines
             (opened (openings.Dialled peer generation) pasts)) }
-        ensures lifted { OnOk result (map (λ l. l.lifted) self.new.lines ≡ map (λ l. l.lifted) self.old.lines ++ 0 ∷ []) }
+        ensures lifted { OnOk result (map (λ l. l.lifted) self.new.lines
+            ≡ map (λ l. l.lifted) self.old.lines ++ 0 ∷ []) }
         ensures undone { OnOk result (taken_back Change.Opened self.new.lines ≡ self.old.lines) }
         ensures rules { self.new.rules ≡ self.old.rules }
-        ensures fault { IfErr result (λ f. f ≡ unwrap_or (opening_refusal self.old.lines) LineFault.NoMemory) }
+        ensures fault { IfErr result (λ f. f ≡ unwrap_or (opening_refusal self.old.lines) StepFault.NoMemory) }
         ensures err { OnErr result (self.new ≡ self.old) }
     {
         self.add(Opening::Dialled { peer, generation })

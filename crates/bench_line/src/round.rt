@@ -3,8 +3,7 @@
 ghost use Rattle.std.specs.Prelude.{◌≡◌, ◌++◌, [], ℕ, List, IfOk, IfErr, OnOk, None, false, option_to_list};
 ghost use Rattle.dia_frame.specs.Framer.{Shows};
 
-use crate::fault::LineFault;
-use bench_item::{Heard, Hears, Item, LineEvent, Turn};
+use bench_item::{Heard, Hears, Item, LineEvent, StepFault, Turn};
 use dia_frame::{FeedError, FrameFault, Framer};
 use std::alloc::Global;
 use std::marker::Model;
@@ -43,9 +42,9 @@ impl Round {
         }
     }
 
-    fn put_out(&mut self, post: Option<Item>) -> Result<(), LineFault>
+    fn put_out(&mut self, post: Option<Item>) -> Result<(), StepFault>
         ensures ok { OnOk result (self.new ≡ record self.old { posts = self.old.posts ++ option_to_list post }) }
-        ensures fault { IfErr result (λ f. f ≡ LineFault.NoMemory) }
+        ensures fault { IfErr result (λ f. f ≡ StepFault.NoMemory) }
     {
         if let Some(item) = post {
             self.posts.push(item)?;
@@ -54,9 +53,9 @@ impl Round {
     }
 
     // Takes what is made of a message.
-    fn take(&mut self, turn: Turn) -> Result<(), LineFault>
+    fn take(&mut self, turn: Turn) -> Result<(), StepFault>
         ensures ok { OnOk result (IsTurned turn self.old self.new) }
-        ensures fault { IfErr result (λ f. f ≡ LineFault.NoMemory) }
+        ensures fault { IfErr result (λ f. f ≡ StepFault.NoMemory) }
     {
         let Turn {
             post,
@@ -72,11 +71,11 @@ impl Round {
     }
 
     /// Hears a message.
-    fn hear<T: Hears>(&mut self, alloc: Global, rules: &T, octets: &[u8]) -> Result<(), LineFault>
+    fn hear<T: Hears>(&mut self, alloc: Global, rules: &T, octets: &[u8]) -> Result<(), StepFault>
         ensures ok { OnOk result (IsTurned (T.heard rules.now self.old.at octets.now) self.old self.new) }
-        ensures fault { IfErr result (λ f. f ≡ LineFault.NoMemory) }
+        ensures fault { IfErr result (λ f. f ≡ StepFault.NoMemory) }
     {
-        let turn = rules.hear(alloc, self.at, octets)?;
+        let turn = rules.on_message(alloc, self.at, octets)?;
         self.take(turn)
     }
 
@@ -86,10 +85,10 @@ impl Round {
         rules: &T,
         at: Heard,
         framer: &mut Framer,
-    ) -> Result<Round, LineFault>
+    ) -> Result<Round, StepFault>
         ensures round { IfOk result (IsRound (meaning T.heard T.turned T.octets_of rules.now) at framer.old.waiting) }
         ensures heard { IfOk result (λ r. r.closed ≡ false → framer.new ≡ record framer.old { waiting = [] }) }
-        ensures fault { IfErr result (λ f. f ≡ LineFault.NoMemory) }
+        ensures fault { IfErr result (λ f. f ≡ StepFault.NoMemory) }
     {
         let mut round = Round::new(alloc, at);
         while let Some(frame) = framer.next_frame() {
@@ -108,14 +107,14 @@ impl Round {
         alloc: Global,
         rules: &T,
         fault: Option<FrameFault>,
-    ) -> Result<Option<FrameFault>, LineFault>
+    ) -> Result<Option<FrameFault>, StepFault>
         ensures ok { IfOk result (IsEnded (meaning T.heard T.turned T.octets_of rules.now) fault self.old self.new) }
-        ensures fault { IfErr result (λ f. f ≡ LineFault.NoMemory) }
+        ensures fault { IfErr result (λ f. f ≡ StepFault.NoMemory) }
     {
         if self.closed || fault.is_none() {
             return Ok(None);
         }
-        let post = rules.turn(alloc, self.at, LineEvent::Disconnected)?;
+        let post = rules.on_event(alloc, self.at, LineEvent::Disconnected)?;
         self.put_out(post)?;
         self.closed = true;
         Ok(fault)
@@ -123,14 +122,14 @@ impl Round {
 }
 
 /// Feeds a piece, and says which fault it shows.
-pub(crate) fn fed(framer: &mut Framer, piece: &[u8]) -> Result<Option<FrameFault>, LineFault>
+pub(crate) fn fed(framer: &mut Framer, piece: &[u8]) -> Result<Option<FrameFault>, StepFault>
     ensures shows { IfOk result (λ fault. (limit : ℕ) (handed : List (List ℕ)) (stream : List ℕ)
         → Shows framer.old limit handed stream None → Shows framer.new limit handed (stream ++ piece.now) fault) }
-    ensures fault { IfErr result (λ f. f ≡ LineFault.NoMemory) }
+    ensures fault { IfErr result (λ f. f ≡ StepFault.NoMemory) }
 {
     match framer.feed(piece) {
         Ok(_) => Ok(None),
         Err(FeedError::Fault(fault)) => Ok(Some(fault)),
-        Err(FeedError::NoMemory) => Err(LineFault::NoMemory),
+        Err(FeedError::NoMemory) => Err(StepFault::NoMemory),
     }
 }

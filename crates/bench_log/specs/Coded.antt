@@ -22,9 +22,11 @@ width head = if head == 253 then 3 else (if head == 254 then 5 else (if head == 
 abbrev pub first : List ℕ → ℕ
 first s =
     if slice_index s 0 == 253 then from_le_bytes w16 (slice_index s 1 ∷ slice_index s 2 ∷ [])
-    else (if slice_index s 0 == 254 then from_le_bytes w32 (slice_index s 1 ∷ slice_index s 2 ∷ slice_index s 3 ∷ slice_index s 4 ∷ [])
+    else (if slice_index s 0
+    == 254 then from_le_bytes w32 (slice_index s 1 ∷ slice_index s 2 ∷ slice_index s 3 ∷ slice_index s 4 ∷ [])
     else (if slice_index s 0 == 255
-    then from_le_bytes w64 (slice_index s 1 ∷ slice_index s 2 ∷ slice_index s 3 ∷ slice_index s 4 ∷ slice_index s 5 ∷ slice_index s 6 ∷ slice_index s 7 ∷ slice_index s 8 ∷ [])
+    then from_le_bytes w64 (slice_index s 1 ∷ slice_index s 2
+    ∷ slice_index s 3 ∷ slice_index s 4 ∷ slice_index s 5 ∷ slice_index s 6 ∷ slice_index s 7 ∷ slice_index s 8 ∷ [])
     else slice_index s 0))
 
 -- the octets behind the first number

@@ -22,4 +22,5 @@ moves machine e = option_map_or (λ m. m == machine) (machine_in e) false
 
 -- the places of the entries that move a machine, in order
 abbrev pub places_of : ℕ → List Entry → List ℕ
-places_of machine log = map (λ numbered. numbered.0) (filter (λ numbered. moves machine numbered.1) (enumerate_from 0 log))
+places_of machine log =
+    map (λ numbered. numbered.0) (filter (λ numbered. moves machine numbered.1) (enumerate_from 0 log))

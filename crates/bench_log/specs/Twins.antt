@@ -11,7 +11,8 @@ use Rattle.bench_log.specs.declared.item.ItemForm.{ItemForm}
 use Rattle.bench_log.specs.declared.item.ItemForm.TheVariants.{ToMachine, ToLine, Dial, Undial, Arm, Disarm}
 use Rattle.bench_log.specs.declared.step.KeptTold.{KeptTold}
 use Rattle.bench_log.specs.declared.step.KeptStep.{KeptStep}
-use Rattle.bench_log.specs.declared.step.KeptStep.TheVariants.{Joined, Dialled, Came, Lost, Told, Fired, Lift, Drop, Work}
+use Rattle.bench_log.specs.declared.step.KeptStep.TheVariants.{Joined, Dialled, Came, Lost, Told, Fired}
+use Rattle.bench_log.specs.declared.step.KeptStep.TheVariants.{Lift, Drop, Work}
 use Rattle.bench_log.specs.declared.entry.KeptHandled.{KeptHandled}
 use Rattle.bench_log.specs.declared.entry.KeptHandled.TheVariants.{TooBusy, Stale, Move}
 

@@ -94,7 +94,9 @@ pub(crate) fn first(s: &[u8]) -> u64
 
 /// The number of the eight octets behind the first.
 fn long(s: &[u8]) -> u64
-    ensures { result ≡ from_le_bytes w64 (slice_index s.now 1 ∷ slice_index s.now 2 ∷ slice_index s.now 3 ∷ slice_index s.now 4 ∷ slice_index s.now 5 ∷ slice_index s.now 6 ∷ slice_index s.now 7 ∷ slice_index s.now 8 ∷ []) }
+    ensures { result
+        ≡ from_le_bytes w64 (slice_index s.now 1 ∷ slice_index s.now 2 ∷ slice_index s.now 3 ∷ slice_index s.now 4
+        ∷ slice_index s.now 5 ∷ slice_index s.now 6 ∷ slice_index s.now 7 ∷ slice_index s.now 8 ∷ []) }
 {
     u64::from_le_bytes([
         octet(s, 1),

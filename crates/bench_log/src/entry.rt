@@ -167,7 +167,8 @@ impl KeptEntry {
         item: &MachineItem,
         handled: &Handled,
     ) -> Result<KeptEntry, AllocError>
-        ensures { IfOk result (λ kept. kept ≡ entry_with (steps.Work shard) (Some (ToMachine item.now)) (Some handled.now)) }
+        ensures { IfOk result (λ kept. kept
+            ≡ entry_with (steps.Work shard) (Some (ToMachine item.now)) (Some handled.now)) }
     {
         let handled = KeptHandled::keep(alloc, handled)?;
         let event = KeptMachineItem::keep(alloc, item)?;

@@ -1,5 +1,6 @@
 //! The log.
-ghost use Rattle.std.specs.Prelude.{◌≡◌, ◌==◌, ◌-◌, ◌≤◌, ◌<◌, [], false, None, Ok, IsOk, IfOk, OnOk, OnErr, IfErr, length, max};
+ghost use Rattle.std.specs.Prelude.{◌≡◌, ◌==◌, ◌-◌, ◌≤◌, ◌<◌, [], false, None, Ok, IsOk, IfOk, OnOk, OnErr};
+ghost use Rattle.std.specs.Prelude.{IfErr, length, max};
 ghost use Rattle.std.specs.List.{slice_get};
 ghost use Rattle.std.specs.Option.{option_map, option_and_then};
 ghost use Rattle.bench_log.specs.declared.log.LogError.TheVariants.{NoMemory};
@@ -39,8 +40,8 @@ impl<T: Drop> From<AllocFailed<T>> for LogError {
     }
 }
 
-/// The steps that were taken, in order, with what each carried and which machine it moved; 1,048,576 at most. A contract sees the
-/// plain entries, and how many more the log takes without memory.
+/// The steps that were taken, in order, with what each carried and which machine it moved; 1,048,576 at most.
+/// A contract sees the plain entries, and how many more the log takes without memory.
 pub struct Log {
     entries: Vec<KeptEntry>,
     // So many entries can be put without memory.
@@ -63,7 +64,8 @@ impl Model for Log {
 
     ghost view = { λ l. record { entries = l.entries.items; room = l.room } };
 
-    ghost invariant = { λ l. (vec_len l.entries + l.room ≤ vec_capacity l.entries) × (vec_len l.entries + l.room ≤ MAX_ENTRIES) };
+    ghost invariant = { λ l. (vec_len l.entries + l.room ≤ vec_capacity l.entries)
+        × (vec_len l.entries + l.room ≤ MAX_ENTRIES) };
 }
 
 impl Log {
@@ -184,7 +186,8 @@ impl Log {
 
     /// The step of the entry at a place; none past the end.
     pub fn step(&self, place: usize, alloc: Global) -> Result<Option<Step>, AllocError>
-        ensures step { IfOk result (λ step. step ≡ option_map (λ entry. entry.step) (slice_get self.now.entries place)) }
+        ensures step { IfOk result (λ step. step
+            ≡ option_map (λ entry. entry.step) (slice_get self.now.entries place)) }
         ensures past { length self.now.entries ≤ place → result ≡ Ok None }
     {
         match self.entries.get(place) {
@@ -195,7 +198,8 @@ impl Log {
 
     /// The item of the entry at a place; none where it has none, and past the end.
     pub fn item(&self, place: usize, alloc: Global) -> Result<Option<Item>, AllocError>
-        ensures item { IfOk result (λ item. item ≡ option_and_then (λ entry. entry.item) (slice_get self.now.entries place)) }
+        ensures item { IfOk result (λ item. item
+            ≡ option_and_then (λ entry. entry.item) (slice_get self.now.entries place)) }
         ensures past { length self.now.entries ≤ place → result ≡ Ok None }
     {
         match self.entries.get(place) {
@@ -204,7 +208,8 @@ impl Log {
         }
     }
 
-    /// The number of the machine that the entry at a place moved; none where it moved none, and past the end. Takes no memory.
+    /// The number of the machine that the entry at a place moved;
+    /// none where it moved none, and past the end. Takes no memory.
     pub fn machine(&self, place: usize) -> Option<u64>
         ensures { result ≡ option_and_then machine_in (slice_get self.now.entries place) }
     {

@@ -9,8 +9,8 @@ use std::alloc::{AllocError, Global};
 use std::marker::Model;
 use tab_law::PLACES;
 
-/// The registers of a machine, the facts of an event or the arguments of a deed. Zeros at the end take no room, and each number
-/// before them takes as few octets as it needs. A contract sees all 64 numbers.
+/// The registers of a machine, the facts of an event or the arguments of a deed. Zeros at the end take no room, and
+/// each number before them takes as few octets as it needs. A contract sees all 64 numbers.
 pub(crate) struct Places {
     octets: Vec<u8>,
     // So many numbers are kept.

@@ -1,5 +1,6 @@
 -- Lists of stamps, and the one order in which they rise.
-use Rattle.std.specs.Prelude.{◌≡◌, ◌≢◌, ◌<◌, ◌≤◌, ◌+◌, ◌==◌, ℕ, List, [], filter, length, map, slice_index, slice_index_or}
+use Rattle.std.specs.Prelude.{◌≡◌, ◌≢◌, ◌<◌, ◌≤◌, ◌+◌, ◌==◌, ℕ, List, [], filter, length}
+use Rattle.std.specs.Prelude.{map, slice_index, slice_index_or}
 use Rattle.std.specs.Prelude.{Option, None, Some, ◌⊎◌}
 use Rattle.std.specs.List.{range_with_len}
 use Rattle.std.specs.List.Sorted.{IsStrictlyIncreasing}
@@ -13,8 +14,8 @@ stamps_at parts part = slice_index_or parts part []
 abbrev pub of_part : ℕ → List Placed → List Placed
 of_part part order = filter (λ t. t.part == part) order
 
--- The stamps of all parts in one order: they rise, and of each part it has all stamps, each once, in the part's own order, with their
--- places there.
+-- The stamps of all parts in one order: they rise, and of each part it has all stamps, each once,
+-- in the part's own order, with their places there.
 pub record IsOrder (parts : List (List ℕ)) (order : List Placed) : Type 0 where
   pub rising : IsStrictlyIncreasing (map (λ t. t.stamp) order)
   pub stamps : (part : ℕ) → map (λ t. t.stamp) (of_part part order) ≡ stamps_at parts part

@@ -18,7 +18,8 @@ pub struct Placed {
 fn head_of(parts: &[Series<u64>], heads: &[usize], part: usize) -> Option<Placed>
     requires part { part < length parts.now }
     requires each { length heads.now ≡ length parts.now }
-    ensures { MatchOption result (length (stamps_at parts.now part) ≤ slice_index heads.now part) (IsHeadOf parts.now heads.now part) }
+    ensures { MatchOption result (length (stamps_at parts.now part) ≤ slice_index heads.now part)
+        (IsHeadOf parts.now heads.now part) }
 {
     let place = heads[part];
     let stamps = parts[part].as_slice();
@@ -71,7 +72,8 @@ fn is_late(last: Option<Placed>, next: Placed) -> bool
     }
 }
 
-/// The stamps of all parts in the order in which they rise; none where a part's own don't rise, or two parts have one in common.
+/// The stamps of all parts in the order in which they rise;
+/// none where a part's own don't rise, or two parts have one in common.
 pub fn merge(alloc: Global, parts: &[Series<u64>]) -> Result<Option<Vec<Placed>>, AllocError>
     ensures { IfOk result (λ order. Merges parts.now (option_map (λ o. o.items) order)) }
 {

@@ -1,2 +1,3 @@
+-- The definitions that the contracts of bench_move speak of.
 pub mod Tables
 pub mod Moves

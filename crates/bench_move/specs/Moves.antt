@@ -16,14 +16,17 @@ use Rattle.bench_spec.specs.Items.{doer_of}
 use Rattle.bench_move.specs.Tables.{Tables, table_of}
 use Rattle.bench_move.specs.declared.deciding.Decided.{Decided}
 
--- a move is a step by a table: by the first row that takes the event, with registers and deeds that the row's actions may leave
+-- a move is a step by a table: by the first row that takes the event,
+-- with registers and deeds that the row's actions may leave
 pub record HasStep (laws : Laws) (table : Contents) (moved : Moved) : Type 0 where
   pub row : moved.row ≡ option_map (λ numbered. numbered.0) (row_taken table laws moved.before moved.event)
-  pub moves : MovesBy (NamedPermits laws) table moved.before moved.event (row_taken table laws moved.before moved.event) moved.after moved.chain moved.deeds
+  pub moves : MovesBy (NamedPermits laws) table moved.before moved.event (row_taken table laws moved.before moved.event)
+      moved.after moved.chain moved.deeds
 
--- a move of the machine of that number, which stands there, at an item: a step at the item's event with the book's quote, with the
--- outcomes that the book allows
-pub record IsMoveOf (laws : Laws) (table : Contents) (book : Book) (number : ℕ) (before : MachineState) (item : MachineItem) (moved : Moved) : Type 0 where
+-- a move of the machine of that number, which stands there, at an item:
+-- a step at the item's event with the book's quote, with the outcomes that the book allows
+pub record IsMoveOf (laws : Laws) (table : Contents) (book : Book) (number : ℕ) (before : MachineState)
+    (item : MachineItem) (moved : Moved) : Type 0 where
   pub machine : moved.machine ≡ number
   pub before_is : moved.before ≡ before
   pub event : moved.event ≡ event_with_quote book (want_of laws item before) item.event
@@ -39,7 +42,8 @@ abbrev pub ops_for : Laws → MachineItem → Moved → List Op
 ops_for laws item moved = ops_of (want_of laws item moved.before) moved.deeds
 
 -- a move by the table of the item's role, with what its deeds post and book
-pub record IsDecided (tables : Tables) (configured : Configured) (book : Book) (number : ℕ) (before : MachineState) (item : MachineItem) (decided : Decided) : Type 0 where
+pub record IsDecided (tables : Tables) (configured : Configured) (book : Book) (number : ℕ) (before : MachineState)
+    (item : MachineItem) (decided : Decided) : Type 0 where
   pub move : IsMoveOf tables.laws (table_of tables item.key.role) book number before item decided.moved
   pub posts : decided.posts ≡ posts_for tables.laws configured item decided.moved
   pub ops : decided.ops ≡ ops_for tables.laws item decided.moved

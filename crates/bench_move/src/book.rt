@@ -40,14 +40,19 @@ fn add_acts(alloc: Global, copy: &mut LawBook, book: &LawBook) -> Result<(), Add
 
 /// Adds all of another book.
 fn add_all(alloc: Global, copy: &mut LawBook, book: &LawBook) -> Result<(), AddError>
-    ensures { OnOk result (copy.new ≡ record { kinds = copy.old.kinds ++ book.now.kinds; guards = copy.old.guards ++ book.now.guards; acts = copy.old.acts ++ book.now.acts }) }
+    ensures { OnOk result (copy.new ≡ record {
+      kinds = copy.old.kinds ++ book.now.kinds;
+      guards = copy.old.guards ++ book.now.guards;
+      acts = copy.old.acts ++ book.now.acts;
+    }) }
 {
     add_kinds(copy, book)?;
     add_guards(alloc, copy, book)?;
     add_acts(alloc, copy, book)
 }
 
-/// The same book in memory of its own. A book's names differ and are within its limits, so nothing but memory can be wanting.
+/// The same book in memory of its own. A book's names differ and are within its limits,
+/// so nothing but memory can be wanting.
 pub(crate) fn copy_book(alloc: Global, book: &LawBook) -> Result<LawBook, AllocError>
     ensures { IfOk result (λ copy. copy ≡ book.now) }
 {

@@ -74,16 +74,18 @@ impl Roles {
         room: &mut Stepped,
     )
         requires { registry.now.book ≡ self.now.laws }
-        ensures { IsStep (NamedPermits self.now.laws) (table_of self.now role) self.now.laws before.now event.now room.new }
+        ensures { IsStep (NamedPermits self.now.laws) (table_of self.now role) self.now.laws
+            before.now event.now room.new }
     {
         let ready = self.ready(role);
         run_event_into(&ready.program, registry, before, event, room);
     }
 
-    /// Decides the move of the machine of that number, which stands there, at an item for it: what the account book says to
-    /// what the item asks becomes facts of the event, the role's program is run with the registry's callbacks, and the book
-    /// tells what it allows to the deeds. The page is that of the account which the item asks for, any other where it asks for
-    /// none; its book stays as it is. `room` is what the step is written into, for the caller to keep.
+    /// Decides the move of the machine of that number, which stands there, at an item for it: what the account book
+    /// says to what the item asks becomes facts of the event, the role's program is run with the registry's
+    /// callbacks, and the book tells what it allows to the deeds. The page is that of the account which the item
+    /// asks for, any other where it asks for none; its book stays as it is. `room` is what the step is written
+    /// into, for the caller to keep.
     pub fn decide(
         &self,
         alloc: Global,

@@ -33,7 +33,8 @@ fn are_events_same(one: &Event, other: &Event) -> bool
 
 /// Whether a move is of that machine, which stands there, at that event.
 fn is_at(moved: &Moved, number: u64, before: &MachineState, event: &Event) -> bool
-    ensures { IsTrue result ↔ ((moved.now.machine ≡ number) × (moved.now.before ≡ before.now) × (moved.now.event ≡ event.now)) }
+    ensures { IsTrue result
+        ↔ ((moved.now.machine ≡ number) × (moved.now.before ≡ before.now) × (moved.now.event ≡ event.now)) }
 {
     moved.machine == number
         && are_states_same(&moved.before, before)
@@ -71,7 +72,8 @@ fn has_outcomes(
     want: &Option<Want>,
     moved: &Moved,
 ) -> Result<bool, AllocError>
-    ensures exact { IfOk result (λ yes. IsTrue yes ↔ (moved.now.outcomes ≡ outcomes_for page.old.book want.now moved.now.deeds)) }
+    ensures exact { IfOk result (λ yes. IsTrue yes
+        ↔ (moved.now.outcomes ≡ outcomes_for page.old.book want.now moved.now.deeds)) }
     ensures page { page.new ≡ with_book page.old page.old.book page.new.room }
 {
     let deeds = moved.deeds.as_slice();
@@ -93,9 +95,10 @@ impl Roles {
         is_step(&ready.bound, self.laws(), &moved.before, &moved.event, room)
     }
 
-    /// Whether a given move is one of the machine of that number, which stands there, at an item for it: what `decide` may answer,
-    /// whatever the callbacks choose. Asks no callback. The page is that of the account which the item asks for, any other where
-    /// it asks for none; its book stays as it is. `room` is what the move is laid out in, for the caller to keep.
+    /// Whether a given move is one of the machine of that number, which stands there, at an item for it: what
+    /// `decide` may answer, whatever the callbacks choose. Asks no callback. The page is that of the account which
+    /// the item asks for, any other where it asks for none; its book stays as it is. `room` is what the move is laid
+    /// out in, for the caller to keep.
     pub fn is_move(
         &self,
         alloc: Global,
@@ -106,7 +109,8 @@ impl Roles {
         moved: &Moved,
         room: &mut Stepped,
     ) -> Result<bool, AllocError>
-        ensures exact { IfOk result (λ yes. IsTrue yes ↔ IsMoveOf self.now.laws (table_of self.now item.now.key.role) page.old.book number before.now item.now moved.now) }
+        ensures exact { IfOk result (λ yes. IsTrue yes ↔ IsMoveOf self.now.laws (table_of self.now item.now.key.role)
+            page.old.book number before.now item.now moved.now) }
         ensures page { page.new ≡ with_book page.old page.old.book page.new.room }
     {
         let want = self.want(item, before);

@@ -21,7 +21,8 @@ pub(crate) fn posts_of_all(
     item: &MachineItem,
     deeds: &[Deed],
 ) -> Result<Vec<Item>, AllocError>
-    ensures { IfOk result (λ posts. posts.items ≡ flat_map (posts_of (node_of laws.now peers.now) (doer_of machine item.now)) deeds.now) }
+    ensures { IfOk result (λ posts. posts.items
+        ≡ flat_map (posts_of (node_of laws.now peers.now) (doer_of machine item.now)) deeds.now) }
 {
     let mut posts = Vec::new(alloc);
     for deed in deeds {

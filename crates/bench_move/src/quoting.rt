@@ -4,7 +4,7 @@ ghost use Rattle.std.specs.Prelude.{◌≡◌};
 ghost use Rattle.bench_spec.specs.Booked.{event_with_quote, quotes_for};
 
 use acct_book::Page;
-use charge_session::{Asked, Quotes, Want, fill_quotes};
+use charge_session::{Quotes, ServiceUnits, Want, fill_quotes};
 use tab_step::Event;
 
 /// What the book says to what is asked.
@@ -12,11 +12,11 @@ fn quotes_for(page: &Page, want: &Want) -> Quotes
     ensures { result ≡ quotes_for page.now.book want.now }
 {
     match &want.asked {
-        Asked::One(slot) => {
+        ServiceUnits::One(slot) => {
             let quote = page.quote(want.account, want.session, slot.group, slot.used, slot.want);
             Quotes::One(quote)
         }
-        Asked::Several(slots) => {
+        ServiceUnits::Several(slots) => {
             Quotes::Several(page.quote_groups(want.account, want.session, slots))
         }
     }

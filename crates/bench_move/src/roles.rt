@@ -55,9 +55,15 @@ impl Model for Roles {
 
     ghost Value = { Tables };
 
-    ghost view = { λ r. record { laws = r.laws; peer = r.peer.bound.table; client = r.client.bound.table; server = r.server.bound.table } };
+    ghost view = { λ r. record {
+      laws = r.laws;
+      peer = r.peer.bound.table;
+      client = r.client.bound.table;
+      server = r.server.bound.table;
+    } };
 
-    ghost invariant = { λ r. (r.kinds.items ≡ server_places r.laws) × IsReady r.laws r.peer × IsReady r.laws r.client × IsReady r.laws r.server };
+    ghost invariant = { λ r. (r.kinds.items ≡ server_places r.laws)
+        × IsReady r.laws r.peer × IsReady r.laws r.client × IsReady r.laws r.server };
 }
 
 /// Builds the program of a bound table.
@@ -79,8 +85,10 @@ fn bind_all(
     server: Table,
     laws: &LawBook,
 ) -> Result<(Bound, Bound, Bound), Unbound>
-    ensures tables { IfOk result (λ bound. (bound.0.table ≡ peer) × (bound.1.table ≡ client) × (bound.2.table ≡ server)) }
-    ensures bound { IfOk result (λ bound. IsBoundTo bound.0 laws.now × IsBoundTo bound.1 laws.now × IsBoundTo bound.2 laws.now) }
+    ensures tables { IfOk result (λ bound. (bound.0.table ≡ peer)
+        × (bound.1.table ≡ client) × (bound.2.table ≡ server)) }
+    ensures bound { IfOk result (λ bound. IsBoundTo bound.0 laws.now
+        × IsBoundTo bound.1 laws.now × IsBoundTo bound.2 laws.now) }
     ensures found { OnOk result (all_missing laws.now peer client server ≡ []) }
     ensures err { IfErr result (λ unbound. IsUnbound (slice_get (all_missing laws.now peer client server) 0) unbound) }
 {
@@ -101,7 +109,8 @@ fn build_all(
     requires peer { IsBoundTo peer laws.now }
     requires client { IsBoundTo client laws.now }
     requires server { IsBoundTo server laws.now }
-    ensures { IfOk result (λ roles. roles ≡ record { laws = laws.now; peer = peer.table; client = client.table; server = server.table }) }
+    ensures { IfOk result (λ roles. roles
+        ≡ record { laws = laws.now; peer = peer.table; client = client.table; server = server.table }) }
 {
     let peer = with_program(alloc, peer, laws)?;
     let client = with_program(alloc, client, laws)?;
@@ -118,8 +127,8 @@ fn build_all(
 }
 
 impl Roles {
-    /// The roles of these tables, whose names are those of the laws. Refused is the first name that the laws lack, in the order
-    /// of the tables here, each read row by row: kind, guards, actions.
+    /// The roles of these tables, whose names are those of the laws. Refused is the first name that the laws lack, in
+    /// the order of the tables here, each read row by row: kind, guards, actions.
     pub fn new(
         alloc: Global,
         peer: Table,
@@ -127,9 +136,11 @@ impl Roles {
         server: Table,
         laws: &LawBook,
     ) -> Result<Roles, Unbound>
-        ensures roles { IfOk result (λ roles. roles ≡ record { laws = laws.now; peer = peer; client = client; server = server }) }
+        ensures roles { IfOk result (λ roles. roles
+            ≡ record { laws = laws.now; peer = peer; client = client; server = server }) }
         ensures found { OnOk result (all_missing laws.now peer client server ≡ []) }
-        ensures err { IfErr result (λ unbound. IsUnbound (slice_get (all_missing laws.now peer client server) 0) unbound) }
+        ensures err { IfErr result (λ unbound.
+            IsUnbound (slice_get (all_missing laws.now peer client server) 0) unbound) }
     {
         let (peer, client, server) = bind_all(alloc, peer, client, server, laws)?;
         Ok(build_all(alloc, peer, client, server, laws)?)

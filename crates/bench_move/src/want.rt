@@ -27,8 +27,8 @@ impl Roles {
         needs(&event, state)
     }
 
-    /// What an item asks of the account book in a machine that stands there: only a server's session asks something, at an event
-    /// of a server's kinds (RFC 8506 sections 5 and 6). Takes no memory.
+    /// What an item asks of the account book in a machine that stands there: only a server's session asks something, at
+    /// an event of a server's kinds (RFC 8506 sections 5 and 6). Takes no memory.
     pub fn want(&self, item: &MachineItem, state: &MachineState) -> Option<Want>
         ensures { result ≡ want_of self.now.laws item.now state.now }
     {

@@ -7,7 +7,8 @@ use Rattle.bench_net.specs.declared.settle.Answer.TheVariants.{Taken, Declined}
 use Rattle.bench_net.specs.declared.settle.Stop.{Stop}
 use Rattle.bench_net.specs.declared.settle.Stop.TheVariants as stops
 
--- taken; not wanted, where there is no such connection or it is closed; wanted later, where there is no room or no memory
+-- taken; not wanted, where there is no such connection or it is closed; wanted later,
+-- where there is no room or no memory
 abbrev pub meaning_of : {T : Type 0} → Result T Refusal → Result Answer Stop
 meaning_of (Ok x) = Ok Taken
 meaning_of (Err refusals.Unknown) = Ok Declined

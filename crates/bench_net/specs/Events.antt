@@ -21,7 +21,8 @@ abbrev pub Settles : {P : Type 0} → (P → Event → P → Type 0) → (P → 
 Settles takes refuses old event new = takes old event new ⊎ ((new ≡ old) × Declines refuses old event)
 
 -- all of these were settled, one after another, each once
-abbrev pub AllSettled : {P : Type 0} → (P → Event → P → Type 0) → (P → Event → Refusal → Type 0) → P → List Event → P → Type 0
+abbrev pub AllSettled : {P : Type 0} → (P → Event → P → Type 0) → (P → Event → Refusal → Type 0) → P → List Event → P
+    → Type 0
 AllSettled takes refuses old [] new = new ≡ old
 AllSettled {P} takes refuses old (event ∷ events) new =
     (mid : P) × Settles takes refuses old event mid × AllSettled takes refuses mid events new

@@ -18,8 +18,10 @@ abbrev pub given_octets : Given → List ℕ → List ℕ
 given_octets (Octets count) buffer = take count buffer
 given_octets given buffer = []
 
--- at least one octet and no more than there is room, the end, or nothing because it would have had to wait; only a failure counts as one
-abbrev pub IsGiven : {I : Type 0} → (I → Option (List ℕ)) → (failures blocked : I → ℕ) → (old new : I) → ℕ → Given → Type 0
+-- at least one octet and no more than there is room, the end, or nothing because it would have had to wait; only a
+-- failure counts as one
+abbrev pub IsGiven : {I : Type 0} → (I → Option (List ℕ)) → (failures blocked : I → ℕ) → (old new : I) → ℕ → Given
+    → Type 0
 IsGiven remaining failures blocked old new room (Octets count) =
     (0 < count) × (count ≤ room) × (failures new ≡ failures old) × (blocked new ≡ blocked old)
 IsGiven remaining failures blocked old new room End = IsAtEnd (remaining new) × (failures new ≡ failures old)

@@ -1,3 +1,4 @@
+-- The definitions that the contracts of bench_net speak of.
 pub mod Events
 pub mod Texts
 pub mod Pipes

@@ -25,8 +25,9 @@ abbrev pub IsEmpty : Pipe → Type 0
 IsEmpty pipe = (pipe.kept ≡ 0) × (pipe.losing ≡ false)
 
 -- What waited before, and then what happened, was settled at the port in that order, but for what waits after.
-pub record HandsOn {P : Type 0} (takes : P → Event → P → Type 0) (refuses : P → Event → Refusal → Type 0) (sent : P → Option (List ℕ))
-    (port port' : P) (before after happened : List Event) : Type 0 where
+pub record HandsOn
+    {P : Type 0} (takes : P → Event → P → Type 0) (refuses : P → Event → Refusal → Type 0)
+    (sent : P → Option (List ℕ)) (port port' : P) (before after happened : List Event) : Type 0 where
   pub settled : List Event
   pub order : before ++ happened ≡ settled ++ after
   pub each : AllSettled takes refuses port settled port'

@@ -1,5 +1,6 @@
 -- What a call of pump comes to.
-use Rattle.std.specs.Prelude.{◌≡◌, ◌<◌, ◌⊎◌, ℕ, ◌+◌, ◌^◌, max, Bool, true, false, List, [], Option, None, Some, Result, Ok, Err, length}
+use Rattle.std.specs.Prelude.{◌≡◌, ◌<◌, ◌⊎◌, ℕ, ◌+◌, ◌^◌, max, Bool, true, false, List, [], Option, None, Some, Result}
+use Rattle.std.specs.Prelude.{Ok, Err, length}
 use Rattle.std.specs.Io.KnownBytes.{IsAtEnd}
 use Rattle.std.specs.List.{concat}
 use Rattle.bench_net.specs.Events.{Event, HasDeclined}
@@ -44,9 +45,10 @@ abbrev pub most_written : {O : Type 0} → (writes failures idle blocked : O →
 most_written writes failures idle blocked sink =
     max (max (max (writes sink) (failures sink)) (idle sink)) (blocked sink)
 
--- after a fault of a device or of turns the line is lost, and all that was read was handed on, but behind a write fault;
--- where the port holds things up, it is lost only where the input ended
-abbrev pub IsLeft : {I : Type 0} → (I → Option (List ℕ)) → (pipe pipe' : Pipe) → I → List (List ℕ) → Bool → PumpCode → Type 0
+-- after a fault of a device or of turns the line is lost, and all that was read was handed on, but behind a write
+-- fault; where the port holds things up, it is lost only where the input ended
+abbrev pub IsLeft : {I : Type 0} → (I → Option (List ℕ)) → (pipe pipe' : Pipe) → I → List (List ℕ) → Bool → PumpCode
+    → Type 0
 IsLeft remaining pipe pipe' source' pieces lost codes.ReadFault =
     ((lost ≡ true) ⊎ (pipe.losing ≡ true)) × (pipe'.kept ≡ 0)
 IsLeft remaining pipe pipe' source' pieces lost codes.WriteFault = (lost ≡ true) ⊎ (pipe.losing ≡ true)
@@ -55,9 +57,10 @@ IsLeft remaining pipe pipe' source' pieces lost codes.TurnsOver =
 IsLeft remaining pipe pipe' source' pieces lost codes.Full = lost ≡ true → IsAtEnd (remaining source')
 IsLeft remaining pipe pipe' source' pieces lost codes.NoMemory = lost ≡ true → IsAtEnd (remaining source')
 
--- where all was done, nothing waits in the pipe, and either the input ended and the line is lost, or the source would have had to wait,
--- or the port has no use for more
-abbrev pub IsLeftBy : {P I : Type 0} → (P → Event → Refusal → Type 0) → (I → Option (List ℕ)) → (blocked : I → ℕ) → P → (pipe pipe' : Pipe) → (source source' : I) → List (List ℕ) → Bool → Result Pumped PumpFault → Type 0
+-- where all was done, nothing waits in the pipe, and either the input ended and the line is lost, or the source would
+-- have had to wait, or the port has no use for more
+abbrev pub IsLeftBy : {P I : Type 0} → (P → Event → Refusal → Type 0) → (I → Option (List ℕ)) → (blocked : I → ℕ) → P
+    → (pipe pipe' : Pipe) → (source source' : I) → List (List ℕ) → Bool → Result Pumped PumpFault → Type 0
 IsLeftBy refuses remaining blocked port' pipe pipe' source source' pieces lost (Ok pumped) =
     (waiting pipe' ≡ [])
     × (((lost ≡ true) × IsAtEnd (remaining source'))
@@ -65,9 +68,11 @@ IsLeftBy refuses remaining blocked port' pipe pipe' source source' pieces lost (
 IsLeftBy refuses remaining blocked port' pipe pipe' source source' pieces lost (Err fault) =
     IsLeft remaining pipe pipe' source' pieces lost fault.code
 
--- These pieces, joined, were read, and they and then the loss, if there was one, were handed on behind what waited in the pipe, in that order and
--- each once, but for what waits there now.
-abbrev pub IsHeard : {P I : Type 0} → (P → Event → P → Type 0) → (P → Event → Refusal → Type 0) → (P → Option (List ℕ)) → (I → Option (List ℕ)) → (blocked : I → ℕ) → (port port' : P) → (pipe pipe' : Pipe) → (source source' : I) → Result Pumped PumpFault → Type 0
+-- These pieces, joined, were read, and they and then the loss, if there was one, were handed on behind what waited in
+-- the pipe, in that order and each once, but for what waits there now.
+abbrev pub IsHeard : {P I : Type 0} → (P → Event → P → Type 0) → (P → Event → Refusal → Type 0) → (P → Option (List ℕ))
+    → (I → Option (List ℕ)) → (blocked : I → ℕ) → (port port' : P) → (pipe pipe' : Pipe) → (source source' : I)
+    → Result Pumped PumpFault → Type 0
 IsHeard takes refuses sent remaining blocked port port' pipe pipe' source source' result =
     (pieces : List (List ℕ)) × (lost : Bool)
     × (length (concat pieces) ≡ read_of result)
@@ -84,7 +89,8 @@ HasFailed read_failures write_failures source source' sink sink' code =
     (read_failures source' ≡ read_failures source) × (write_failures sink' ≡ write_failures sink)
 
 -- a read fault comes where a read failed, a write fault where a write failed, and nothing else where one did
-abbrev pub HasCause : {I O : Type 0} → (I → ℕ) → (O → ℕ) → (source source' : I) → (sink sink' : O) → Result Pumped PumpFault → Type 0
+abbrev pub HasCause : {I O : Type 0} → (I → ℕ) → (O → ℕ) → (source source' : I) → (sink sink' : O)
+    → Result Pumped PumpFault → Type 0
 HasCause read_failures write_failures source source' sink sink' (Ok pumped) =
     (read_failures source' ≡ read_failures source) × (write_failures sink' ≡ write_failures sink)
 HasCause read_failures write_failures source source' sink sink' (Err fault) =
@@ -97,7 +103,9 @@ IsHeldBy refuses port' pipe' codes.NoMemory = IsHeld refuses port' pipe' refusal
 IsHeldBy refuses port' pipe' code = Unit {0}
 
 -- 65,536 reads and writes were made, or a device had made more than 2^63 calls of a kind before
-abbrev pub IsOver : {I O : Type 0} → (reads read_failures read_blocked : I → ℕ) → (writes write_failures idle write_blocked : O → ℕ) → (source source' : I) → (sink sink' : O) → Type 0
+abbrev pub IsOver : {I O : Type 0} → (reads read_failures read_blocked : I → ℕ)
+    → (writes write_failures idle write_blocked : O → ℕ) → (source source' : I) → (sink sink' : O) → Type 0
 IsOver reads read_failures read_blocked writes write_failures idle write_blocked source source' sink sink' =
     (reads source' + writes sink' ≡ reads source + writes sink + 65536)
-    ⊎ (2 ^ 63 < max (most_read reads read_failures read_blocked source) (most_written writes write_failures idle write_blocked sink))
+    ⊎ (2 ^ 63 < max (most_read reads read_failures read_blocked source)
+    (most_written writes write_failures idle write_blocked sink))

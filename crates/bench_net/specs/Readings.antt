@@ -1,5 +1,6 @@
 -- What the reading half of a call comes to.
-use Rattle.std.specs.Prelude.{◌≡◌, ◌<◌, ◌≤◌, ◌⊎◌, ℕ, ◌+◌, Bool, true, false, List, [], ◌++◌, Option, None, Some, Result, Ok, Err, length, map, All}
+use Rattle.std.specs.Prelude.{◌≡◌, ◌<◌, ◌≤◌, ◌⊎◌, ℕ, ◌+◌, Bool, true, false, List, [], ◌++◌, Option, None, Some, Result}
+use Rattle.std.specs.Prelude.{Ok, Err, length, map, All}
 use Rattle.std.specs.Io.KnownBytes.{Consumes, IsAtEnd}
 use Rattle.std.specs.List.{concat}
 use Rattle.bench_net.specs.Events.{Event, Came, HasDeclined}
@@ -31,15 +32,18 @@ abbrev pub happened : List (List ℕ) → Bool → List Event
 happened pieces lost = map Came pieces ++ loss_waiting lost
 
 -- These pieces, joined, were read, and they and then the loss, if there was one, were handed on.
-pub record Hears {P I : Type 0} (takes : P → Event → P → Type 0) (refuses : P → Event → Refusal → Type 0) (sent : P → Option (List ℕ))
-    (remaining : I → Option (List ℕ)) (port port' : P) (before after : List Event) (source source' : I)
-    (pieces : List (List ℕ)) (lost : Bool) : Type 0 where
+pub record Hears
+    {P I : Type 0} (takes : P → Event → P → Type 0) (refuses : P → Event → Refusal → Type 0)
+    (sent : P → Option (List ℕ)) (remaining : I → Option (List ℕ)) (port port' : P) (before after : List Event)
+    (source source' : I) (pieces : List (List ℕ)) (lost : Bool) : Type 0 where
   pub read : Consumes (remaining source) (remaining source') (concat pieces)
   pub short : All IsPiece pieces
   pub handed : HandsOn takes refuses sent port port' before after (happened pieces lost)
 
--- Why the reading half ended. The loss happened exactly where the input ended, or may have where the port holds things up.
-abbrev pub EndsBy : {P I : Type 0} → (P → Event → Refusal → Type 0) → (I → Option (List ℕ)) → (reads failures blocked : I → ℕ) → P → (pipe pipe' : Pipe) → (source source' : I) → Bool → End → Type 0
+-- Why the reading half ended. The loss happened exactly where the input ended,
+-- or may have where the port holds things up.
+abbrev pub EndsBy : {P I : Type 0} → (P → Event → Refusal → Type 0) → (I → Option (List ℕ))
+    → (reads failures blocked : I → ℕ) → P → (pipe pipe' : Pipe) → (source source' : I) → Bool → End → Type 0
 EndsBy refuses remaining reads failures blocked port' pipe pipe' source source' lost Blocked =
     (lost ≡ false) × IsEmpty pipe' × (failures source' ≡ failures source) × (blocked source' ≡ blocked source + 1)
 EndsBy refuses remaining reads failures blocked port' pipe pipe' source source' lost Ended =
@@ -56,7 +60,8 @@ EndsBy refuses remaining reads failures blocked port' pipe pipe' source source' 
     × (pipe'.losing ≡ true → (lost ≡ true) ⊎ (pipe.losing ≡ true))
 
 -- Why one turn of it ended it, or that it goes on.
-abbrev pub TurnsBy : {P I : Type 0} → (P → Event → Refusal → Type 0) → (I → Option (List ℕ)) → (reads failures blocked : I → ℕ) → P → (pipe pipe' : Pipe) → (source source' : I) → Bool → Option End → Type 0
+abbrev pub TurnsBy : {P I : Type 0} → (P → Event → Refusal → Type 0) → (I → Option (List ℕ))
+    → (reads failures blocked : I → ℕ) → P → (pipe pipe' : Pipe) → (source source' : I) → Bool → Option End → Type 0
 TurnsBy refuses remaining reads failures blocked port' pipe pipe' source source' lost None =
     (lost ≡ false) × IsEmpty pipe' × (failures source' ≡ failures source) × (blocked source' ≡ blocked source)
 TurnsBy refuses remaining reads failures blocked port' pipe pipe' source source' lost (Some end) =

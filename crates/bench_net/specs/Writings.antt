@@ -7,7 +7,9 @@ use Rattle.bench_net.specs.declared.said.Said.{Said}
 use Rattle.bench_net.specs.declared.said.Said.TheVariants as saids
 
 -- So many octets went out: those of the sent text that come next.
-pub record Sends {P O : Type 0} (sent : P → Option (List ℕ)) (contents : O → Option (List ℕ)) (port : P) (from to : ℕ) (sink sink' : O) (count : ℕ) : Type 0 where
+pub record Sends
+    {P O : Type 0} (sent : P → Option (List ℕ)) (contents : O → Option (List ℕ)) (port : P) (from to : ℕ)
+    (sink sink' : O) (count : ℕ) : Type 0 where
   pub octets : List ℕ
   pub appended : Appends (contents sink) (contents sink') octets
   pub counted : length octets ≡ count
@@ -15,7 +17,8 @@ pub record Sends {P O : Type 0} (sent : P → Option (List ℕ)) (contents : O �
   pub part : StandsAt (sent port) from octets
 
 -- Why the writing half ended.
-abbrev pub SaysBy : {P O : Type 0} → (P → Option (List ℕ)) → (failures blocked : O → ℕ) → P → Pipe → (sink sink' : O) → (turns turns' : ℕ) → Said → Type 0
+abbrev pub SaysBy : {P O : Type 0} → (P → Option (List ℕ)) → (failures blocked : O → ℕ) → P → Pipe → (sink sink' : O)
+    → (turns turns' : ℕ) → Said → Type 0
 SaysBy sent failures blocked port pipe' sink sink' turns turns' saids.Out =
     EndsAt (sent port) pipe'.out × (failures sink' ≡ failures sink)
 SaysBy sent failures blocked port pipe' sink sink' turns turns' saids.Blocked =

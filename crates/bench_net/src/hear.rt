@@ -58,8 +58,10 @@ fn hear_once<P: Port, I: ByteSource>(port: &mut P, pipe: &mut Pipe, source: &mut
     requires blocked { I.blocked source.old < 2 ^ 64 - 1 }
     ensures heard { (pieces : List (List ℕ)) × (lost : Bool)
         × (length (concat pieces) ≡ result.count)
-        × Hears P.takes P.refuses P.sent I.remaining port.old port.new (waiting pipe.old) (waiting pipe.new) source.old source.new pieces lost
-        × TurnsBy P.refuses I.remaining I.reads I.failures I.blocked port.new pipe.old pipe.new source.old source.new lost result.end }
+        × Hears P.takes P.refuses P.sent I.remaining port.old port.new (waiting pipe.old) (waiting pipe.new)
+        source.old source.new pieces lost
+        × TurnsBy P.refuses I.remaining I.reads I.failures I.blocked port.new pipe.old pipe.new source.old source.new
+        lost result.end }
     ensures few { result.count ≤ 4096 }
     ensures reads { I.reads source.new ≡ I.reads source.old + 1 }
     ensures out { pipe.new.out ≡ pipe.old.out }
@@ -98,8 +100,10 @@ fn hear_all<P: Port, I: ByteSource>(port: &mut P, pipe: &mut Pipe, source: &mut 
     requires blocked { I.blocked source.old ≤ 2 ^ 63 }
     ensures heard { (pieces : List (List ℕ)) × (lost : Bool)
         × (length (concat pieces) ≡ result.read)
-        × Hears P.takes P.refuses P.sent I.remaining port.old port.new (waiting pipe.old) (waiting pipe.new) source.old source.new pieces lost
-        × EndsBy P.refuses I.remaining I.reads I.failures I.blocked port.new pipe.old pipe.new source.old source.new lost result.end }
+        × Hears P.takes P.refuses P.sent I.remaining port.old port.new (waiting pipe.old) (waiting pipe.new)
+        source.old source.new pieces lost
+        × EndsBy P.refuses I.remaining I.reads I.failures I.blocked port.new pipe.old pipe.new source.old source.new
+        lost result.end }
     ensures turns { result.turns ≤ MAX_TURNS }
     ensures reads { I.reads source.new ≡ I.reads source.old + result.turns }
     ensures out { pipe.new.out ≡ pipe.old.out }
@@ -128,8 +132,10 @@ pub(crate) fn hear<P: Port, I: ByteSource>(port: &mut P, pipe: &mut Pipe, source
     requires blocked { I.blocked source.old ≤ 2 ^ 63 }
     ensures heard { (pieces : List (List ℕ)) × (lost : Bool)
         × (length (concat pieces) ≡ result.read)
-        × Hears P.takes P.refuses P.sent I.remaining port.old port.new (waiting pipe.old) (waiting pipe.new) source.old source.new pieces lost
-        × EndsBy P.refuses I.remaining I.reads I.failures I.blocked port.new pipe.old pipe.new source.old source.new lost result.end }
+        × Hears P.takes P.refuses P.sent I.remaining port.old port.new (waiting pipe.old) (waiting pipe.new)
+        source.old source.new pieces lost
+        × EndsBy P.refuses I.remaining I.reads I.failures I.blocked port.new pipe.old pipe.new source.old source.new
+        lost result.end }
     ensures turns { result.turns ≤ MAX_TURNS }
     ensures reads { I.reads source.new ≡ I.reads source.old + result.turns }
     ensures out { pipe.new.out ≡ pipe.old.out }

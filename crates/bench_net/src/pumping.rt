@@ -77,7 +77,8 @@ fn pump_once<P: Port, I: ByteSource, O: ByteSink>(
 ) -> Result<Pumped, PumpFault>
     requires source { most_read I.reads I.failures I.blocked source.old ≤ 2 ^ 63 }
     requires sink { most_written O.writes O.failures O.idle O.blocked sink.old ≤ 2 ^ 63 }
-    ensures heard { IsHeard P.takes P.refuses P.sent I.remaining I.blocked port.old port.new pipe.old pipe.new source.old source.new result }
+    ensures heard { IsHeard P.takes P.refuses P.sent I.remaining I.blocked port.old port.new pipe.old pipe.new
+        source.old source.new result }
     ensures sent { Sends P.sent O.contents port.new pipe.old.out pipe.new.out sink.old sink.new (written_of result) }
     ensures out { OnOk result (EndsAt (P.sent port.new) pipe.new.out ⊎ (O.blocked sink.new ≡ O.blocked sink.old + 1)) }
     ensures cause { HasCause I.failures O.failures source.old source.new sink.old sink.new result }
@@ -114,11 +115,11 @@ fn pump_once<P: Port, I: ByteSource, O: ByteSink>(
 }
 
 /// Reads what the source gives and hands it to the port, in pieces of at most `MAX_PIECE` octets, until the source has
-/// nothing for now or ends, or the port has no use for more; then writes what the port sent and isn't out yet, until all
-/// is out or the sink takes nothing for now. The end of the input makes the line lost, and so do the faults of a device
-/// and of turns. What the port refuses for now stays in the pipe and is handed on first at the next call; while the port
-/// refuses it, nothing is read, and what it sent goes out all the same. At most `MAX_TURNS` reads and writes are made.
-/// Takes no memory.
+/// nothing for now or ends, or the port has no use for more; then writes what the port sent and isn't out yet, until
+/// all is out or the sink takes nothing for now. The end of the input makes the line lost, and so do the faults of a
+/// device and of turns. What the port refuses for now stays in the pipe and is handed on first at the next call; while
+/// the port refuses it, nothing is read, and what it sent goes out all the same. At most `MAX_TURNS` reads and writes
+/// are made. Takes no memory.
 pub fn pump<P: Port, I: ByteSource, O: ByteSink>(
     port: &mut P,
     pipe: &mut Pipe,
@@ -126,7 +127,8 @@ pub fn pump<P: Port, I: ByteSource, O: ByteSink>(
     sink: &mut O,
 ) -> Result<Pumped, PumpFault>
     // What was read, and what became of it and of the loss, at the port and in the pipe.
-    ensures heard { IsHeard P.takes P.refuses P.sent I.remaining I.blocked port.old port.new pipe.old pipe.new source.old source.new result }
+    ensures heard { IsHeard P.takes P.refuses P.sent I.remaining I.blocked port.old port.new pipe.old pipe.new
+        source.old source.new result }
     // What went out stands next in what the port sent.
     ensures sent { Sends P.sent O.contents port.new pipe.old.out pipe.new.out sink.old sink.new (written_of result) }
     ensures out { OnOk result (EndsAt (P.sent port.new) pipe.new.out ⊎ (O.blocked sink.new ≡ O.blocked sink.old + 1)) }
@@ -134,7 +136,8 @@ pub fn pump<P: Port, I: ByteSource, O: ByteSink>(
     ensures cause { HasCause I.failures O.failures source.old source.new sink.old sink.new result }
     ensures held { IfErr result (λ fault. IsHeldBy P.refuses port.new pipe.new fault.code) }
     ensures over { IfErr result (λ fault. fault.code ≡ PumpCode.TurnsOver
-        → IsOver I.reads I.failures I.blocked O.writes O.failures O.idle O.blocked source.old source.new sink.old sink.new) }
+        → IsOver I.reads I.failures I.blocked O.writes O.failures O.idle O.blocked source.old source.new
+        sink.old sink.new) }
     ensures turns { I.reads source.new + O.writes sink.new ≤ I.reads source.old + O.writes sink.old + 65536 }
 {
     if most_read(source) > MAX_CALLS || most_written(sink) > MAX_CALLS {

@@ -12,7 +12,7 @@ use base_device::ByteSink;
 
 /// What the writing half came to: why it ended, how many octets went out, and how many turns were made then.
 #[derive(Drop)]
-pub(crate) struct Told {
+pub(crate) struct Written {
     pub(crate) said: Said,
     pub(crate) written: u64,
     pub(crate) turns: u64,
@@ -25,14 +25,15 @@ pub(crate) fn send<P: Port, O: ByteSink>(
     pipe: &mut Pipe,
     sink: &mut O,
     turns: u64,
-) -> Told
+) -> Written
     requires turns { turns ≤ MAX_TURNS }
     requires writes { O.writes sink.old ≤ 2 ^ 63 }
     requires failures { O.failures sink.old ≤ 2 ^ 63 }
     requires idle { O.idle sink.old ≤ 2 ^ 63 }
     requires blocked { O.blocked sink.old ≤ 2 ^ 63 }
     ensures sent { Sends P.sent O.contents port.now pipe.old.out pipe.new.out sink.old sink.new result.written }
-    ensures said { SaysBy P.sent O.failures O.blocked port.now pipe.new sink.old sink.new turns result.turns result.said }
+    ensures said { SaysBy P.sent O.failures O.blocked port.now pipe.new sink.old sink.new turns result.turns
+        result.said }
     ensures turns { (turns ≤ result.turns) × (result.turns ≤ MAX_TURNS) }
     ensures writes { O.writes sink.new + turns ≡ O.writes sink.old + result.turns }
     ensures waiting { waiting pipe.new ≡ waiting pipe.old }
@@ -45,7 +46,7 @@ pub(crate) fn send<P: Port, O: ByteSink>(
         let count = port.unsent(pipe.out, &mut buffer);
         if count == 0 {
             let said = Said::Out;
-            return Told {
+            return Written {
                 said,
                 written,
                 turns: turn,
@@ -61,13 +62,13 @@ pub(crate) fn send<P: Port, O: ByteSink>(
             Put::Failed => Said::Failed,
         };
         let turns = turn + 1;
-        return Told {
+        return Written {
             said,
             written,
             turns,
         };
     }
-    Told {
+    Written {
         said: Said::Over,
         written,
         turns: MAX_TURNS,

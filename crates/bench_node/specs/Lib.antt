@@ -1,2 +1,3 @@
+-- The definitions that the contracts of bench_node speak of.
 pub mod Going
 pub mod Telling

@@ -48,7 +48,8 @@ impl LiveNode {
 
     /// A connection was accepted. Answers its number; none where the step is refused, and then nothing changed.
     pub fn joined(&mut self) -> Option<u64>
-        ensures taken { IfSome result (λ line. Takes self.old self.new steps.Joined × (line ≡ length (openings self.new.log))) }
+        ensures taken { IfSome result (λ line. Takes self.old self.new steps.Joined
+            × (line ≡ length (openings self.new.log))) }
         ensures none { result ≡ None → self.new ≡ self.old }
     {
         match self.happens(Step::Joined) {

@@ -11,7 +11,7 @@ use Rattle.bench_item.specs.declared.step.StepFault.{StepFault}
 use Rattle.bench_script.specs.Ran.{Does, TakesTold, Tries}
 use Rattle.bench_spec.specs.Refusal.{refusal}
 use Rattle.bench_spec.specs.Taken.{Run}
-use Rattle.script_text.specs.declared.asked.Asked.TheVariants as asked
+use Rattle.script_text.specs.declared.asked.ScriptStep.TheVariants as asked
 use Rattle.script_text.specs.declared.run_line.RunLine.TheVariants as runs
 use Rattle.bench_nodes.specs.Acts.{ActsAt}
 use Rattle.bench_nodes.specs.Crossings.{accepts, carried, carried_some, carries, dialled_by, ends, first_in, if_free, is_caller, is_free, is_over, lines_of, next_crossing, of_line, of_node, of_nodes, of_state, opens, over_link, over_links, over_place, sent_by, stands_at}

@@ -1,3 +1,4 @@
+-- The definitions that the contracts of bench_nodes speak of.
 pub mod Ends
 pub mod Marked
 pub mod Acts

@@ -2,7 +2,8 @@
 ghost use Rattle.std.specs.Prelude.{◌≡◌, ◌<◌, ◌≤◌, ◌^◌, IfOk};
 ghost use Rattle.bench_item.specs.declared.limit.TheConstants.{MAX_ENTRIES};
 ghost use Rattle.bench_script.specs.Printed.{machine_at};
-ghost use Rattle.bench_nodes.specs.Crossings.{accepts, dialled_by, fails, is_caller, lines_of, listener_of, of_dial, of_line, of_node, of_nodes};
+ghost use Rattle.bench_nodes.specs.Crossings.{accepts, dialled_by, fails, is_caller, lines_of, listener_of, of_dial};
+ghost use Rattle.bench_nodes.specs.Crossings.{of_line, of_node, of_nodes};
 
 use crate::links::{if_free, stands_at};
 use crate::node::{Crossing, End, Link, Linked, Node};

@@ -1,6 +1,7 @@
 //! What comes at the other end of a connection: that it was accepted, octets, its end.
 ghost use Rattle.std.specs.Prelude.{◌≡◌, IfOk};
-ghost use Rattle.bench_nodes.specs.Crossings.{carries, ends, if_free, is_free, is_over, opens, over_link, over_links, over_place, sent_by, stands_at};
+ghost use Rattle.bench_nodes.specs.Crossings.{carries, ends, if_free, is_free, is_over, opens, over_link, over_links};
+ghost use Rattle.bench_nodes.specs.Crossings.{over_place, sent_by, stands_at};
 
 use crate::node::{Crossing, End, Link, Linked, Node, Way};
 use base_list::Octets;

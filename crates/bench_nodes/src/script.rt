@@ -5,7 +5,8 @@ ghost use Rattle.std.specs.Str.{bytes_eq};
 ghost use Rattle.step_text.specs.Names.{shown};
 ghost use Rattle.event_text.specs.Events.{IsBadText};
 ghost use Rattle.bench_nodes.specs.Acts.{AreBooksOf, settings_of};
-ghost use Rattle.bench_nodes.specs.Scripts.{DoesLine, RunsLines, asked_at, first_bad_node_line, node_line_of, node_named, nodes_script_of, own_line};
+ghost use Rattle.bench_nodes.specs.Scripts.{DoesLine, RunsLines, asked_at, first_bad_node_line, node_line_of};
+ghost use Rattle.bench_nodes.specs.Scripts.{node_named, nodes_script_of, own_line};
 ghost use Rattle.bench_nodes.specs.Settled.{net};
 
 use crate::acts::do_at;

@@ -11,7 +11,7 @@ use crate::acts::do_at;
 use crate::dials::of_nodes;
 use crate::links::over_links;
 use crate::node::{Crossing, Link, Linked, Node};
-use script_text::{Asked, RunLine};
+use script_text::{RunLine, ScriptStep};
 use std::alloc::{AllocError, Global};
 use tab_call::Registry;
 use tab_step::Stepped;
@@ -83,7 +83,7 @@ fn cross(
         (net nodes.new links.new.items out.new.items) crossing) }
 {
     let Crossing { node, step, linked } = crossing;
-    let line = RunLine::Asked(Asked::Step(step));
+    let line = RunLine::Asked(ScriptStep::Step(step));
     do_at(alloc, nodes, node, registries, room, line, out)?;
     link(links, linked)?;
     Ok(())

@@ -25,6 +25,7 @@ abbrev pub IsErrorFor : Option OpeningError → OpeningError → Type 0
 IsErrorFor refusal errors.NoMemory = MayLackMemory refusal
 IsErrorFor refusal error = refusal ≡ Some error
 
--- the error of an opening: the first reason, or want of memory where nothing is in the way, or for the copy of a long name
+-- the error of an opening: the first reason, or want of memory where nothing is in the way,
+-- or for the copy of a long name
 abbrev pub IsOpeningError : Config → OpeningError → Type 0
 IsOpeningError config error = IsErrorFor (opening_refusal config) error

@@ -1,3 +1,4 @@
+-- The definitions that the contracts of bench_open speak of.
 pub mod Given
 pub mod Faults
 pub mod Openable

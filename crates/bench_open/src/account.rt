@@ -1,3 +1,5 @@
+//! An account, as it is opened.
+
 /// An account as it is opened.
 #[derive(Clone, Copy)]
 pub struct Account {

@@ -1,2 +1,3 @@
+-- The definitions that the contracts of bench_parts speak of.
 pub mod Views
 pub mod Own

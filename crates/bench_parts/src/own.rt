@@ -119,8 +119,8 @@ fn is_same(one: Part, other: Part) -> bool
     }
 }
 
-/// Whether an entry stands in its own part, where it stands in the part at that place: the shards are first, then the lines, the clock
-/// and the desks. Takes no memory.
+/// Whether an entry stands in its own part, where it stands in the part at that place:
+/// the shards are first, then the lines, the clock and the desks. Takes no memory.
 pub fn is_of(shards: usize, place: usize, entry: &Entry) -> bool
     requires some { 0 < shards }
     requires few { shards ≤ MAX_SHARDS }

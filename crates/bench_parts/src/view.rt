@@ -52,7 +52,8 @@ fn entry_in(
     log: &Log,
     place: usize,
 ) -> Result<Option<Entry>, AllocError>
-    ensures { IfOk result (λ entry. option_to_list entry ≡ entries_there (map Did (stamped_of stamps.now log.now.entries)) place) }
+    ensures { IfOk result (λ entry. option_to_list entry
+        ≡ entries_there (map Did (stamped_of stamps.now log.now.entries)) place) }
 {
     if stamps.len() <= place {
         return Ok(None);
@@ -91,7 +92,8 @@ pub fn entry_of(
     part: usize,
     place: usize,
 ) -> Result<Option<Entry>, AllocError>
-    ensures { IfOk result (λ entry. option_to_list entry ≡ map (λ s. s.entry) (stamped_at (map kept_in parts.now) part place)) }
+    ensures { IfOk result (λ entry. option_to_list entry
+        ≡ map (λ s. s.entry) (stamped_at (map kept_in parts.now) part place)) }
 {
     match parts.get(part) {
         None => Ok(None),

@@ -232,7 +232,8 @@ fn put_shard(alloc: Global, core: &Core, shard: u32, out: &mut Vec<u8>) -> Resul
     Ok(())
 }
 
-/// Puts all that a bench shows: place, shards, machines and timers, connections and what they sent, accounts up to 200, what waits.
+/// Puts all that a bench shows: place, shards, machines and timers, connections and what they sent,
+/// accounts up to 200, what waits.
 pub fn put_all(alloc: Global, core: &Core, out: &mut Vec<u8>) -> Result<(), AllocError> {
     put_number(out, b"at ", core.place() as u64)?;
     put_source(core, Source::Clock, out)?;

@@ -1,7 +1,8 @@
 //! Benches that are played by a transcript.
 //!
-//! A line is a step as in a script of `script_text`, but what came on a line is told by words, of which `came L first N WORDS` takes the first
-//! so many octets. A step that is refused prints the number of its fault. Other lines look, or do more than a step:
+//! A line is a step as in a script of `script_text`, but what came on a line is told by words, of which `came L
+//! first N WORDS` takes the first so many octets. A step that is refused prints the number of its fault. Other lines
+//! look, or do more than a step:
 //!
 //! | Line | What it does or prints |
 //! |---|---|
@@ -19,7 +20,7 @@
 //! | `pass L FROM M` | the octets that were sent on a line, from that place on, come on line M of the other bench |
 //! | `asked` | whether a callback was asked since the last such line |
 //! | `trace` | what is shown is kept at each place from now on |
-//! | `retrace` | back to that place, forward by replay and back again: whether the same was shown at each place, and no callback asked |
+//! | `retrace` | back there, forward by replay and back again: whether each place shows the same, no callback asked |
 
 use crate::looks::{
     number_in, put_all, put_back, put_fate, put_last, put_line, put_names, put_read_back,
@@ -32,7 +33,7 @@ use base_text::put_number;
 use bench_core::Core;
 use bench_item::{Entry, Source, Step};
 use bench_world::TakesSteps;
-use script_text::{Asked, read_key, read_line};
+use script_text::{ScriptStep, read_key, read_line};
 use std::alloc::{AllocError, Global};
 use std::sync::Arc;
 use std::sync::atomic::{AtomicU64, Ordering};
@@ -82,8 +83,8 @@ pub fn all_of(alloc: Global, core: &Core) -> Result<Vec<u8>, AllocError> {
 /// What a line asks for, as a step. None where it has another form, or its machine is not there.
 fn step_in(alloc: Global, core: &Core, line: &str) -> Result<Option<Step>, AllocError> {
     match read_line(alloc, core.laws(), line.as_bytes())? {
-        Some(Asked::Step(step)) => Ok(Some(step)),
-        Some(Asked::Fired { key, generation }) => Ok(match core.number_of(&key) {
+        Some(ScriptStep::Step(step)) => Ok(Some(step)),
+        Some(ScriptStep::Fired { key, generation }) => Ok(match core.number_of(&key) {
             Some(machine) => Some(Step::Fired {
                 machine,
                 generation,

@@ -8,7 +8,8 @@ use std::alloc::{AllocError, Global};
 /// Lines, shards and desks below this are tried, and machines.
 const TRIED: u32 = 4;
 
-/// Whether a step that may not be taken is refused for the reason that is looked up. One that may be taken is not tried.
+/// Whether a step that may not be taken is refused for the reason that is looked up.
+/// One that may be taken is not tried.
 fn is_refused<B: TakesSteps>(world: &mut B, step: Step) -> bool {
     let Some(wanted) = world.core().refusal(&step) else {
         return true;

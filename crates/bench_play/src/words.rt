@@ -6,7 +6,8 @@ use std::alloc::{AllocError, Global};
 /// How deep words stand for words.
 const MAX_DEPTH: u8 = 4;
 
-/// What a word stands for by a list of words, itself where it is none of them. A line of the list is a word, a blank, and what it stands for.
+/// What a word stands for by a list of words, itself where it is none of them.
+/// A line of the list is a word, a blank, and what it stands for.
 fn meaning_of<'a>(list: &'a str, word: &'a str) -> &'a str {
     for line in list.split('\n') {
         if let Some((name, meaning)) = line.split_once(' ')

@@ -1,5 +1,6 @@
 -- What came to a shard, and how many of these it handled.
-use Rattle.std.specs.Prelude.{ℕ, ◌+◌, ◌-◌, nat_lt, List, [], ◌++◌, length, take, drop, max, Option, slice_get, if◌then◌else◌}
+use Rattle.std.specs.Prelude.{ℕ, ◌+◌, ◌-◌, nat_lt, List, [], ◌++◌, length, take, drop, max}
+use Rattle.std.specs.Prelude.{Option, slice_get, if◌then◌else◌}
 use Rattle.bench_item.specs.declared.item.MachineItem.{MachineItem}
 
 -- all that came, and how many of these were handled

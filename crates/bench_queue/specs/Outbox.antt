@@ -1,8 +1,10 @@
 -- What a source put out, and how far that was carried.
-use Rattle.std.specs.Prelude.{ℕ, ◌+◌, ◌-◌, ◌≤◌, ◌==◌, ◌&&◌, nat_lt, Bool, List, [], ◌++◌, length, take, drop, max, Option, slice_get, if◌then◌else◌}
+use Rattle.std.specs.Prelude.{ℕ, ◌+◌, ◌-◌, ◌≤◌, ◌==◌, ◌&&◌, nat_lt, Bool, List, [], ◌++◌, length, take, drop, max}
+use Rattle.std.specs.Prelude.{Option, slice_get, if◌then◌else◌}
 use Rattle.bench_item.specs.declared.item.Item.{Item}
 
--- all that a source put out, how many of these were lifted into its hand, and how many of these were dropped where they are for
+-- all that a source put out, how many of these were lifted into its hand,
+-- and how many of these were dropped where they are for
 pub record OutboxView : Type 0 where
   pub posts : List Item
   pub lifted : ℕ
@@ -62,8 +64,10 @@ unlifted_one v = if has_hand v then record { posts = v.posts; lifted = v.lifted 
 
 abbrev pub undropped_one : OutboxView → OutboxView
 undropped_one v =
-    if (v.dropped == v.lifted) && nat_lt 0 v.dropped then record { posts = v.posts; lifted = v.lifted; dropped = v.dropped - 1 } else v
+    if (v.dropped == v.lifted) && nat_lt 0 v.dropped
+    then record { posts = v.posts; lifted = v.lifted; dropped = v.dropped - 1 } else v
 
 -- so many items that were put out last and not lifted were never put out
 abbrev pub without_out : OutboxView → ℕ → OutboxView
-without_out v n = record { posts = take (max v.lifted (length v.posts - n)) v.posts; lifted = v.lifted; dropped = v.dropped }
+without_out v n =
+    record { posts = take (max v.lifted (length v.posts - n)) v.posts; lifted = v.lifted; dropped = v.dropped }

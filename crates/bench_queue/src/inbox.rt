@@ -1,16 +1,20 @@
 //! What comes to a shard.
-ghost use Rattle.std.specs.Prelude.{◌≡◌, ◌<◌, ◌≤◌, ◌∷◌, ◌-◌, [], None, Ok, IsOk, IfOk, OnOk, OnErr, IsTrue, length, max, nat_lt};
-ghost use Rattle.bench_queue.specs.Inbox.{InboxState, items_in, next_in, nothing_in, put_in, unworked_one, waiting_in, without_in, worked_one};
+ghost use Rattle.std.specs.Prelude.{◌≡◌, ◌<◌, ◌≤◌, ◌∷◌, ◌-◌, [], None, Ok, IsOk, IfOk, OnOk, OnErr, IsTrue};
+ghost use Rattle.std.specs.Prelude.{length, max, nat_lt};
+ghost use Rattle.bench_queue.specs.Inbox.{InboxState, items_in, next_in, nothing_in, put_in, unworked_one};
+ghost use Rattle.bench_queue.specs.Inbox.{waiting_in, without_in, worked_one};
 
 use bench_item::{MachineItem, Series};
 use bench_log::KeptMachineItem;
 use std::alloc::{AllocError, Global};
 use std::marker::Model;
 
-/// The items that came to a shard, in order. The oldest that waits is handled. All of them stay, so that each call can be taken back
-/// without memory. A contract sees the plain items and how many were handled, and how many more can be put without memory.
+/// The items that came to a shard, in order. The oldest that waits is handled. All of them stay, so that each call
+/// can be taken back without memory. A contract sees the plain items and how many were handled, and how many more
+/// can be put without memory.
 ///
-/// In: `reserve`, `put`, taken back by `unput`. Out: `work_one`, taken back by `unwork`. Looks: `waiting`, `next`, `items`.
+/// In: `reserve`, `put`, taken back by `unput`. Out: `work_one`, taken back by `unwork`.
+/// Looks: `waiting`, `next`, `items`.
 pub struct Inbox {
     items: Vec<KeptMachineItem>,
     worked: usize,

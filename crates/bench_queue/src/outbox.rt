@@ -1,18 +1,21 @@
 //! What a source puts out.
-ghost use Rattle.std.specs.Prelude.{◌≡◌, ◌<◌, ◌≤◌, ◌∷◌, ◌-◌, [], None, Ok, IsOk, IfOk, OnOk, OnErr, IsTrue, length, max, nat_lt, option_copied};
-ghost use Rattle.bench_queue.specs.Outbox.{IsCounted, OutboxState, can_lift, dropped_one, hand_out, has_hand, items_out, lifted_one, next_out, nothing_out, put_out, undropped_one, unlifted_one, waiting_out, without_out};
+ghost use Rattle.std.specs.Prelude.{◌≡◌, ◌<◌, ◌≤◌, ◌∷◌, ◌-◌, [], None, Ok, IsOk, IfOk, OnOk, OnErr, IsTrue, length};
+ghost use Rattle.std.specs.Prelude.{max, nat_lt, option_copied};
+ghost use Rattle.bench_queue.specs.Outbox.{IsCounted, OutboxState, can_lift, dropped_one, hand_out, has_hand};
+ghost use Rattle.bench_queue.specs.Outbox.{items_out, lifted_one, next_out, nothing_out, put_out, undropped_one};
+ghost use Rattle.bench_queue.specs.Outbox.{unlifted_one, waiting_out, without_out};
 
 use bench_item::{Item, Series};
 use bench_log::KeptItem;
 use std::alloc::{AllocError, Global};
 use std::marker::Model;
 
-/// The items that a source put out, in order. The oldest that waits is lifted into the source's hand, which holds at most one, and
-/// dropped from there. All of them stay, so that each call can be taken back without memory. A contract sees the plain items, how many were
-/// lifted and how many dropped, and how many more can be put without memory.
+/// The items that a source put out, in order. The oldest that waits is lifted into the source's hand, which holds at
+/// most one, and dropped from there. All of them stay, so that each call can be taken back without memory. A contract
+/// sees the plain items, how many were lifted and how many dropped, and how many more can be put without memory.
 ///
-/// In: `reserve`, `put`, `put_all`, taken back by `unput`. Out: `lift`, taken back by `unlift`; `drop_hand`, taken back by `undrop`.
-/// Looks: `waiting`, `has_hand`, `next`, `next_kept`, `hand`, `hand_kept`, `items`.
+/// In: `reserve`, `put`, `put_all`, taken back by `unput`. Out: `lift`, taken back by `unlift`; `drop_hand`, taken back
+/// by `undrop`. Looks: `waiting`, `has_hand`, `next`, `next_kept`, `hand`, `hand_kept`, `items`.
 pub struct Outbox {
     posts: Vec<KeptItem>,
     lifted: usize,
@@ -39,9 +42,11 @@ impl Model for Outbox {
 
     ghost Value = { OutboxState };
 
-    ghost view = { λ o. record { view = record { posts = o.posts.items; lifted = o.lifted; dropped = o.dropped }; room = o.room } };
+    ghost view = { λ o.
+        record { view = record { posts = o.posts.items; lifted = o.lifted; dropped = o.dropped }; room = o.room } };
 
-    ghost invariant = { λ o. IsCounted (record { posts = o.posts.items; lifted = o.lifted; dropped = o.dropped }) × (vec_len o.posts + o.room ≤ vec_capacity o.posts) };
+    ghost invariant = { λ o. IsCounted (record { posts = o.posts.items; lifted = o.lifted; dropped = o.dropped })
+        × (vec_len o.posts + o.room ≤ vec_capacity o.posts) };
 }
 
 impl Outbox {
@@ -143,7 +148,8 @@ impl Outbox {
     /// Puts items out for which there is room. Takes no memory.
     pub fn put_all(&mut self, items: Vec<KeptItem>)
         requires { length items.items ≤ self.old.room }
-        ensures put { self.new ≡ record { view = put_out self.old.view items.items; room = self.old.room - length items.items } }
+        ensures put { self.new
+            ≡ record { view = put_out self.old.view items.items; room = self.old.room - length items.items } }
         ensures undone { without_out self.new.view (length items.items) ≡ self.old.view }
     {
         let count = items.len();
@@ -160,7 +166,8 @@ impl Outbox {
         self.posts.truncate(len.max(self.lifted));
     }
 
-    /// Lifts the oldest item that waits into the hand, where one waits and the hand is empty; else changes nothing. Says which.
+    /// Lifts the oldest item that waits into the hand, where one waits and the hand is empty;
+    /// else changes nothing. Says which.
     pub fn lift(&mut self) -> bool
         ensures is { result ≡ can_lift self.old.view }
         ensures lifted { self.new ≡ record { view = lifted_one self.old.view; room = self.old.room } }

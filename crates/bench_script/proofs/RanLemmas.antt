@@ -11,7 +11,7 @@ use Rattle.bench_spec.specs.Refusal.{refusal}
 use Rattle.bench_spec.specs.Machines.{number_of}
 use Rattle.bench_spec.specs.Settings.{Settings}
 use Rattle.bench_spec.specs.Taken.{Run, Takes, fault_of}
-use Rattle.script_text.specs.declared.asked.Asked.TheVariants as asked
+use Rattle.script_text.specs.declared.asked.ScriptStep.TheVariants as asked
 use Rattle.script_text.specs.declared.run_line.RunLine.{RunLine}
 use Rattle.script_text.specs.declared.run_line.RunLine.TheVariants as runs
 use Rattle.tab_law.specs.Books.{Laws}

@@ -1,3 +1,4 @@
+-- The definitions that the contracts of bench_script speak of.
 pub mod Settled
 pub mod Printed
 pub mod Ran

@@ -1,5 +1,6 @@
 -- What is printed of a step that was tried.
-use Rattle.std.specs.Prelude.{ℕ, List, [], ◌++◌, codes, decimal, map, nat_lt, Option, None, option_to_list, if◌then◌else◌}
+use Rattle.std.specs.Prelude.{ℕ, List, [], ◌++◌, codes, decimal, map, nat_lt, Option}
+use Rattle.std.specs.Prelude.{None, option_to_list, if◌then◌else◌}
 use Rattle.base_list.specs.declared.named.Named.{Named}
 use Rattle.bench_item.specs.Keys.{shard_of}
 use Rattle.bench_item.specs.Steps.{number_of}

@@ -7,8 +7,8 @@ use Rattle.bench_item.specs.declared.step.StepFault.TheVariants.{Unknown}
 use Rattle.bench_spec.specs.Machines.{number_of}
 use Rattle.bench_spec.specs.Refusal.{refusal}
 use Rattle.bench_spec.specs.Taken.{Run, Takes}
-use Rattle.script_text.specs.declared.asked.Asked.{Asked}
-use Rattle.script_text.specs.declared.asked.Asked.TheVariants as asked
+use Rattle.script_text.specs.declared.asked.ScriptStep.{ScriptStep}
+use Rattle.script_text.specs.declared.asked.ScriptStep.TheVariants as asked
 use Rattle.script_text.specs.declared.run_line.RunLine.{RunLine}
 use Rattle.script_text.specs.declared.run_line.RunLine.TheVariants as runs
 use Rattle.tab_law.specs.Books.{Laws}
@@ -53,7 +53,7 @@ pub record Settles (old new : Run) (text : List ℕ) : Type 0 where
   pub settled : next_settled new ≡ None
 
 -- what any script can ask for was done
-abbrev pub DoesAsked : Run → Asked → Run → List ℕ → Type 0
+abbrev pub DoesAsked : Run → ScriptStep → Run → List ℕ → Type 0
 DoesAsked old (asked.Step step) new text = Tries old step new text
 DoesAsked old (asked.Fired key generation) new text =
     Fires old (number_of old.settings.node old.log key) generation new text

@@ -1,7 +1,8 @@
 //! What is printed at the end of a run: where lines stand and what they sent, and what stands on accounts.
 ghost use Rattle.std.specs.Prelude.{◌≡◌, ◌++◌, ◌≤◌, OnOk, decimal};
 ghost use Rattle.bench_item.specs.declared.limit.TheConstants.{MAX_ENTRIES};
-ghost use Rattle.bench_script.specs.Ends.{account_text, host_text, line_text, lines_text, stands_text, state_text, sums_text, totals_text};
+ghost use Rattle.bench_script.specs.Ends.{account_text, host_text, line_text, lines_text, stands_text};
+ghost use Rattle.bench_script.specs.Ends.{state_text, sums_text, totals_text};
 ghost use Rattle.bench_script.specs.Printed.{machine_at};
 ghost use Rattle.step_text.specs.Names.{shown, shown_octet};
 
@@ -60,7 +61,8 @@ fn put_state(out: &mut Vec<u8>, core: &Core, state: LineState) -> Result<(), All
     }
 }
 
-/// Puts where a line stands behind what `out` holds: ` open`, ` closed` or ` dialling HOST`; nothing where there is no line.
+/// Puts where a line stands behind what `out` holds: ` open`, ` closed` or ` dialling HOST`;
+/// nothing where there is no line.
 pub fn put_stands(
     out: &mut Vec<u8>,
     core: &Core,
@@ -84,8 +86,8 @@ fn put_line(out: &mut Vec<u8>, core: &Core, line: u32) -> Result<(), AllocError>
     out.extend_from_slice(b"\n")
 }
 
-/// Puts each line that was opened, by number: `line N STATE HEX`, where it stands and all that it has sent. STATE is `open`, `closed` or
-/// `dialling HOST`; where nothing was sent no blank stands at the end.
+/// Puts each line that was opened, by number: `line N STATE HEX`, where it stands and all that it has sent.
+/// STATE is `open`, `closed` or `dialling HOST`; where nothing was sent no blank stands at the end.
 pub fn put_lines(out: &mut Vec<u8>, core: &Core) -> Result<(), AllocError>
     ensures { OnOk result (out.new.items ≡ out.old.items ++ lines_text core.now) }
 {
@@ -127,7 +129,8 @@ fn put_account(out: &mut Vec<u8>, id: u64, totals: Option<Totals>) -> Result<(),
     out.extend_from_slice(b"\n")
 }
 
-/// Puts these accounts, in this order: `account ID given G reserved R debited D unpaid U`. One that isn't there is left out.
+/// Puts these accounts, in this order: `account ID given G reserved R debited D unpaid U`.
+/// One that isn't there is left out.
 pub fn put_totals(out: &mut Vec<u8>, core: &Core, ids: &[u64]) -> Result<(), AllocError>
     ensures { OnOk result (out.new.items ≡ out.old.items ++ totals_text core.now ids.now) }
 {

@@ -4,7 +4,7 @@ ghost use Rattle.bench_script.specs.Ran.{Does, DoesAsked, IsRunBy, Prints, Ran};
 
 use crate::steps::{fire, settle, try_step};
 use bench_core::Core;
-use script_text::{Asked, RunLine};
+use script_text::{RunLine, ScriptStep};
 use std::alloc::{AllocError, Global};
 use tab_call::Registry;
 use tab_step::Stepped;
@@ -15,15 +15,15 @@ fn do_asked(
     core: &mut Core,
     registries: &[Registry],
     room: &mut Stepped,
-    asked: Asked,
+    asked: ScriptStep,
     out: &mut Vec<u8>,
 ) -> Result<(), AllocError>
     requires { IsRunBy core.old (map (λ r. r.book) registries.now) }
     ensures { OnOk result (Prints (DoesAsked core.old asked core.new) out.old.items out.new.items) }
 {
     match asked {
-        Asked::Step(step) => try_step(alloc, core, registries, room, step, out),
-        Asked::Fired { key, generation } => {
+        ScriptStep::Step(step) => try_step(alloc, core, registries, room, step, out),
+        ScriptStep::Fired { key, generation } => {
             fire(alloc, core, registries, room, &key, generation, out)
         }
     }
@@ -47,10 +47,10 @@ fn do_line(
     }
 }
 
-/// Does what the lines of a script ask for, in order, and puts behind what `out` holds the entry of each step that was taken, as
-/// `log_text` prints it, and of each that was refused the line `refused CODE`: a refused step is passed over. Want of memory ends the
-/// run; what was done and put until then stays. The registries are those that the bench was opened with; `room` is where a move is
-/// decided, and what stands there is gone.
+/// Does what the lines of a script ask for, in order, and puts behind what `out` holds the entry of each step that was
+/// taken, as `log_text` prints it, and of each that was refused the line `refused CODE`: a refused step is passed over.
+/// Want of memory ends the run; what was done and put until then stays. The registries are those that the bench was
+/// opened with; `room` is where a move is decided, and what stands there is gone.
 pub fn run_script(
     alloc: Global,
     core: &mut Core,

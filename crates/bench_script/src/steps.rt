@@ -48,7 +48,8 @@ pub(crate) fn fire(
     out: &mut Vec<u8>,
 ) -> Result<(), AllocError>
     requires { IsRunBy core.old (map (λ r. r.book) registries.now) }
-    ensures { OnOk result (Prints (Fires core.old (number_of core.old.settings.node core.old.log key.now) generation core.new) out.old.items out.new.items) }
+    ensures { OnOk result (Prints (Fires core.old (number_of core.old.settings.node core.old.log key.now) generation
+        core.new) out.old.items out.new.items) }
 {
     match core.number_of(key) {
         Some(machine) => {

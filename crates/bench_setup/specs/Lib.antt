@@ -1,3 +1,4 @@
+-- The definitions that the contracts of bench_setup speak of.
 pub mod Refusals
 pub mod Halts
 pub mod Setups

@@ -1,5 +1,6 @@
 -- Why a text that was read is refused, and what is told of it.
-use Rattle.std.specs.Prelude.{◌≡◌, ◌⊎◌, ◌<◌, ◌==◌, ℕ, List, [], Option, Some, None, Ok, Err, codes, length, nat_lt, if◌then◌else◌}
+use Rattle.std.specs.Prelude.{◌≡◌, ◌⊎◌, ◌<◌, ◌==◌, ℕ, List, [], Option, Some, None, Ok, Err, codes}
+use Rattle.std.specs.Prelude.{length, nat_lt, if◌then◌else◌}
 use Rattle.base_device.specs.Inputs.{IsInput}
 use Rattle.config_text.specs.Texts as config
 use Rattle.config_text.specs.Told.{error_text}
@@ -52,14 +53,16 @@ pub record IsNoDictionary (text told : List ℕ) : Type 0 where
 
 -- why a text is refused
 abbrev pub IsWrong : (text told : List ℕ) → Type 0
-IsWrong text told = IsNoConfig text told ⊎ HasNoNode text told ⊎ HasManyNodes text told ⊎ IsNoTable text told ⊎ IsNoDictionary text told
+IsWrong text told =
+    IsNoConfig text told ⊎ HasNoNode text told ⊎ HasManyNodes text told ⊎ IsNoTable text told ⊎ IsNoDictionary text told
 
 -- a shipped table
 abbrev pub IsShipped : List ℕ → Type 0
 IsShipped text = (text ≡ PEER_TABLE.now) ⊎ (text ≡ CLIENT_TABLE.now) ⊎ (text ≡ SERVER_TABLE.now)
 
 -- a text is refused that was read whole, and behind which nothing was read, or that is a shipped table
-pub record IsRefusedBy {I : Type 0} (remaining : I → Option (List ℕ)) (reads failures : I → ℕ) (new : I) (told : List ℕ) : Type 0 where
+pub record IsRefusedBy {I : Type 0} (remaining : I → Option (List ℕ)) (reads failures : I → ℕ) (new : I)
+    (told : List ℕ) : Type 0 where
   pub text : List ℕ
   pub before : I
   pub from : IsInput remaining reads failures before new text ⊎ IsShipped text

@@ -33,13 +33,15 @@ pub record AddsTo (text : List ℕ) (dictionary : List Definition) : Type 0 wher
   pub added : dictionary ≡ glossary.definitions
 
 -- the table of a file that was read whole, or else the shipped one
-abbrev pub IsTableFrom : {I : Type 0} → (remaining : I → Option (List ℕ)) → (reads failures : I → ℕ) → Option (List ℕ) → List ℕ → (old new : I) → Contents → Type 0
+abbrev pub IsTableFrom : {I : Type 0} → (remaining : I → Option (List ℕ))
+    → (reads failures : I → ℕ) → Option (List ℕ) → List ℕ → (old new : I) → Contents → Type 0
 IsTableFrom remaining reads failures None shipped old new table = (new ≡ old) × IsTableOf shipped table
 IsTableFrom remaining reads failures (Some name) shipped old new table =
     (text : List ℕ) × IsInput remaining reads failures old new text × IsTableOf text table
 
 -- the table of each role, in their order
-pub record AreTablesFrom {I : Type 0} (remaining : I → Option (List ℕ)) (reads failures : I → ℕ) (names : Tables) (old new : I) (tables : RoleTables) : Type 0 where
+pub record AreTablesFrom {I : Type 0} (remaining : I → Option (List ℕ)) (reads failures : I → ℕ) (names : Tables)
+    (old new : I) (tables : RoleTables) : Type 0 where
   pub after_peer : I
   pub after_client : I
   pub peer : IsTableFrom remaining reads failures names.peer PEER_TABLE.now old after_peer tables.peer
@@ -47,13 +49,15 @@ pub record AreTablesFrom {I : Type 0} (remaining : I → Option (List ℕ)) (rea
   pub server : IsTableFrom remaining reads failures names.server SERVER_TABLE.now after_client new tables.server
 
 -- what a file that was read whole adds to the dictionary; nothing where none is named
-abbrev pub IsDictionaryFrom : {I : Type 0} → (remaining : I → Option (List ℕ)) → (reads failures : I → ℕ) → Option (List ℕ) → (old new : I) → List Definition → Type 0
+abbrev pub IsDictionaryFrom : {I : Type 0} → (remaining : I → Option (List ℕ))
+    → (reads failures : I → ℕ) → Option (List ℕ) → (old new : I) → List Definition → Type 0
 IsDictionaryFrom remaining reads failures None old new dictionary = (new ≡ old) × (dictionary ≡ [])
 IsDictionaryFrom remaining reads failures (Some name) old new dictionary =
     (text : List ℕ) × IsInput remaining reads failures old new text × AddsTo text dictionary
 
 -- what a bench is opened with, of a node and the files that it names: the tables, and then the dictionary
-pub record IsBenchFrom {I : Type 0} (remaining : I → Option (List ℕ)) (reads failures : I → ℕ) (node : NodeConfig) (old new : I) (bench : handed.Config) : Type 0 where
+pub record IsBenchFrom {I : Type 0} (remaining : I → Option (List ℕ)) (reads failures : I → ℕ) (node : NodeConfig)
+    (old new : I) (bench : handed.Config) : Type 0 where
   pub after_tables : I
   pub tables : RoleTables
   pub tables_read : AreTablesFrom remaining reads failures node.files.tables old after_tables tables
@@ -62,7 +66,8 @@ pub record IsBenchFrom {I : Type 0} (remaining : I → Option (List ℕ)) (reads
   pub is : IsConfigOf node tables dictionary bench
 
 -- a CONFIG was read, and then the files of its first node
-pub record IsFirstFrom {I : Type 0} (remaining : I → Option (List ℕ)) (reads failures : I → ℕ) (old new : I) (setup : Setup) : Type 0 where
+pub record IsFirstFrom {I : Type 0} (remaining : I → Option (List ℕ)) (reads failures : I → ℕ) (old new : I)
+    (setup : Setup) : Type 0 where
   pub text : List ℕ
   pub after_config : I
   pub config_read : IsInput remaining reads failures old after_config text
@@ -72,13 +77,16 @@ pub record IsFirstFrom {I : Type 0} (remaining : I → Option (List ℕ)) (reads
   pub bench : IsBenchFrom remaining reads failures setup.node after_config new setup.bench
 
 -- the files of nodes were read, of one node after the other
-abbrev pub AreReadInTurn : {I : Type 0} → (remaining : I → Option (List ℕ)) → (reads failures : I → ℕ) → (old : I) → List Setup → (new : I) → Type 0
+abbrev pub AreReadInTurn : {I : Type 0} → (remaining : I → Option (List ℕ))
+    → (reads failures : I → ℕ) → (old : I) → List Setup → (new : I) → Type 0
 AreReadInTurn remaining reads failures old [] new = new ≡ old
 AreReadInTurn {I} remaining reads failures old (setup ∷ setups) new =
-    (mid : I) × IsBenchFrom remaining reads failures setup.node old mid setup.bench × AreReadInTurn remaining reads failures mid setups new
+    (mid : I) × IsBenchFrom remaining reads failures setup.node old mid setup.bench
+    × AreReadInTurn remaining reads failures mid setups new
 
 -- a CONFIG was read, and then the files of all its nodes, in their order
-pub record AreSetupsFrom {I : Type 0} (remaining : I → Option (List ℕ)) (reads failures : I → ℕ) (old new : I) (setups : List Setup) : Type 0 where
+pub record AreSetupsFrom {I : Type 0} (remaining : I → Option (List ℕ)) (reads failures : I → ℕ) (old new : I)
+    (setups : List Setup) : Type 0 where
   pub text : List ℕ
   pub after_config : I
   pub config_read : IsInput remaining reads failures old after_config text

@@ -62,7 +62,8 @@ fn run_by<J: WithCalls + Drop>(
     job.run(registries)
 }
 
-/// Does it with so many registries, each of callbacks that answer by the laws of all roles; where a law leaves a choice, with the highest number.
+/// Does it with so many registries, each of callbacks that answer by the laws of all roles;
+/// where a law leaves a choice, with the highest number.
 pub fn with_calls<J: WithCalls + Drop>(
     alloc: Global,
     count: usize,

@@ -3,7 +3,8 @@ ghost use Rattle.std.specs.Prelude.{◌≡◌, ◌<◌, ◌≤◌, ◌+◌, ◌-
 ghost use Rattle.base_device.specs.Inputs.{IsInput};
 ghost use Rattle.bench_setup.specs.Halts.{IsHalt, IsNoInput};
 ghost use Rattle.bench_setup.specs.Refusals.{IsNoDictionary, IsNoTable, IsShipped};
-ghost use Rattle.bench_setup.specs.Setups.{AddsTo, AreTablesFrom, IsBenchFrom, IsDictionaryFrom, IsTableFrom, IsTableOf};
+ghost use Rattle.bench_setup.specs.Setups.{AddsTo, AreTablesFrom, IsBenchFrom};
+ghost use Rattle.bench_setup.specs.Setups.{IsDictionaryFrom, IsTableFrom, IsTableOf};
 
 use crate::definitions::definitions_of;
 use crate::halt::Halt;
@@ -105,7 +106,8 @@ fn read_table<I: FileSource>(
     ensures reads { I.reads source.new ≤ I.reads source.old + MAX_READS }
     ensures made { I.reads source.old ≤ I.reads source.new }
     ensures sound { OnOk result (I.failures source.new ≡ I.failures source.old) }
-    ensures table { IfOk result (IsTableFrom I.remaining I.reads I.failures (option_map (λ name. name.now) name.entry) shipped.now source.old source.new) }
+    ensures table { IfOk result (IsTableFrom I.remaining I.reads I.failures (option_map (λ name. name.now) name.entry)
+        shipped.now source.old source.new) }
     ensures halt { IfErr result (IsHalt I.remaining I.reads I.failures source.old source.new) }
 {
     let Some(name) = name else {
@@ -127,7 +129,8 @@ fn read_tables<I: FileSource>(
     ensures reads { I.reads source.new ≤ I.reads source.old + 3 * MAX_READS }
     ensures made { I.reads source.old ≤ I.reads source.new }
     ensures sound { OnOk result (I.failures source.new ≡ I.failures source.old) }
-    ensures tables { IfOk result (AreTablesFrom I.remaining I.reads I.failures node.now.files.tables source.old source.new) }
+    ensures tables { IfOk result (AreTablesFrom I.remaining I.reads I.failures node.now.files.tables
+        source.old source.new) }
     ensures halt { IfErr result (IsHalt I.remaining I.reads I.failures source.old source.new) }
 {
     let names = &node.files.tables;
@@ -165,7 +168,8 @@ fn read_definitions<I: FileSource>(
     ensures reads { I.reads source.new ≤ I.reads source.old + MAX_READS }
     ensures made { I.reads source.old ≤ I.reads source.new }
     ensures sound { OnOk result (I.failures source.new ≡ I.failures source.old) }
-    ensures dictionary { IfOk result (IsDictionaryFrom I.remaining I.reads I.failures (option_map (λ name. name.now) name.entry) source.old source.new) }
+    ensures dictionary { IfOk result (IsDictionaryFrom I.remaining I.reads I.failures
+        (option_map (λ name. name.now) name.entry) source.old source.new) }
     ensures halt { IfErr result (IsHalt I.remaining I.reads I.failures source.old source.new) }
 {
     let Some(name) = name else {

@@ -1,4 +1,5 @@
-//! What a bench is opened with: CONFIG and the files that it names, read, and callbacks that answer by the laws of all roles.
+//! What a bench is opened with: CONFIG and the files that it names, read,
+//! and callbacks that answer by the laws of all roles.
 //!
 //! | File | What it has |
 //! |---|---|

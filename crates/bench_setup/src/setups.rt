@@ -49,9 +49,10 @@ fn nodes_of(alloc: Global, text: &[u8]) -> Result<Vec<NodeConfig>, Halt>
     }
 }
 
-/// Reads a CONFIG, and then the files that its first node names: the table of each role and the dictionary, each beside CONFIG unless
-/// its name begins at the root. Where none is named, the shipped table counts, and the standard's definitions. Refused are, in this
-/// order, what is no CONFIG, one without a node, the first fault of a table, and the first wrong line of the dictionary.
+/// Reads a CONFIG, and then the files that its first node names: the table of each role and the dictionary, each beside
+/// CONFIG unless its name begins at the root. Where none is named, the shipped table counts, and the standard's
+/// definitions. Refused are, in this order, what is no CONFIG, one without a node, the first fault of a table, and the
+/// first wrong line of the dictionary.
 pub fn read_first<I: FileSource>(alloc: Global, config: &str, source: &mut I) -> Result<Setup, Halt>
     requires reads { I.reads source.old + 5 * MAX_READS < 2 ^ 64 }
     requires failures { I.failures source.old < 2 ^ 64 - 1 }
@@ -84,7 +85,8 @@ fn read_benches<I: FileSource>(
     ensures made { I.reads source.old ≤ I.reads source.new }
     ensures sound { OnOk result (I.failures source.new ≡ I.failures source.old) }
     ensures nodes { IfOk result (λ setups. map (λ setup. setup.node) setups.items ≡ nodes.items) }
-    ensures in_turn { IfOk result (λ setups. AreReadInTurn I.remaining I.reads I.failures source.old setups.items source.new) }
+    ensures in_turn { IfOk result (λ setups. AreReadInTurn I.remaining I.reads I.failures source.old
+        setups.items source.new) }
     ensures halt { IfErr result (IsHalt I.remaining I.reads I.failures source.old source.new) }
 {
     let mut setups = Vec::new(alloc);
@@ -121,7 +123,8 @@ pub fn read_nodes<I: FileSource>(
     ensures reads { I.reads source.new ≤ I.reads source.old + 257 * MAX_READS }
     ensures made { I.reads source.old ≤ I.reads source.new }
     ensures sound { OnOk result (I.failures source.new ≡ I.failures source.old) }
-    ensures setups { IfOk result (λ setups. AreSetupsFrom I.remaining I.reads I.failures source.old source.new setups.items) }
+    ensures setups { IfOk result (λ setups. AreSetupsFrom I.remaining I.reads I.failures
+        source.old source.new setups.items) }
     ensures count { IfOk result (λ setups. length setups.items ≤ MAX_NODES) }
     ensures halt { IfErr result (IsHalt I.remaining I.reads I.failures source.old source.new) }
 {

@@ -1,3 +1,4 @@
+-- The definitions that the contracts of bench_shard speak of.
 pub mod Names
 pub mod View
 pub mod Settling

@@ -1,5 +1,6 @@
 -- Why a shard does not work.
-use Rattle.std.specs.Prelude.{ℕ, ◌+◌, ◌==◌, not, nat_lt, Bool, false, List, [], ◌∷◌, length, find, option_map, unwrap_or, Option}
+use Rattle.std.specs.Prelude.{ℕ, ◌+◌, ◌==◌, not, nat_lt, Bool, false, List, [], ◌∷◌, length, find}
+use Rattle.std.specs.Prelude.{option_map, unwrap_or, Option}
 use Rattle.std.specs.Option.{option_map_or}
 use Rattle.charge_session.specs.declared.want.Want.{Want}
 use Rattle.bench_item.specs.declared.limit.TheConstants.{MAX_WAITING, WORK_ROOM}

@@ -21,8 +21,8 @@ use Rattle.bench_shard.specs.Tasks.{wanted}
 use Rattle.bench_shard.specs.View.{ShardView}
 use Rattle.bench_shard.specs.Works.{BecomesIn}
 
--- the shard of that number after these entries, whether it is paused or not: its machines are those of the directory, each stands as its
--- moves left it, what came and was handled, was put out, lifted and dropped is what the entries say
+-- the shard of that number after these entries, whether it is paused or not: its machines are those of the directory,
+-- each stands as its moves left it, what came and was handled, was put out, lifted and dropped is what the entries say
 pub record Stands (settings : Settings) (log : List Entry) (v : ShardView) : Type 0 where
   pub here : v.number < settings.node.shards
   pub peers : v.peers ≡ record { hosts = settings.node.peers; shards = settings.node.shards }
@@ -37,22 +37,25 @@ pub record Stands (settings : Settings) (log : List Entry) (v : ShardView) : Typ
 
 -- the laws and the tables of the settings
 abbrev pub tables_of : Settings → Tables
-tables_of settings = record { laws = settings.node.laws; peer = settings.peer; client = settings.client; server = settings.server }
+tables_of settings =
+    record { laws = settings.node.laws; peer = settings.peer; client = settings.client; server = settings.server }
 
 -- two books say the same to what is asked, and allow the same
 pub record SaysTheSame (book other : Book) (want : Option Want) : Type 0 where
   pub event : (event : Event) → event_with_quote book want event ≡ event_with_quote other want event
   pub outcomes : (deeds : List Deed) → outcomes_for book want deeds ≡ outcomes_for other want deeds
 
--- The law of a shard that is what a log says, with a page of the account book that says to what its oldest item asks the same as the whole
--- book: what becomes of the item is what the log allows, and nothing else.
+-- The law of a shard that is what a log says, with a page of the account book that says to what its oldest item asks
+-- the same as the whole book: what becomes of the item is what the log allows, and nothing else.
 abbrev pub BecomesAsLogged : Type 0
 BecomesAsLogged =
     (settings : Settings) (log : List Entry) (v : ShardView) (book : Book) (item : MachineItem) (handled : Handled)
-    → Stands settings log v → next_in v.inbox ≡ Some item → SaysTheSame book (book_at settings log) (wanted settings.node.laws v item)
+    → Stands settings log v → next_in v.inbox ≡ Some item
+    → SaysTheSame book (book_at settings log) (wanted settings.node.laws v item)
     → BecomesIn (tables_of settings) book v item handled ↔ BecomesOf settings log item handled
 
 -- and what it posts is what the log says
 abbrev pub PostsAsLogged : Type 0
 PostsAsLogged =
-    (settings : Settings) (log : List Entry) (v : ShardView) → Stands settings log v → node_of settings.node.laws v.peers ≡ settings.node
+    (settings : Settings) (log : List Entry) (v : ShardView)
+    → Stands settings log v → node_of settings.node.laws v.peers ≡ settings.node

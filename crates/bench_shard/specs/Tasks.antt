@@ -11,7 +11,8 @@ use Rattle.bench_shard.specs.declared.task.Fate.{Fate}
 use Rattle.bench_shard.specs.declared.task.Fate.TheVariants.{Busy, Stale, Moves}
 use Rattle.bench_shard.specs.declared.task.Task.{Task}
 
--- what becomes of an item: busy where there is no room for its machine, else stale where its condition fails, else a move
+-- what becomes of an item: busy where there is no room for its machine,
+-- else stale where its condition fails, else a move
 abbrev pub fate_of : ShardView → MachineItem → Fate
 fate_of v item =
     if lacks_room v item.key then Busy else (if holds item.condition (state_for v item.key) then Moves else Stale)

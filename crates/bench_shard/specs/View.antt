@@ -1,5 +1,6 @@
 -- What a shard is to a contract.
-use Rattle.std.specs.Prelude.{◌≡◌, ◌<◌, ℕ, zero, suc, ◌&&◌, nat_le, Bool, false, if◌then◌else◌, List, [], ◌∷◌, ◌++◌, length, map, is_none, unwrap_or, slice_get, Option}
+use Rattle.std.specs.Prelude.{◌≡◌, ◌<◌, ℕ, zero, suc, ◌&&◌, nat_le, Bool, false, if◌then◌else◌, List, [], ◌∷◌, ◌++◌}
+use Rattle.std.specs.Prelude.{length, map, is_none, unwrap_or, slice_get, Option}
 use Rattle.sess_dir.specs.Names.{place_of}
 use Rattle.tab_step.specs.declared.machine.MachineState.{MachineState}
 use Rattle.bench_item.specs.Keys.{Configured, in_shard, key_of, number_at}
@@ -14,8 +15,8 @@ use Rattle.bench_shard.specs.declared.fault.PutError.{PutError}
 use Rattle.bench_shard.specs.declared.fault.PutError.TheVariants.{Full, NoMemory}
 use Rattle.bench_shard.specs.Names.{key_octets}
 
--- a shard: its number, the configured peers, its machines in order of number, each with its octets and as it stands, what came to it, what
--- it put out, and whether it is paused
+-- a shard: its number, the configured peers, its machines in order of number, each with its octets and as it stands,
+-- what came to it, what it put out, and whether it is paused
 pub record ShardView : Type 0 where
   pub number : ℕ
   pub peers : Configured

@@ -21,15 +21,17 @@ use Rattle.bench_shard.specs.declared.work.Effects.{Effects}
 use Rattle.bench_shard.specs.declared.work.ShardRecord.{ShardRecord}
 use Rattle.bench_shard.specs.declared.work.Work.{Work}
 
--- what becomes of an item: busy exactly where there is no room for its machine, else stale exactly where its condition fails, else a move
--- of its machine, from where that stands, by the laws, the table of its role and what the book says
+-- what becomes of an item: busy exactly where there is no room for its machine, else stale exactly where its condition
+-- fails, else a move of its machine, from where that stands, by the laws, the table of its role and what the book says
 abbrev pub BecomesIn : Tables → Book → ShardView → MachineItem → Handled → Type 0
 BecomesIn tables book v item handled.TooBusy = IsTrue (lacks_room v item.key)
 BecomesIn tables book v item (handled.Stale state) =
-    IsFalse (lacks_room v item.key) × IsFalse (holds item.condition (state_for v item.key)) × (state ≡ (state_for v item.key).state)
+    IsFalse (lacks_room v item.key) × IsFalse (holds item.condition (state_for v item.key))
+    × (state ≡ (state_for v item.key).state)
 BecomesIn tables book v item (handled.Move moved) =
     IsFalse (lacks_room v item.key) × IsTrue (holds item.condition (state_for v item.key))
-    × IsMoveOf tables.laws (table_of tables item.key.role) book (number_for v item.key) (state_for v item.key) item moved
+    × IsMoveOf tables.laws (table_of tables item.key.role) book (number_for v item.key)
+    (state_for v item.key) item moved
 
 -- the operations of the account book that a handled item leads to
 abbrev pub ops_in : Laws → MachineItem → Handled → List Op
@@ -37,7 +39,8 @@ ops_in laws item (handled.Move moved) = ops_for laws item moved
 ops_in laws item handled = []
 
 -- what a handled item posts, and what it asks of the account book
-pub record AreEffects (laws : Laws) (v : ShardView) (item : MachineItem) (handled : Handled) (effects : Effects) : Type 0 where
+pub record AreEffects (laws : Laws) (v : ShardView) (item : MachineItem) (handled : Handled)
+    (effects : Effects) : Type 0 where
   pub posts : effects.posts ≡ handled_posts (node_of laws v.peers) handled item
   pub ops : effects.ops ≡ ops_in laws item handled
 

@@ -177,9 +177,9 @@ impl ShardState {
         })
     }
 
-    /// Finds out what becomes of its oldest item, and what that leads to, and changes nothing. A move is decided by the registry's callbacks.
-    /// The page is that of the account which the task asks for, any other where it asks for none; its book stays as it is. `room` is what a
-    /// step is written into, for the caller to keep.
+    /// Finds out what becomes of its oldest item, and what that leads to, and changes nothing. A move is decided by the
+    /// registry's callbacks. The page is that of the account which the task asks for, any other where it asks for none;
+    /// its book stays as it is. `room` is what a step is written into, for the caller to keep.
     pub fn prepare(
         &self,
         alloc: Global,
@@ -226,7 +226,8 @@ impl ShardState {
         room: &mut Stepped,
     ) -> Result<bool, AllocError>
         requires { IsTask roles.now.laws self.now task.now }
-        ensures exact { IfOk result (λ yes. IsTrue yes ↔ BecomesIn roles.now page.old.book self.now task.now.item handled.now) }
+        ensures exact { IfOk result (λ yes. IsTrue yes
+            ↔ BecomesIn roles.now page.old.book self.now task.now.item handled.now) }
         ensures page { page.new ≡ with_book page.old page.old.book page.new.room }
     {
         match handled {
@@ -249,8 +250,8 @@ impl ShardState {
         }
     }
 
-    /// Whether this becomes of its oldest item, whatever the callbacks choose, and what that leads to: for a log that is run again. Asks no
-    /// callback and changes nothing. Page and room are as for `prepare`.
+    /// Whether this becomes of its oldest item, whatever the callbacks choose, and what that leads to:
+    /// for a log that is run again. Asks no callback and changes nothing. Page and room are as for `prepare`.
     pub fn check(
         &self,
         alloc: Global,
@@ -261,8 +262,10 @@ impl ShardState {
         room: &mut Stepped,
     ) -> Result<Option<Effects>, AllocError>
         requires { IsTask roles.now.laws self.now task.now }
-        ensures exact { IfOk result (λ effects. IsSome effects ↔ BecomesIn roles.now page.old.book self.now task.now.item handled.now) }
-        ensures effects { IfOk result (λ effects. IfSome effects (AreEffects roles.now.laws self.now task.now.item handled.now)) }
+        ensures exact { IfOk result (λ effects. IsSome effects
+            ↔ BecomesIn roles.now page.old.book self.now task.now.item handled.now) }
+        ensures effects { IfOk result
+            (λ effects. IfSome effects (AreEffects roles.now.laws self.now task.now.item handled.now)) }
         ensures fits { IfOk result (λ effects. IsSome effects → Fits self.now task.now.item handled.now) }
         ensures page { page.new ≡ with_book page.old page.old.book page.new.room }
     {

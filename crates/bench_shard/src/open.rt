@@ -41,7 +41,8 @@ pub(crate) fn start(machine: u64) -> MachineState
     MachineState { state: 0, regs }
 }
 
-/// Adds the machine of a peer, at its start. No peer is there twice, and there are few, so nothing but memory can be wanting.
+/// Adds the machine of a peer, at its start. No peer is there twice, and there are few,
+/// so nothing but memory can be wanting.
 fn add_peer(
     alloc: Global,
     number: usize,
@@ -51,7 +52,8 @@ fn add_peer(
 ) -> Result<(), AllocError>
     requires { number < MAX_SHARDS }
     ensures names { OnOk result (names.new ≡ names.old ++ key_octets key.now ∷ []) }
-    ensures states { OnOk result (states.new.items ≡ states.old.items ++ start (number_at number (length names.old)) ∷ []) }
+    ensures states { OnOk result (states.new.items
+        ≡ states.old.items ++ start (number_at number (length names.old)) ∷ []) }
 {
     let place = names.len();
     let octets = key_octets(alloc, key)?;
@@ -110,13 +112,14 @@ fn add_peers(
 }
 
 impl ShardState {
-    /// The shard of that number, from 0, of a node with these peers. Those of them that have their place in it come first, in their order,
-    /// each at its start.
+    /// The shard of that number, from 0, of a node with these peers.
+    /// Those of them that have their place in it come first, in their order, each at its start.
     pub fn new(alloc: Global, number: usize, peers: Peers) -> Result<ShardState, AllocError>
         requires { number < peers.shards }
         ensures opened { IfOk result (λ shard. shard ≡ opened number peers) }
         // It is what a log without entries says.
-        ensures stands { IfOk result (λ shard. (settings : Settings) → peers ≡ record { hosts = settings.node.peers; shards = settings.node.shards }
+        ensures stands { IfOk result (λ shard. (settings : Settings)
+            → peers ≡ record { hosts = settings.node.peers; shards = settings.node.shards }
             → Stands settings [] shard) }
     {
         let mut names = Directory::new(alloc);

@@ -1,7 +1,9 @@
 //! What comes to a shard, what is carried on from it, and pauses.
-ghost use Rattle.std.specs.Prelude.{◌≡◌, ◌≤◌, ◌∷◌, [], None, Ok, IfOk, IfErr, OnOk, OnErr, IsTrue, false, true, length, option_copied};
+ghost use Rattle.std.specs.Prelude.{◌≡◌, ◌≤◌, ◌∷◌, [], None, Ok, IfOk, IfErr, OnOk, OnErr, IsTrue, false};
+ghost use Rattle.std.specs.Prelude.{true, length, option_copied};
 ghost use Rattle.bench_queue.specs.Inbox.{items_in, put_in, without_in};
-ghost use Rattle.bench_queue.specs.Outbox.{can_lift, dropped_one, hand_out, has_hand, lifted_one, next_out, undropped_one, unlifted_one};
+ghost use Rattle.bench_queue.specs.Outbox.{can_lift, dropped_one, hand_out, has_hand, lifted_one};
+ghost use Rattle.bench_queue.specs.Outbox.{next_out, undropped_one, unlifted_one};
 ghost use Rattle.bench_spec.specs.Refusal.{is_crowded};
 ghost use Rattle.bench_shard.specs.View.{put_error, with_inbox, with_outbox, with_paused};
 
@@ -97,7 +99,8 @@ impl ShardState {
         self.outbox.hand_kept()
     }
 
-    /// Lifts the oldest item that waits into the hand, where one waits and the hand is empty; else changes nothing. Says which.
+    /// Lifts the oldest item that waits into the hand, where one waits and the hand is empty;
+    /// else changes nothing. Says which.
     pub fn lift(&mut self) -> bool
         ensures is { result ≡ can_lift self.old.outbox }
         ensures lifted { self.new ≡ with_outbox self.old (lifted_one self.old.outbox) }

@@ -3,7 +3,8 @@ ghost use Rattle.std.specs.Prelude.{◌≡◌, ◌<◌, ◌++◌, ◌∷◌, [],
 ghost use Rattle.sess_dir.specs.Names.{place_of};
 ghost use Rattle.sess_dir.specs.declared.directory.TheConstants.{MAX_NAMES};
 ghost use Rattle.bench_shard.specs.Names.{key_octets};
-ghost use Rattle.bench_shard.specs.Settling.{IsStood, names_left, settled_names, settled_states, states_left, unsettled_names, unsettled_states};
+ghost use Rattle.bench_shard.specs.Settling.{IsStood, names_left, settled_names, settled_states};
+ghost use Rattle.bench_shard.specs.Settling.{states_left, unsettled_names, unsettled_states};
 
 use crate::name::key_octets;
 use bench_item::Key;
@@ -59,7 +60,8 @@ pub(crate) fn come(
 ) -> Result<(), AllocError>
     requires absent { place_of names.old octets.now ≡ None }
     requires room { length names.old < MAX_NAMES }
-    ensures ok { OnOk result ((names.new ≡ names.old ++ octets.now ∷ []) × (states.new.items ≡ states.old.items ++ state ∷ [])) }
+    ensures ok { OnOk result ((names.new ≡ names.old ++ octets.now ∷ [])
+        × (states.new.items ≡ states.old.items ++ state ∷ [])) }
     ensures err { OnErr result ((names.new ≡ names.old) × (states.new.items ≡ states.old.items)) }
 {
     states.reserve(1)?;

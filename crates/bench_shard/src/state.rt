@@ -16,11 +16,13 @@ use std::alloc::{AllocError, Global};
 use std::marker::Model;
 use tab_step::MachineState;
 
-/// A shard without its tables and callbacks: its machines, by the places at which they came, each as it stands; what came to it and waits;
-/// what it put out. A contract sees all that came and was put out, with counts of what was handled, lifted and dropped.
+/// A shard without its tables and callbacks: its machines, by the places at which they came, each as it stands; what
+/// came to it and waits; what it put out. A contract sees all that came and was put out, with counts of what was
+/// handled, lifted and dropped.
 ///
-/// In: `put`, taken back by `unput`. Out: `lift`, taken back by `unlift`; `drop_hand`, taken back by `undrop`. `pause` and `resume` change
-/// nothing else. Looks: `number`, `machines`, `find`, `key`, `state`, `waiting`, `items`, `has_hand`, `next_post`, `hand`, `posts`, `is_paused`.
+/// In: `put`, taken back by `unput`. Out: `lift`, taken back by `unlift`; `drop_hand`, taken back by `undrop`. `pause`
+/// and `resume` change nothing else. Looks: `number`, `machines`, `find`, `key`, `state`, `waiting`, `items`,
+/// `has_hand`, `next_post`, `hand`, `posts`, `is_paused`.
 pub struct ShardState {
     pub(crate) alloc: Global,
     pub(crate) number: usize,
@@ -53,7 +55,15 @@ impl Model for ShardState {
 
     ghost Value = { ShardView };
 
-    ghost view = { λ s. record { number = s.number; peers = s.peers; names = s.names; states = s.states.items; inbox = s.inbox.view; outbox = s.outbox.view; paused = s.paused } };
+    ghost view = { λ s. record {
+      number = s.number;
+      peers = s.peers;
+      names = s.names;
+      states = s.states.items;
+      inbox = s.inbox.view;
+      outbox = s.outbox.view;
+      paused = s.paused;
+    } };
 
     ghost invariant = { λ s. IsWhole s.number s.peers s.names s.states.items };
 }

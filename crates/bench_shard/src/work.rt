@@ -62,8 +62,8 @@ impl ShardState {
         }
     }
 
-    /// Does the work on its oldest item, which is this one: it is handled, its machine comes to stand where that leaves it, and what that
-    /// posts is put out. Where memory is refused nothing changes.
+    /// Does the work on its oldest item, which is this one: it is handled, its machine comes to stand where that leaves
+    /// it, and what that posts is put out. Where memory is refused nothing changes.
     pub fn commit(
         &mut self,
         item: &MachineItem,

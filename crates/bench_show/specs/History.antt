@@ -1,5 +1,6 @@
 -- The moves of a machine up to a place, with the entries that they stand in.
-use Rattle.std.specs.Prelude.{◌≡◌, ℕ, ◌+◌, Bool, true, List, [], ◌∷◌, ◌++◌, codes, decimal, filter, flat_map, is_some, length, Option, Some, None, if◌then◌else◌}
+use Rattle.std.specs.Prelude.{◌≡◌, ℕ, ◌+◌, Bool, true, List, [], ◌∷◌, ◌++◌, codes, decimal, filter, flat_map, is_some}
+use Rattle.std.specs.Prelude.{length, Option, Some, None, if◌then◌else◌}
 use Rattle.std.specs.List.{enumerate_from}
 use Rattle.bench_item.specs.Keys.{is_same_key}
 use Rattle.bench_item.specs.declared.entry.Entry.{Entry}

@@ -1,3 +1,4 @@
+-- The definitions that the contracts of bench_show speak of.
 pub mod History
 pub mod Why
 pub mod Lines

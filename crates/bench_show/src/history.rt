@@ -1,5 +1,6 @@
 //! The moves of a machine.
-ghost use Rattle.std.specs.Prelude.{◌≡◌, ◌++◌, ◌+◌, ◌<◌, IfNone, IfOk, IfSome, IsFalse, MatchOption, OnOk, Some, false, option_copied, slice_get, true};
+ghost use Rattle.std.specs.Prelude.{◌≡◌, ◌++◌, ◌+◌, ◌<◌, IfNone, IfOk, IfSome, IsFalse, MatchOption, OnOk, Some, false};
+ghost use Rattle.std.specs.Prelude.{option_copied, slice_get, true};
 ghost use Rattle.bench_item.specs.declared.entry.Entry.{Entry as LogEntry};
 ghost use Rattle.bench_item.specs.declared.limit.TheConstants.{MAX_ENTRIES};
 ghost use Rattle.bench_script.specs.Printed.{taken_text};
@@ -60,10 +61,12 @@ pub(crate) fn put_numbered(
     put_taken(alloc, core, entry, out)
 }
 
-/// Whether the entry at a place may move a machine of that number: what one of another number moves is another machine. Takes no memory.
+/// Whether the entry at a place may move a machine of that number:
+/// what one of another number moves is another machine. Takes no memory.
 fn may_move(core: &Core, key: &Key, number: Option<u64>, place: usize) -> bool
     requires { number ≡ number_of core.now.settings.node core.now.log key.now }
-    ensures { IsFalse result → (entry : LogEntry) → slice_get core.now.log place ≡ Some entry → moves key.now entry ≡ false }
+    ensures { IsFalse result → (entry : LogEntry)
+        → slice_get core.now.log place ≡ Some entry → moves key.now entry ≡ false }
 {
     core.known();
     match (number, core.log().machine(place)) {
@@ -82,8 +85,10 @@ fn moving_entry(
     place: usize,
 ) -> Result<Option<Entry>, AllocError>
     requires { number ≡ number_of core.now.settings.node core.now.log key.now }
-    ensures some { IfOk result (λ found. IfSome found (λ entry. (slice_get core.now.log place ≡ Some entry) × (moves key.now entry ≡ true))) }
-    ensures none { IfOk result (λ found. IfNone found ((entry : LogEntry) → slice_get core.now.log place ≡ Some entry → moves key.now entry ≡ false)) }
+    ensures some { IfOk result (λ found. IfSome found (λ entry. (slice_get core.now.log place ≡ Some entry)
+        × (moves key.now entry ≡ true))) }
+    ensures none { IfOk result (λ found. IfNone found ((entry : LogEntry)
+        → slice_get core.now.log place ≡ Some entry → moves key.now entry ≡ false)) }
 {
     if !may_move(core, key, number, place) {
         return Ok(None);
@@ -122,7 +127,8 @@ fn put_entry(
     }
 }
 
-/// The same, and reads the entry only where it may move the machine: to clear the room for an entry takes longer than to look.
+/// The same, and reads the entry only where it may move the machine:
+/// to clear the room for an entry takes longer than to look.
 fn put_move(
     alloc: Global,
     out: &mut Vec<u8>,

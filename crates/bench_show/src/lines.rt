@@ -17,8 +17,8 @@ fn put_line(out: &mut Vec<u8>, core: &Core, line: u32) -> Result<(), AllocError>
     out.extend_from_slice(b"\n")
 }
 
-/// Puts each line that was opened behind what `out` holds, by number: `line N STATE sent OCTETS`, where it stands and how many octets it
-/// sent. STATE is `open`, `closed` or `dialling HOST`.
+/// Puts each line that was opened behind what `out` holds, by number: `line N STATE sent OCTETS`, where it stands and
+/// how many octets it sent. STATE is `open`, `closed` or `dialling HOST`.
 pub fn put_line_states(out: &mut Vec<u8>, core: &Core) -> Result<(), AllocError>
     ensures { OnOk result (out.new.items ≡ out.old.items ++ lines_text core.now) }
 {

@@ -1,6 +1,7 @@
 //! What waits in each outbox, hand and inbox.
 ghost use Rattle.std.specs.Prelude.{◌≡◌, ◌++◌, ◌-◌, ◌<◌, ◌^◌, OnOk, codes, decimal, flat_map, true};
-ghost use Rattle.bench_show.specs.Queues.{event_text, inbox_line, inbox_text, item_text, queue_text, queues_text, queues_to, source_at, source_text, waiting_line, waiting_text};
+ghost use Rattle.bench_show.specs.Queues.{event_text, inbox_line, inbox_text, item_text, queue_text, queues_text};
+ghost use Rattle.bench_show.specs.Queues.{queues_to, source_at, source_text, waiting_line, waiting_text};
 ghost use Rattle.bench_show.specs.Timers.{machine_text};
 ghost use Rattle.bench_spec.specs.Refusal.{is_source};
 ghost use Rattle.bench_spec.specs.Taken.{shown};
@@ -73,7 +74,8 @@ fn put_of_machine(
     word: &[u8],
     number: u64,
 ) -> Result<(), AllocError>
-    ensures { OnOk result (out.new.items ≡ out.old.items ++ machine_text core.now machine ++ word.now ++ decimal number) }
+    ensures { OnOk result (out.new.items
+        ≡ out.old.items ++ machine_text core.now machine ++ word.now ++ decimal number) }
 {
     put_machine(out, core, machine)?;
     put_number(out, word, number)
@@ -129,7 +131,8 @@ fn put_items(
     place: &[u8],
     items: &[Item],
 ) -> Result<(), AllocError>
-    ensures { OnOk result (out.new.items ≡ out.old.items ++ flat_map (waiting_line core.now source place.now) items.now) }
+    ensures { OnOk result (out.new.items
+        ≡ out.old.items ++ flat_map (waiting_line core.now source place.now) items.now) }
 {
     for item in items {
         put_waiting(out, core, source, place, item)?;
@@ -140,7 +143,8 @@ fn put_items(
 /// Puts what a source has put out and what was not lifted.
 fn put_outbox(out: &mut Vec<u8>, core: &Core, source: Source) -> Result<(), AllocError>
     requires { is_source core.now.settings core.now.log source ≡ true }
-    ensures { OnOk result (out.new.items ≡ out.old.items ++ flat_map (waiting_line core.now source (codes " outbox")) ((shown core.now).outbox_of source)) }
+    ensures { OnOk result (out.new.items ≡ out.old.items
+        ++ flat_map (waiting_line core.now source (codes " outbox")) ((shown core.now).outbox_of source)) }
 {
     let items = core.outbox(source)?;
     put_items(out, core, source, b" outbox", items.as_slice())
@@ -149,7 +153,8 @@ fn put_outbox(out: &mut Vec<u8>, core: &Core, source: Source) -> Result<(), Allo
 /// Puts what is in a source's hand.
 fn put_hand(out: &mut Vec<u8>, core: &Core, source: Source) -> Result<(), AllocError>
     requires { is_source core.now.settings core.now.log source ≡ true }
-    ensures { OnOk result (out.new.items ≡ out.old.items ++ flat_map (waiting_line core.now source (codes " hand")) ((shown core.now).hand_of source)) }
+    ensures { OnOk result (out.new.items
+        ≡ out.old.items ++ flat_map (waiting_line core.now source (codes " hand")) ((shown core.now).hand_of source)) }
 {
     match core.hand(source)? {
         Some(item) => put_waiting(out, core, source, b" hand", &item),
@@ -190,7 +195,8 @@ fn put_arrivals(
 /// Puts what waits at a shard to be handled.
 fn put_shard_inbox(out: &mut Vec<u8>, core: &Core, shard: u32) -> Result<(), AllocError>
     requires { shard < core.now.settings.node.shards }
-    ensures { OnOk result (out.new.items ≡ out.old.items ++ flat_map (inbox_line core.now shard) ((shown core.now).inbox_of shard)) }
+    ensures { OnOk result (out.new.items
+        ≡ out.old.items ++ flat_map (inbox_line core.now shard) ((shown core.now).inbox_of shard)) }
 {
     let items = core.inbox(shard)?;
     put_arrivals(out, core, shard, items.as_slice())
@@ -241,9 +247,9 @@ fn put_each(out: &mut Vec<u8>, core: &Core, sort: Sort, count: u32) -> Result<()
     Ok(())
 }
 
-/// Puts each item that waits behind what `out` holds, oldest first, by source: lines that were opened, shards and desks, each by number,
-/// and the clock; of each what it has put out, what is in its hand, and of a shard what waits there to be handled. A line an item:
-/// `SRC outbox ITEM`, `SRC hand ITEM`, `shard S inbox ITEM`.
+/// Puts each item that waits behind what `out` holds, oldest first, by source: lines that were opened, shards and
+/// desks, each by number, and the clock; of each what it has put out, what is in its hand, and of a shard what waits
+/// there to be handled. A line an item: `SRC outbox ITEM`, `SRC hand ITEM`, `shard S inbox ITEM`.
 pub fn put_queues(out: &mut Vec<u8>, core: &Core) -> Result<(), AllocError>
     ensures { OnOk result (out.new.items ≡ out.old.items ++ queues_text core.now) }
 {

@@ -40,8 +40,8 @@ fn put_timer(out: &mut Vec<u8>, core: &Core, machine: u64) -> Result<(), AllocEr
     out.extend_from_slice(b"\n")
 }
 
-/// Puts each timer that is armed behind what `out` holds, by the number of its machine: `timer KEY GEN`, with the generation with which it
-/// is armed.
+/// Puts each timer that is armed behind what `out` holds, by the number of its machine:
+/// `timer KEY GEN`, with the generation with which it is armed.
 pub fn put_timers(out: &mut Vec<u8>, core: &Core) -> Result<(), AllocError>
     ensures { OnOk result (out.new.items ≡ out.old.items ++ timers_text core.now) }
 {

@@ -1,9 +1,11 @@
 //! The event, the row and the guards of a move.
-ghost use Rattle.std.specs.Prelude.{◌≡◌, ◌++◌, ◌+◌, ◌<◌, ◌∷◌, [], All, OnOk, Some, codes, decimal, flat_map, length, map, option_copied, slice_get};
+ghost use Rattle.std.specs.Prelude.{◌≡◌, ◌++◌, ◌+◌, ◌<◌, ◌∷◌, [], All, OnOk, Some, codes, decimal, flat_map, length};
+ghost use Rattle.std.specs.Prelude.{map, option_copied, slice_get};
 ghost use Rattle.base_list.specs.Named.{entry_of};
 ghost use Rattle.bench_item.specs.declared.entry.Moved.{Moved as OneMove};
 ghost use Rattle.bench_show.specs.History.{move_in, numbered_text};
-ghost use Rattle.bench_show.specs.Why.{answer_words, answers_line, answers_words, count_to, event_line, guards_text, is_of, names_in, rows_to, taken_row, told_row, why_text};
+ghost use Rattle.bench_show.specs.Why.{answer_words, answers_line, answers_words, count_to, event_line, guards_text};
+ghost use Rattle.bench_show.specs.Why.{is_of, names_in, rows_to, taken_row, told_row, why_text};
 ghost use Rattle.step_text.specs.Lines.{behind, fact_words};
 ghost use Rattle.tab_law.specs.Books.{named_answer};
 ghost use Rattle.tab_step.specs.Moves.{is_kind_of, name_at, scene_of};
@@ -117,7 +119,8 @@ fn put_each_answer(
     guards: &[u8],
 ) -> Result<(), AllocError>
     requires { All (λ guard. guard < length names.now) guards.now }
-    ensures { OnOk result (out.new.items ≡ out.old.items ++ flat_map (answer_words laws.now scene.now) (map (name_at names.now) guards.now)) }
+    ensures { OnOk result (out.new.items
+        ≡ out.old.items ++ flat_map (answer_words laws.now scene.now) (map (name_at names.now) guards.now)) }
 {
     for guard in guards {
         put_answer_at(out, laws, scene, names, *guard)?;
@@ -134,7 +137,8 @@ fn put_answers(
     guards: &[u8],
 ) -> Result<(), AllocError>
     requires { All (λ guard. guard < length names.now) guards.now }
-    ensures { OnOk result (out.new.items ≡ out.old.items ++ answers_words laws.now scene.now (map (name_at names.now) guards.now)) }
+    ensures { OnOk result (out.new.items
+        ≡ out.old.items ++ answers_words laws.now scene.now (map (name_at names.now) guards.now)) }
 {
     match guards {
         [] => out.extend_from_slice(b" always"),
@@ -152,7 +156,8 @@ fn put_row_answers(
     row: &Row,
 ) -> Result<(), AllocError>
     requires { IsRowOf table.now row.now }
-    ensures { OnOk result (out.new.items ≡ out.old.items ++ answers_line table.now laws.now scene.now (number, row.now)) }
+    ensures { OnOk result (out.new.items
+        ≡ out.old.items ++ answers_line table.now laws.now scene.now (number, row.now)) }
 {
     put_number(out, b"  row ", number as u64)?;
     out.extend_from_slice(b":")?;
@@ -226,7 +231,8 @@ fn put_guards(
     event: &Event,
     taken: Option<u16>,
 ) -> Result<(), AllocError>
-    ensures { OnOk result (out.new.items ≡ out.old.items ++ guards_text table.now laws.now machine.now event.now (rows_to table.now taken)) }
+    ensures { OnOk result (out.new.items
+        ≡ out.old.items ++ guards_text table.now laws.now machine.now event.now (rows_to table.now taken)) }
 {
     let end = count_to(taken, table.rows().len());
     'each: for number in 0..end {
@@ -253,8 +259,8 @@ fn put_taken_row(
     }
 }
 
-/// Puts a move of a machine behind what `out` holds: the entry of that number in which it stands, the event, the row that took it, and of
-/// that row and those before it that have its state and kind what each guard said.
+/// Puts a move of a machine behind what `out` holds: the entry of that number in which it stands, the event, the row
+/// that took it, and of that row and those before it that have its state and kind what each guard said.
 pub fn put_why(
     alloc: Global,
     out: &mut Vec<u8>,

@@ -17,8 +17,8 @@ use Rattle.charge_session.specs.declared.quote.Quotes.{Quotes}
 use Rattle.charge_session.specs.declared.quote.Quotes.TheVariants as quotes
 use Rattle.server_rules.specs.Kinds.{kinds}
 use Rattle.charge_session.specs.Wants.{needs}
-use Rattle.charge_session.specs.declared.want.Asked.{Asked}
-use Rattle.charge_session.specs.declared.want.Asked.TheVariants.{One, Several}
+use Rattle.charge_session.specs.declared.want.ServiceUnits.{ServiceUnits}
+use Rattle.charge_session.specs.declared.want.ServiceUnits.TheVariants.{One, Several}
 use Rattle.charge_session.specs.declared.want.Want.{Want}
 use Rattle.tab_law.specs.Books.{Laws}
 use Rattle.tab_law.specs.declared.scene.Deed.{Deed}
@@ -80,7 +80,7 @@ book_at settings log = record { accounts = settings.accounts; journal = booked s
 abbrev pub quotes_for : Book → Want → Quotes
 quotes_for book want = by want.asked
   where
-    by : Asked → Quotes
+    by : ServiceUnits → Quotes
     by (One slot) = quotes.One (quote_of book want.account want.session slot.group slot.used slot.want)
     by (Several slots) = quotes.Several (quotes_of want.account want.session book slots)
 

@@ -9,7 +9,7 @@ use Rattle.base_codes.specs.DeedCodes.{coded}
 use Rattle.acct_book.specs.Sums.{debited, left_where, own, unpaid}
 use Rattle.acct_totals.specs.declared.op.Outcome.{Outcome}
 use Rattle.acct_totals.specs.declared.op.Outcome.TheVariants.{Done, Refused}
-use Rattle.charge_session.specs.declared.want.Asked.TheVariants.{Several}
+use Rattle.charge_session.specs.declared.want.ServiceUnits.TheVariants.{Several}
 use Rattle.charge_session.specs.declared.want.Want.{Want}
 use Rattle.tab_step.specs.Moves.{row_taken}
 use Rattle.tab_step.specs.declared.machine.Event.{Event}

@@ -5,7 +5,8 @@ use crate::undo::Undo;
 use std::alloc::{AllocError, Global};
 use std::marker::Model;
 
-/// The records of all steps that were taken, in their order. A contract sees them as a list, with how many more can be put without memory.
+/// The records of all steps that were taken, in their order.
+/// A contract sees them as a list, with how many more can be put without memory.
 pub struct UndoLog {
     records: Vec<Undo>,
     // So many records can be put without memory.

@@ -1,3 +1,4 @@
+//! What a step changed: the record from which it is taken back.
 use bench_item::Source;
 use bench_line::Change;
 use bench_shard::ShardRecord;

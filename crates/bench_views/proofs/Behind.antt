@@ -11,7 +11,7 @@ use Rattle.bench_item.specs.declared.source.Source.TheVariants.{Clock, Desk, Lin
 use Rattle.bench_item.specs.declared.step.Step.{Step}
 use Rattle.bench_item.specs.Keys.{Node}
 use Rattle.bench_line.specs.Line.{LineView}
-use Rattle.bench_line.specs.Lines.{StandFor}
+use Rattle.bench_line.specs.Lines.{AreLinesAfter}
 use Rattle.bench_queue.specs.Inbox.{InboxView, put_in}
 use Rattle.bench_queue.specs.Outbox.{OutboxView, can_lift, dropped_one, has_hand, lifted_one, put_out}
 use Rattle.bench_shard.specs.View.{ShardView, with_inbox, with_outbox}
@@ -95,7 +95,7 @@ carried_shard-by node e v inbox outbox i o =
 
 -- The lines are what the log says, and so is how far what they put out was carried.
 pub record AreLinesTied (settings : Settings) (log : List Entry) (lines : List LineView) (carried : List ℕ) : Type 0 where
-  pub stand : StandFor (meaning_of settings) lines (pasts_of log)
+  pub stand : AreLinesAfter (meaning_of settings) lines (pasts_of log)
   pub lifted_of : EachAt (λ n l. l.lifted ≡ length (lifted log (Line (suc n)))) lines
   pub carried_count : length carried ≡ length lines
   pub carried_of : EachAt (λ n c. c ≡ length (dropped log (Line (suc n)))) carried
@@ -185,7 +185,7 @@ pub lines-kept : (settings : Settings) (log : List Entry) (e : Entry) (s : Store
     → ((line : ℕ) → lifts (Line line) e ≡ []) → ((line : ℕ) → drops (Line line) e ≡ []) → IsTied settings log s
     → AreLinesTied settings (log ++ e ∷ []) s.lines s.carried
 lines-kept settings log e s pasts no_lift no_drop tied = record {
-  stand = subst (StandFor (meaning_of settings) s.lines) (sym pasts) tied.lines;
+  stand = subst (AreLinesAfter (meaning_of settings) s.lines) (sym pasts) tied.lines;
   lifted_of = lifted_of-same log e s.lines s.lines no_lift refl tied.lifted_of;
   carried_count = tied.carried_count;
   carried_of = carried_of-same log e s.carried no_drop tied.carried_of;

@@ -19,7 +19,7 @@ use Rattle.bench_item.specs.Keys.{home}
 use Rattle.bench_item.specs.Lines.{Delivered, Undialled}
 use Rattle.bench_item.specs.Steps.{is_same_source}
 use Rattle.bench_line.specs.Line.{LineView}
-use Rattle.bench_line.specs.Lines.{Past, StandFor, one_more, opened, with_step}
+use Rattle.bench_line.specs.Lines.{Past, AreLinesAfter, one_more, opened, with_step}
 use Rattle.bench_queue.specs.Inbox.{put_in}
 use Rattle.bench_queue.specs.Outbox.{OutboxView, dropped_one, has_hand}
 use Rattle.bench_shard.specs.View.{ShardView, with_inbox, with_outbox}
@@ -211,7 +211,7 @@ module _ (settings : Settings) (log : List Entry) (source : Source) (item : Item
   count_count = (counts-dropped source s some).count ∙ tied.carried_count
 
   -- lines of which as many are lifted as before
-  pub lines_by : (ls : List LineView) → StandFor (meaning_of settings) ls (pasts_of (log ++ e ∷ [])) → map (λ l. l.lifted) ls ≡ map (λ l. l.lifted) s.lines
+  pub lines_by : (ls : List LineView) → AreLinesAfter (meaning_of settings) ls (pasts_of (log ++ e ∷ [])) → map (λ l. l.lifted) ls ≡ map (λ l. l.lifted) s.lines
       → length ls ≡ length s.lines → AreLinesTied settings (log ++ e ∷ []) ls (dropped_from source s).carried
   lines_by ls stand same count = record {
     stand = stand;
@@ -241,7 +241,7 @@ module _ (settings : Settings) (log : List Entry) (source : Source) (item : Item
   pub lines_kept : pasts_of (log ++ e ∷ []) ≡ pasts_of log → AreLinesTied settings (log ++ e ∷ []) (dropped_from source s).lines (dropped_from source s).carried
   lines_kept same =
       lines_by (dropped_from source s).lines
-      (subst (StandFor (meaning_of settings) (dropped_from source s).lines) (sym same) (subst (λ ls. StandFor (meaning_of settings) ls (pasts_of log)) (sym (lines-kept source s)) tied.lines))
+      (subst (AreLinesAfter (meaning_of settings) (dropped_from source s).lines) (sym same) (subst (λ ls. AreLinesAfter (meaning_of settings) ls (pasts_of log)) (sym (lines-kept source s)) tied.lines))
       (ap (map (λ l. l.lifted)) (lines-kept source s)) (ap length (lines-kept source s))
 
   pub timers_kept : ((machine : ℕ) → timer_change machine e ≡ []) → IsArmedSo (dropped_from source s).timers (log ++ e ∷ [])

@@ -16,7 +16,7 @@ use Rattle.bench_item.specs.declared.step.Step.TheVariants.{Drop}
 use Rattle.bench_item.specs.Lines.{Delivered, Undialled}
 use Rattle.bench_item.specs.Steps.{is_same_source}
 use Rattle.bench_line.specs.Line.{LineView}
-use Rattle.bench_line.specs.Lines.{Past, StandFor, one_more, opened, with_step}
+use Rattle.bench_line.specs.Lines.{Past, AreLinesAfter, one_more, opened, with_step}
 use Rattle.bench_queue.specs.Outbox.{has_hand}
 use Rattle.bench_spec.specs.Items.{InOrder, dropped}
 use Rattle.bench_spec.specs.Lines.{opening_of, openings as openings_of}
@@ -65,25 +65,25 @@ same_count ls ms same = sym (length-map ls (λ l. l.lifted)) ∙ ap length same 
 -- a deed comes to a line
 pub tied-delivered : (settings : Settings) (log : List Entry) (source : Source) (item : LineItem) (s : Stored) (ls : List LineView)
     → IsTied settings log s → has_hand (outbox_at settings log source) ≡ true → HasNumber source
-    → ((pasts : List Past) → StandFor (meaning_of settings) s.lines pasts → StandFor (meaning_of settings) ls (with_step item.line (Delivered item) pasts))
+    → ((pasts : List Past) → AreLinesAfter (meaning_of settings) s.lines pasts → AreLinesAfter (meaning_of settings) ls (with_step item.line (Delivered item) pasts))
     → map (λ l. l.lifted) ls ≡ map (λ l. l.lifted) s.lines
     → IsTied settings (log ++ entry_of (Drop source) (Some (ToLine item)) None ∷ []) (record (dropped_from source s) { lines = ls })
 tied-delivered settings log source item s ls tied has some stands same =
     tied-dropped settings log source (ToLine item) s tied has some ls (dropped_from source s).carried (dropped_from source s).timers (λ shard. refl)
     (lines_by settings log source (ToLine item) s tied has some ls
-    (subst (StandFor (meaning_of settings) ls) (sym (pasts_of-delivered log source item None)) (stands (pasts_of log) tied.lines)) same (same_count ls s.lines same))
+    (subst (AreLinesAfter (meaning_of settings) ls) (sym (pasts_of-delivered log source item None)) (stands (pasts_of log) tied.lines)) same (same_count ls s.lines same))
     (timers_kept settings log source (ToLine item) s tied has some (keeps-delivered source item None))
 
 -- a dial is given up
 pub tied-undialled : (settings : Settings) (log : List Entry) (source : Source) (peer generation : ℕ) (s : Stored) (ls : List LineView)
     → IsTied settings log s → has_hand (outbox_at settings log source) ≡ true → HasNumber source
-    → ((pasts : List Past) → StandFor (meaning_of settings) s.lines pasts → StandFor (meaning_of settings) ls (map (one_more (Undialled peer generation)) pasts))
+    → ((pasts : List Past) → AreLinesAfter (meaning_of settings) s.lines pasts → AreLinesAfter (meaning_of settings) ls (map (one_more (Undialled peer generation)) pasts))
     → map (λ l. l.lifted) ls ≡ map (λ l. l.lifted) s.lines
     → IsTied settings (log ++ entry_of (Drop source) (Some (Undial peer generation)) None ∷ []) (record (dropped_from source s) { lines = ls })
 tied-undialled settings log source peer generation s ls tied has some stands same =
     tied-dropped settings log source (Undial peer generation) s tied has some ls (dropped_from source s).carried (dropped_from source s).timers (λ shard. refl)
     (lines_by settings log source (Undial peer generation) s tied has some ls
-    (subst (StandFor (meaning_of settings) ls) (sym (pasts_of-undialled log source peer generation None)) (stands (pasts_of log) tied.lines)) same (same_count ls s.lines same))
+    (subst (AreLinesAfter (meaning_of settings) ls) (sym (pasts_of-undialled log source peer generation None)) (stands (pasts_of log) tied.lines)) same (same_count ls s.lines same))
     (timers_kept settings log source (Undial peer generation) s tied has some (keeps-undialled source peer generation None))
 
 -- the line behind all is no source yet
@@ -97,14 +97,14 @@ not_yet settings log Clock line is there = refl
 -- A dial opens a line, of which nothing was lifted or dropped yet.
 pub tied-dial : (settings : Settings) (log : List Entry) (source : Source) (peer generation : ℕ) (s : Stored) (ls : List LineView)
     → IsTied settings log s → InOrder settings log → has_hand (outbox_at settings log source) ≡ true → is_source settings log source ≡ true
-    → ((pasts : List Past) → StandFor (meaning_of settings) s.lines pasts → StandFor (meaning_of settings) ls (opened (openings.Dialled peer generation) pasts))
+    → ((pasts : List Past) → AreLinesAfter (meaning_of settings) s.lines pasts → AreLinesAfter (meaning_of settings) ls (opened (openings.Dialled peer generation) pasts))
     → map (λ l. l.lifted) ls ≡ map (λ l. l.lifted) s.lines ++ 0 ∷ []
     → IsTied settings (log ++ entry_of (Drop source) (Some (Dial peer generation)) None ∷ [])
     (record (dropped_from source s) { lines = ls; carried = (dropped_from source s).carried ++ 0 ∷ [] })
 tied-dial settings log source peer generation s ls tied order has there stands more =
     tied-dropped settings log source (Dial peer generation) s tied has some ls ((dropped_from source s).carried ++ 0 ∷ []) (dropped_from source s).timers (λ shard. refl)
     (record {
-      stand = subst (StandFor (meaning_of settings) ls) (sym (pasts_of-dial log source peer generation None)) (stands (pasts_of log) tied.lines);
+      stand = subst (AreLinesAfter (meaning_of settings) ls) (sym (pasts_of-dial log source peer generation None)) (stands (pasts_of log) tied.lines);
       lifted_of = lifted_of-opened log e s.lines ls (λ line. refl) more first tied.lifted_of;
       carried_count =
           omega (arith, length-append (dropped_from source s).carried (0 ∷ []), count, length-opened s.lines ls more);

@@ -12,7 +12,7 @@ use Rattle.bench_item.specs.declared.source.Source.TheVariants.{Clock, Desk, Lin
 use Rattle.bench_item.specs.declared.step.Step.TheVariants.{Lift}
 use Rattle.bench_item.specs.Steps.{is_same_source}
 use Rattle.bench_line.specs.Line.{LineView}
-use Rattle.bench_line.specs.Lines.{StandFor, line_at, lifted_one as line_lifted_one}
+use Rattle.bench_line.specs.Lines.{AreLinesAfter, line_at, lifted_one as line_lifted_one}
 use Rattle.bench_line.proofs.LiftLemmas.{stands-lift}
 use Rattle.bench_queue.specs.Outbox.{OutboxView, can_lift, lifted_one}
 use Rattle.bench_shard.specs.View.{ShardView, with_outbox}
@@ -118,7 +118,7 @@ line_at-suc ls n = rw some (ap (slice_get ls) less)
     less : suc n - 1 ≡ n
     less = omega arith
 
-pub each_outbox_of : (settings : Settings) (log : List Entry) (ls : List LineView) → StandFor (meaning_of settings) ls (pasts_of log)
+pub each_outbox_of : (settings : Settings) (log : List Entry) (ls : List LineView) → AreLinesAfter (meaning_of settings) ls (pasts_of log)
     → EachAt (λ n l. l.outbox ≡ posts settings log (Line (suc n))) ls
 each_outbox_of settings log ls s n l is =
     sym (ap (λ o. option_map_or (λ v. v.outbox) o []) (line_at-suc ls n ∙ is)) ∙ outbox_on-log settings ls log (suc n) s
@@ -204,10 +204,10 @@ tied-lift settings log source item s tied can =
     same_pasts : pasts_of (log ++ e ∷ []) ≡ pasts_of log
     same_pasts = pasts_of-lifted log source (Some item) None
 
-    kept : StandFor (meaning_of settings) s.lines (pasts_of (log ++ e ∷ []))
-    kept = subst (StandFor (meaning_of settings) s.lines) (sym same_pasts) tied.lines
+    kept : AreLinesAfter (meaning_of settings) s.lines (pasts_of (log ++ e ∷ []))
+    kept = subst (AreLinesAfter (meaning_of settings) s.lines) (sym same_pasts) tied.lines
 
-    stands : (x : Source) → StandFor (meaning_of settings) (lifted_from x s).lines (pasts_of (log ++ e ∷ []))
+    stands : (x : Source) → AreLinesAfter (meaning_of settings) (lifted_from x s).lines (pasts_of (log ++ e ∷ []))
     stands (Line line) = stands-lift (meaning_of settings) s.lines line (pasts_of (log ++ e ∷ [])) kept
     stands (Shard shard) = kept
     stands (Desk desk) = kept

@@ -11,7 +11,7 @@ use Rattle.bench_item.specs.declared.item.Item.{Item}
 use Rattle.bench_item.specs.declared.source.Source.TheVariants.{Line}
 use Rattle.bench_item.specs.declared.step.Step.TheVariants.{Lift}
 use Rattle.bench_line.specs.Line.{LineView}
-use Rattle.bench_line.specs.Lines.{StandFor, lifted_on, lifted_one, line_at, next_on, with_line, with_line_at}
+use Rattle.bench_line.specs.Lines.{AreLinesAfter, lifted_on, lifted_one, line_at, next_on, with_line, with_line_at}
 use Rattle.bench_line.specs.Talk.{Meaning}
 use Rattle.bench_spec.specs.Items.{lifted}
 use Rattle.bench_spec.proofs.BookLemmas.{entry_of}
@@ -184,7 +184,7 @@ next_by : (l : Option LineView)
 next_by None = refl
 next_by (Some l) = refl
 
-pub next_on-lifted : (m : Meaning) (ls : List LineView) (log : List Entry) (line : ℕ) → StandFor m ls (pasts_of log)
+pub next_on-lifted : (m : Meaning) (ls : List LineView) (log : List Entry) (line : ℕ) → AreLinesAfter m ls (pasts_of log)
     → IsLiftedSo ls log
     → next_on ls line ≡ slice_get (line_posts_by m log line) (length (lifted log (Line line)))
 next_on-lifted m ls log line s so =

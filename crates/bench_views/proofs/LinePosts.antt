@@ -20,7 +20,7 @@ use Rattle.bench_item.specs.declared.step.Step.{Step}
 use Rattle.bench_item.specs.declared.step.Step.TheVariants.{Joined, Dialled, Came, Lost, Told, Fired, Lift, Drop, Work}
 use Rattle.bench_item.specs.Lines.{LineStep, Acknowledged, Received, Gone, Delivered, Undialled, is_acknowledgement, state_of}
 use Rattle.bench_line.specs.Line.{CanCome, EachCanCome, LineView, Stands, found, loss_of}
-use Rattle.bench_line.specs.Lines.{StandFor, line_at}
+use Rattle.bench_line.specs.Lines.{AreLinesAfter, line_at}
 use Rattle.bench_line.specs.Messages.{fault_in, messages, rest_of}
 use Rattle.bench_line.specs.Rounds.{fault_posts}
 use Rattle.bench_line.specs.Talk.{Meaning, after_turns, at_first, does_close, is_loss, posts_by, posts_in, posts_of, rules_of, stream_of, turns, turns_by}
@@ -187,7 +187,7 @@ posts_at : (m : Meaning) (log : List Entry) (line : ℕ) (opening : Opening) →
 posts_at m log line opening there = ap (λ o. option_map_or (λ x. posts_of m line x (line_steps log line)) o []) there
 
 -- With one more entry, which may come to each line, what each put out stays and goes on behind.
-pub line_posts-go_on : (m : Meaning) (ls : List LineView) (log : List Entry) (e : Entry) → StandFor m ls (pasts_of log)
+pub line_posts-go_on : (m : Meaning) (ls : List LineView) (log : List Entry) (e : Entry) → AreLinesAfter m ls (pasts_of log)
     → EachMayCome m log e → (line : ℕ)
     → IsFront (line_posts_by m log line) (line_posts_by m (log ++ e ∷ []) line)
 line_posts-go_on m ls log e s comes line = by (line_at ls line) (opening_of log line) refl (stands_at m ls log line s)

@@ -6,7 +6,7 @@ use Rattle.bench_item.specs.declared.entry.Entry.{Entry}
 use Rattle.bench_item.specs.declared.opening.Opening.{Opening}
 use Rattle.bench_item.specs.Lines.{LineStep, sent_of, state_of}
 use Rattle.bench_line.specs.Line.{LineView, Stands}
-use Rattle.bench_line.specs.Lines.{Past, StandFor, StandFrom, line_at, sent_on, state_on}
+use Rattle.bench_line.specs.Lines.{Past, AreLinesAfter, StandFrom, line_at, sent_on, state_on}
 use Rattle.bench_line.specs.Talk.{Meaning, posts_of, rules_of}
 use Rattle.bench_spec.specs.Lines as lines
 use Rattle.bench_spec.specs.Lines.{line_step, line_steps, opened_in, opening_of, since_opening}
@@ -21,7 +21,7 @@ length-stands m first [] (past ∷ pasts) s = elim s [ ]
 length-stands m first (l ∷ ls) [] s = elim s [ ]
 length-stands m first (l ∷ ls) (past ∷ pasts) s = omega (arith, length-stands m (first + 1) ls pasts s.1)
 
-pub length_lines : (m : Meaning) (ls : List LineView) (log : List Entry) → StandFor m ls (pasts_of log)
+pub length_lines : (m : Meaning) (ls : List LineView) (log : List Entry) → AreLinesAfter m ls (pasts_of log)
     → length ls ≡ length (lines.openings log)
 length_lines m ls log s =
     length-stands m 1 ls (pasts_of log) s.each ∙ length-pasts_of log
@@ -44,7 +44,7 @@ get-pasts_by happened first zero line (o ∷ os) number = ap (λ n. Some (past_o
 get-pasts_by happened first (suc place) line (o ∷ os) number =
     get-pasts_by happened (first + 1) place line os (omega (arith, number))
 
-pub stands_at : (m : Meaning) (ls : List LineView) (log : List Entry) (line : ℕ) → StandFor m ls (pasts_of log)
+pub stands_at : (m : Meaning) (ls : List LineView) (log : List Entry) (line : ℕ) → AreLinesAfter m ls (pasts_of log)
     → StandsAt m line (line_at ls line) (past_in log line)
 stands_at m ls log line s = by (line == 0) refl
   where
@@ -71,7 +71,7 @@ state_by m line steps None (Some o) s = elim s [ ]
 state_by m line steps (Some l) None s = elim s [ ]
 state_by m line steps (Some l) (Some o) s = ap Some s.state
 
-pub state_on-stands : (m : Meaning) (ls : List LineView) (log : List Entry) (line : ℕ) → StandFor m ls (pasts_of log)
+pub state_on-stands : (m : Meaning) (ls : List LineView) (log : List Entry) (line : ℕ) → AreLinesAfter m ls (pasts_of log)
     → state_on ls line ≡ line_state_by m log line
 state_on-stands m ls log line s =
     state_by m line (line_steps log line) (line_at ls line) (opening_of log line) (stands_at m ls log line s)
@@ -85,7 +85,7 @@ sent_by m line steps None (Some o) s = elim s [ ]
 sent_by m line steps (Some l) None s = elim s [ ]
 sent_by m line steps (Some l) (Some o) s = s.sent
 
-pub sent_on-stands : (m : Meaning) (ls : List LineView) (log : List Entry) (line : ℕ) → StandFor m ls (pasts_of log)
+pub sent_on-stands : (m : Meaning) (ls : List LineView) (log : List Entry) (line : ℕ) → AreLinesAfter m ls (pasts_of log)
     → sent_on ls line ≡ line_sent_by m log line
 sent_on-stands m ls log line s =
     sent_by m line (line_steps log line) (line_at ls line) (opening_of log line) (stands_at m ls log line s)
@@ -99,7 +99,7 @@ put_out_by m line steps None (Some o) s = elim s [ ]
 put_out_by m line steps (Some l) None s = elim s [ ]
 put_out_by m line steps (Some l) (Some o) s = s.outbox
 
-pub outbox_on-stands : (m : Meaning) (ls : List LineView) (log : List Entry) (line : ℕ) → StandFor m ls (pasts_of log)
+pub outbox_on-stands : (m : Meaning) (ls : List LineView) (log : List Entry) (line : ℕ) → AreLinesAfter m ls (pasts_of log)
     → outbox_on ls line ≡ line_posts_by m log line
 outbox_on-stands m ls log line s =
     put_out_by m line (line_steps log line) (line_at ls line) (opening_of log line) (stands_at m ls log line s)

@@ -13,7 +13,7 @@ use Rattle.bench_item.specs.declared.step.Step.{Step}
 use Rattle.bench_item.specs.declared.step.Step.TheVariants.{Joined, Dialled, Came, Lost, Told, Fired}
 use Rattle.bench_item.specs.Lines.{LineStep, Acknowledged, Gone, Received}
 use Rattle.bench_line.specs.Line.{LineView}
-use Rattle.bench_line.specs.Lines.{Past, StandFor, opened, with_step}
+use Rattle.bench_line.specs.Lines.{Past, AreLinesAfter, opened, with_step}
 use Rattle.bench_queue.specs.Outbox.{OutboxView, put_out}
 use Rattle.bench_shard.specs.View.{ShardView}
 use Rattle.bench_spec.specs.Items.{InOrder, dropped, told_item}
@@ -71,10 +71,10 @@ tied-lines settings log step s ls cs tied bare none keeps lines =
 -- one step of a line, of which as many are lifted as before
 one_step : (settings : Settings) (log : List Entry) (e : Entry) (line : ℕ) (step : LineStep) (s : Stored) (ls : List LineView) → IsTied settings log s
     → IsBare settings e → pasts_of (log ++ e ∷ []) ≡ with_step line step (pasts_of log)
-    → ((pasts : List Past) → StandFor (meaning_of settings) s.lines pasts → StandFor (meaning_of settings) ls (with_step line step pasts))
+    → ((pasts : List Past) → AreLinesAfter (meaning_of settings) s.lines pasts → AreLinesAfter (meaning_of settings) ls (with_step line step pasts))
     → map (λ l. l.lifted) ls ≡ map (λ l. l.lifted) s.lines → AreLinesTied settings (log ++ e ∷ []) ls s.carried
 one_step settings log e line step s ls tied bare pasts stands same = record {
-  stand = subst (StandFor (meaning_of settings) ls) (sym pasts) (stands (pasts_of log) tied.lines);
+  stand = subst (AreLinesAfter (meaning_of settings) ls) (sym pasts) (stands (pasts_of log) tied.lines);
   lifted_of = lifted_of-same log e s.lines ls bare.line_lift same tied.lifted_of;
   carried_count = tied.carried_count ∙ sym (same_count ls s.lines same);
   carried_of = carried_of-same log e s.carried bare.line_drop tied.carried_of;
@@ -170,7 +170,7 @@ bare-fired settings machine generation item = record {
 
 -- A dial is acknowledged,
 pub tied-dialled : (settings : Settings) (log : List Entry) (line : ℕ) (s : Stored) (ls : List LineView) → IsTied settings log s
-    → ((pasts : List Past) → StandFor (meaning_of settings) s.lines pasts → StandFor (meaning_of settings) ls (with_step line Acknowledged pasts))
+    → ((pasts : List Past) → AreLinesAfter (meaning_of settings) s.lines pasts → AreLinesAfter (meaning_of settings) ls (with_step line Acknowledged pasts))
     → map (λ l. l.lifted) ls ≡ map (λ l. l.lifted) s.lines
     → IsTied settings (log ++ entry_of (Dialled line) None None ∷ []) (record s { lines = ls })
 tied-dialled settings log line s ls tied stands same =
@@ -179,7 +179,7 @@ tied-dialled settings log line s ls tied stands same =
 
 -- octets come,
 pub tied-came : (settings : Settings) (log : List Entry) (line : ℕ) (piece : List ℕ) (s : Stored) (ls : List LineView) → IsTied settings log s
-    → ((pasts : List Past) → StandFor (meaning_of settings) s.lines pasts → StandFor (meaning_of settings) ls (with_step line (Received piece) pasts))
+    → ((pasts : List Past) → AreLinesAfter (meaning_of settings) s.lines pasts → AreLinesAfter (meaning_of settings) ls (with_step line (Received piece) pasts))
     → map (λ l. l.lifted) ls ≡ map (λ l. l.lifted) s.lines
     → IsTied settings (log ++ entry_of (Came line piece) None None ∷ []) (record s { lines = ls })
 tied-came settings log line piece s ls tied stands same =
@@ -188,7 +188,7 @@ tied-came settings log line piece s ls tied stands same =
 
 -- a line is lost,
 pub tied-lost : (settings : Settings) (log : List Entry) (line : ℕ) (s : Stored) (ls : List LineView) → IsTied settings log s
-    → ((pasts : List Past) → StandFor (meaning_of settings) s.lines pasts → StandFor (meaning_of settings) ls (with_step line Gone pasts))
+    → ((pasts : List Past) → AreLinesAfter (meaning_of settings) s.lines pasts → AreLinesAfter (meaning_of settings) ls (with_step line Gone pasts))
     → map (λ l. l.lifted) ls ≡ map (λ l. l.lifted) s.lines
     → IsTied settings (log ++ entry_of (Lost line) None None ∷ []) (record s { lines = ls })
 tied-lost settings log line s ls tied stands same =
@@ -197,12 +197,12 @@ tied-lost settings log line s ls tied stands same =
 
 -- and a peer connects: of the new line nothing is lifted or dropped.
 pub tied-joined : (settings : Settings) (log : List Entry) (s : Stored) (ls : List LineView) → IsTied settings log s → InOrder settings log
-    → ((pasts : List Past) → StandFor (meaning_of settings) s.lines pasts → StandFor (meaning_of settings) ls (opened openings.Accepted pasts))
+    → ((pasts : List Past) → AreLinesAfter (meaning_of settings) s.lines pasts → AreLinesAfter (meaning_of settings) ls (opened openings.Accepted pasts))
     → map (λ l. l.lifted) ls ≡ map (λ l. l.lifted) s.lines ++ 0 ∷ []
     → IsTied settings (log ++ entry_of Joined None None ∷ []) (record s { lines = ls; carried = s.carried ++ 0 ∷ [] })
 tied-joined settings log s ls tied order stands more =
     tied-lines settings log Joined s ls (s.carried ++ 0 ∷ []) tied (bare-joined settings) no_gift-joined (keeps-joined None None) (record {
-      stand = subst (StandFor (meaning_of settings) ls) (sym (pasts_of-joined log None None)) (stands (pasts_of log) tied.lines);
+      stand = subst (AreLinesAfter (meaning_of settings) ls) (sym (pasts_of-joined log None None)) (stands (pasts_of log) tied.lines);
       lifted_of = lifted_of-opened log e s.lines ls (λ line. refl) more first tied.lifted_of;
       carried_count = omega (arith, length-append s.carried (0 ∷ []), tied.carried_count, length-opened s.lines ls more);
       carried_of =

@@ -14,7 +14,7 @@ use Rattle.bench_item.specs.declared.step.Step.{Step}
 use Rattle.bench_item.specs.declared.step.Step.TheVariants.{Joined, Dialled, Came, Lost, Told, Fired, Lift, Drop, Work}
 use Rattle.bench_item.specs.declared.step.StepFault.{StepFault}
 use Rattle.bench_line.specs.Line.{LineView}
-use Rattle.bench_line.specs.Lines.{StandFor, next_on, sent_on, state_on}
+use Rattle.bench_line.specs.Lines.{AreLinesAfter, next_on, sent_on, state_on}
 use Rattle.bench_spec.specs.Items.{IsFront, lifted, posts}
 use Rattle.bench_spec.specs.Lines.{line_state}
 use Rattle.bench_spec.specs.Refusal.{is_dialling, is_open, reasons, refusal}
@@ -30,22 +30,22 @@ use Rattle.bench_views.proofs.LineStands.{outbox_on-stands, sent_on-stands, stat
 
 -- where a line stands
 pub state_on-log : (settings : Settings) (ls : List LineView) (log : List Entry) (line : ℕ)
-    → StandFor (meaning_of settings) ls (pasts_of log) → state_on ls line ≡ line_state settings log line
+    → AreLinesAfter (meaning_of settings) ls (pasts_of log) → state_on ls line ≡ line_state settings log line
 state_on-log settings ls log line s = state_on-stands (meaning_of settings) ls log line s
 
 -- what it sent
 pub sent_on-log : (settings : Settings) (ls : List LineView) (log : List Entry) (line : ℕ)
-    → StandFor (meaning_of settings) ls (pasts_of log) → sent_on ls line ≡ sent settings log line
+    → AreLinesAfter (meaning_of settings) ls (pasts_of log) → sent_on ls line ≡ sent settings log line
 sent_on-log settings ls log line s = sent_on-stands (meaning_of settings) ls log line s
 
 -- what it put out,
 pub outbox_on-log : (settings : Settings) (ls : List LineView) (log : List Entry) (line : ℕ)
-    → StandFor (meaning_of settings) ls (pasts_of log) → outbox_on ls line ≡ posts settings log (Line line)
+    → AreLinesAfter (meaning_of settings) ls (pasts_of log) → outbox_on ls line ≡ posts settings log (Line line)
 outbox_on-log settings ls log line s = outbox_on-stands (meaning_of settings) ls log line s
 
 -- and which of that is next
 pub next_on-log : (settings : Settings) (ls : List LineView) (log : List Entry) (line : ℕ)
-    → StandFor (meaning_of settings) ls (pasts_of log) → IsLiftedSo ls log
+    → AreLinesAfter (meaning_of settings) ls (pasts_of log) → IsLiftedSo ls log
     → next_on ls line ≡ slice_get (posts settings log (Line line)) (length (lifted log (Line line)))
 next_on-log settings ls log line s so = next_on-lifted (meaning_of settings) ls log line s so
 
@@ -113,7 +113,7 @@ may_come-taken settings log paused (Work shard) item handled could =
 
 -- So what each line put out stays, and goes on behind, with one more entry whose step is not refused.
 pub posts-go_on : (settings : Settings) (ls : List LineView) (log : List Entry) (paused : List Bool) (e : Entry)
-    → StandFor (meaning_of settings) ls (pasts_of log) → refusal settings log paused e.step ≡ None
+    → AreLinesAfter (meaning_of settings) ls (pasts_of log) → refusal settings log paused e.step ≡ None
     → (line : ℕ) → IsFront (posts settings log (Line line)) (posts settings (log ++ e ∷ []) (Line line))
 posts-go_on settings ls log paused e s could =
     line_posts-go_on (meaning_of settings) ls log e s (may_come-taken settings log paused e.step e.item e.handled could)

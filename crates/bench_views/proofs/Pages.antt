@@ -21,8 +21,8 @@ use Rattle.charge_session.specs.Deeds.{op_by, op_of}
 use Rattle.charge_session.specs.declared.quote.Quotes.{Quotes}
 use Rattle.charge_session.specs.declared.quote.Quotes.TheVariants as quotes
 use Rattle.charge_session.specs.Quotes.{quoted}
-use Rattle.charge_session.specs.declared.want.Asked.{Asked}
-use Rattle.charge_session.specs.declared.want.Asked.TheVariants.{One, Several}
+use Rattle.charge_session.specs.declared.want.ServiceUnits.{ServiceUnits}
+use Rattle.charge_session.specs.declared.want.ServiceUnits.TheVariants.{One, Several}
 use Rattle.charge_session.specs.declared.want.Want.{Want}
 use Rattle.tab_law.specs.declared.scene.Deed.{Deed}
 use Rattle.tab_step.specs.declared.machine.Event.{Event}
@@ -103,7 +103,7 @@ quote_of-page settings log account session group used want =
     used want
 
 -- the quotes of what is asked,
-quotes_by : (b c : Book) (want : Want) (asked : Asked) → SayTheSame want.account b c
+quotes_by : (b c : Book) (want : Want) (asked : ServiceUnits) → SayTheSame want.account b c
     → quotes_for b (record { account = want.account; session = want.session; asked = asked })
     ≡ quotes_for c (record { account = want.account; session = want.session; asked = asked })
 quotes_by b c want (One slot) same = ap quotes.One (same.quote want.session slot.group slot.used slot.want)

@@ -33,7 +33,7 @@ use Rattle.bench_views.specs.Pages.{IsAsked, IsNotAsked, page_at}
 use Rattle.bench_views.specs.Shards.{outbox_at}
 use Rattle.bench_views.specs.Stored.{EachAt, IsShardAt, IsTied, Stored, meaning_of, source_at}
 use Rattle.bench_views.specs.Worked.{IsAskedBy, booked_on, worked_by}
-use Rattle.bench_line.specs.Lines.{StandFor}
+use Rattle.bench_line.specs.Lines.{AreLinesAfter}
 
 none-same : {X : Type 0} (x : X) → None ≡ Some x → ⊥
 none-same x e = cc
@@ -109,7 +109,7 @@ tied-worked settings log s k p v book item handled own at booked next becomes as
   shards = work-shards settings log s.shards k v item handled own tied.shards at next posts_are;
   outbox_count = tied.outbox_count;
   outboxes = λ place o is. tied.outboxes place o is ∙ work-outbox settings log k item handled place;
-  lines = subst (StandFor (meaning_of settings) s.lines) (sym (pasts_of-worked log k (Some (ToMachine item)) (Some handled))) tied.lines;
+  lines = subst (AreLinesAfter (meaning_of settings) s.lines) (sym (pasts_of-worked log k (Some (ToMachine item)) (Some handled))) tied.lines;
   lifted_of = λ n l is. tied.lifted_of n l is ∙ ap length (sym (lifted-after log (Line (suc n)) k item handled));
   carried_count = tied.carried_count;
   carried_of = λ n c is. tied.carried_of n c is ∙ ap length (sym (dropped-after log (Line (suc n)) k item handled));

@@ -20,7 +20,8 @@ abbrev pub drops : Source → Entry → List Item
 drops source e = if is_drop_from source e.step then option_to_list e.item else []
 
 abbrev pub arrives : Node → ℕ → Entry → List MachineItem
-arrives node shard e = if is_drop e.step then filter (is_for node shard) (flat_map machine_item (option_to_list e.item)) else []
+arrives node shard e =
+    if is_drop e.step then filter (is_for node shard) (flat_map machine_item (option_to_list e.item)) else []
 
 abbrev pub works : ℕ → Entry → List MachineItem
 works shard e = if is_work shard e.step then flat_map machine_item (option_to_list e.item) else []
@@ -45,4 +46,5 @@ carried_in node shard e v = record { items = v.items ++ arrives node shard e; wo
 
 -- a shard behind an entry
 abbrev pub carried_shard : Node → Entry → ShardView → ShardView
-carried_shard node e v = record v { inbox = carried_in node v.number e v.inbox; outbox = carried_out (Shard v.number) e v.outbox }
+carried_shard node e v =
+    record v { inbox = carried_in node v.number e v.inbox; outbox = carried_out (Shard v.number) e v.outbox }

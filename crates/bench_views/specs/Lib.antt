@@ -1,3 +1,4 @@
+-- The definitions that the contracts of bench_views speak of.
 pub mod Shards
 pub mod Carried
 pub mod LinePasts

@@ -42,7 +42,8 @@ StandsAt m line l past = ⊥
 abbrev pub outbox_on : List LineView → ℕ → List Item
 outbox_on lines line = option_map_or (λ l. l.outbox) (line_at lines line) []
 
--- where a line stands, if there is one of that number, what it has put out and what it has sent, by what messages mean to it
+-- where a line stands, if there is one of that number, what it has put out and what it has sent,
+-- by what messages mean to it
 abbrev pub line_state_by : Meaning → List Entry → ℕ → Option LineState
 line_state_by m log line =
     option_map (λ opening. state_of (rules_of m line) opening (line_steps log line)) (opening_of log line)
@@ -53,7 +54,8 @@ line_posts_by m log line =
 
 abbrev pub line_sent_by : Meaning → List Entry → ℕ → List ℕ
 line_sent_by m log line =
-    option_map_or (λ opening. sent_of (rules_of m line) m.octets_of opening (line_steps log line)) (opening_of log line) []
+    option_map_or (λ opening. sent_of (rules_of m line) m.octets_of opening (line_steps log line))
+    (opening_of log line) []
 
 -- to each line of the log the steps may come that one more entry is to it
 abbrev pub EachMayCome : Meaning → List Entry → Entry → Type 0

@@ -23,7 +23,8 @@ dropped_on carried line = if line == 0 then None else slice_get carried (line - 
 -- the item in the hand, if one is
 abbrev pub hand_of : Source → Stored → Option Item
 hand_of (Line line) s =
-    option_and_then (λ count. option_and_then (λ l. slice_get (take l.lifted l.outbox) count) (line_at s.lines line)) (dropped_on s.carried line)
+    option_and_then (λ count. option_and_then (λ l. slice_get (take l.lifted l.outbox) count) (line_at s.lines line))
+    (dropped_on s.carried line)
 hand_of (Shard shard) s = option_and_then (λ v. hand_out v.outbox) (slice_get s.shards shard)
 hand_of (Desk desk) s = option_and_then hand_out (slice_get s.outboxes (suc desk))
 hand_of Clock s = option_and_then hand_out (slice_get s.outboxes 0)

@@ -6,7 +6,7 @@ use Rattle.bench_item.specs.declared.entry.Entry.{Entry}
 use Rattle.bench_item.specs.declared.source.Source.{Source}
 use Rattle.bench_item.specs.declared.source.Source.TheVariants.{Clock, Desk, Line}
 use Rattle.bench_line.specs.Line.{LineView}
-use Rattle.bench_line.specs.Lines.{StandFor}
+use Rattle.bench_line.specs.Lines.{AreLinesAfter}
 use Rattle.bench_line.specs.Talk.{Meaning, meaning}
 use Rattle.bench_queue.specs.Outbox.{OutboxView}
 use Rattle.bench_shard.specs.Stands.{Stands}
@@ -26,8 +26,8 @@ use Rattle.bench_views.specs.Timers.{IsArmedSo}
 abbrev pub meaning_of : Settings → Meaning
 meaning_of settings = meaning heard turned (λ who item. message_octets who.identity item) (listening settings)
 
--- the parts of a bench: its shards; what the clock put out, and each desk; its lines, and of each how many of its items were dropped;
--- the pages of its account book; the timers that are armed
+-- the parts of a bench: its shards; what the clock put out, and each desk;
+-- its lines, and of each how many of its items were dropped; the pages of its account book; the timers that are armed
 pub record Stored : Type 0 where
   pub shards : List ShardView
   pub outboxes : List OutboxView
@@ -55,7 +55,7 @@ pub record IsTied (settings : Settings) (log : List Entry) (s : Stored) : Type 0
   pub shards : EachAt (IsShardAt settings log) s.shards
   pub outbox_count : length s.outboxes ≡ settings.desks + 1
   pub outboxes : EachAt (λ p v. v ≡ outbox_at settings log (source_at p)) s.outboxes
-  pub lines : StandFor (meaning_of settings) s.lines (pasts_of log)
+  pub lines : AreLinesAfter (meaning_of settings) s.lines (pasts_of log)
   pub lifted_of : EachAt (λ n l. l.lifted ≡ length (lifted log (Line (suc n)))) s.lines
   pub carried_count : length s.carried ≡ length s.lines
   pub carried_of : EachAt (λ n c. c ≡ length (dropped log (Line (suc n)))) s.carried

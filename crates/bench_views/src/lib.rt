@@ -1,4 +1,5 @@
-//! What the parts of a running bench are by its log, and how one more entry changes them: definitions, lemmas, and a law.
+//! What the parts of a running bench are by its log, and how one more entry changes them:
+//! definitions, lemmas, and a law.
 #![tactic(auto)]
 
 mod law;

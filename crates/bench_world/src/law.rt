@@ -13,9 +13,9 @@ use bench_core::ReplayError;
 use bench_item::{Entry, Step, StepFault};
 
 impl World {
-    /// For every machine: the events of its moves are its own, those of the items that came to its shard as far as they were handled, for it
-    /// and neither busy nor stale, each with what the account book says to it, in order; and its moves are a run of the table of its role,
-    /// from its start (RFC 6733 section 5.6, RFC 8506 section 7).
+    /// For every machine: the events of its moves are its own, those of the items that came to its shard as far as they
+    /// were handled, for it and neither busy nor stale, each with what the account book says to it, in order; and its
+    /// moves are a run of the table of its role, from its start (RFC 6733 section 5.6, RFC 8506 section 7).
     pub fn each_is_own_run(&self)
         ensures { (key : MachineKey) → IsOwnRun self.now.core.settings self.now.core.log key }
     {
@@ -24,7 +24,8 @@ impl World {
 
     /// The log is legal, and so was each front of it: at each place it was what steps may make.
     pub fn is_legal_at_each_place(&self)
-        ensures { (front rest : List LogEntry) → front ++ rest ≡ self.now.core.log → IsLegal self.now.core.settings front }
+        ensures { (front rest : List LogEntry) → front ++ rest ≡ self.now.core.log
+            → IsLegal self.now.core.settings front }
     {
         self.core.known()
     }

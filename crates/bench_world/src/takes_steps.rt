@@ -1,5 +1,6 @@
 //! What takes steps: a world, for a library or a program that is generic over it.
-ghost use Rattle.std.specs.Prelude.{◌≡◌, [], IfErr, IsErrOf, IsFalse, IsTrue, OnOk, OnErr, false, nat_lt, slice_set, true};
+ghost use Rattle.std.specs.Prelude.{◌≡◌, [], IfErr, IsErrOf, IsFalse, IsTrue, OnOk, OnErr, false};
+ghost use Rattle.std.specs.Prelude.{nat_lt, slice_set, true};
 ghost use Rattle.bench_spec.specs.Legal.{MayFollow};
 ghost use Rattle.bench_spec.specs.Taken.{GoesBackTo, Replays, Run, Runs, Takes, fault_of, with_paused};
 
@@ -7,9 +8,9 @@ use crate::world::World;
 use bench_core::{Core, ReplayError};
 use bench_item::{Entry, Step, StepFault};
 
-/// What takes steps as a `World` does. What drives a bench from another crate is written over this trait, not over a type that holds
-/// closures: the toolchain trusts no contract where such a type goes through a function of another crate under a `&mut`. `ran` is what the
-/// bench was opened with, its log, and which shards are paused.
+/// What takes steps as a `World` does. What drives a bench from another crate is written over this trait, not over a
+/// type that holds closures: the toolchain trusts no contract where such a type goes through a function of another
+/// crate under a `&mut`. `ran` is what the bench was opened with, its log, and which shards are paused.
 pub trait TakesSteps {
     ghost ran: { Self → Run };
 
@@ -30,7 +31,8 @@ pub trait TakesSteps {
     /// Adds an entry as it is, where it may follow, as `World::replay`.
     fn replay(&mut self, entry: Entry) -> Result<(), ReplayError>
         ensures ok { OnOk result (Replays (ran self.old) (ran self.new) entry) }
-        ensures illegal { IsErrOf result ReplayError.Illegal → MayFollow (ran self.old).settings (ran self.old).log entry → ⊥ }
+        ensures illegal { IsErrOf result ReplayError.Illegal
+            → MayFollow (ran self.old).settings (ran self.old).log entry → ⊥ }
         ensures err { OnErr result (ran self.new ≡ ran self.old) };
 
     /// Takes the last step back, where one was taken, as `World::back`. Says whether.
@@ -41,13 +43,15 @@ pub trait TakesSteps {
     /// A shard stops, as by `World::pause`. Says whether there is one of that number.
     fn pause(&mut self, shard: u32) -> bool
         ensures there { result ≡ nat_lt shard (ran self.old).settings.node.shards }
-        ensures paused { IsTrue result → ran self.new ≡ with_paused (ran self.old) (slice_set (ran self.old).paused shard true) }
+        ensures paused { IsTrue result
+            → ran self.new ≡ with_paused (ran self.old) (slice_set (ran self.old).paused shard true) }
         ensures none { IsFalse result → ran self.new ≡ ran self.old };
 
     /// A shard goes on, as by `World::resume`. Says whether there is one of that number.
     fn resume(&mut self, shard: u32) -> bool
         ensures there { result ≡ nat_lt shard (ran self.old).settings.node.shards }
-        ensures resumed { IsTrue result → ran self.new ≡ with_paused (ran self.old) (slice_set (ran self.old).paused shard false) }
+        ensures resumed { IsTrue result
+            → ran self.new ≡ with_paused (ran self.old) (slice_set (ran self.old).paused shard false) }
         ensures none { IsFalse result → ran self.new ≡ ran self.old };
 }
 

@@ -1,5 +1,6 @@
 //! A world: all of a bench in one value.
-ghost use Rattle.std.specs.Prelude.{◌≡◌, [], None, IfOk, IfErr, IsErrOf, IsFalse, IsTrue, OnOk, OnErr, false, map, nat_lt, replicate, slice_set, true};
+ghost use Rattle.std.specs.Prelude.{◌≡◌, [], None, IfOk, IfErr, IsErrOf, IsFalse, IsTrue, OnOk, OnErr, false, map};
+ghost use Rattle.std.specs.Prelude.{nat_lt, replicate, slice_set, true};
 ghost use Rattle.bench_open.specs.Given.{config_of};
 ghost use Rattle.bench_open.specs.Faults.{IsOpeningError};
 ghost use Rattle.bench_spec.specs.Legal.{MayFollow};
@@ -14,8 +15,8 @@ use std::alloc::Global;
 use tab_call::Registry;
 use tab_step::Stepped;
 
-/// A bench: peers, sessions, connections, account book, timers and log in one value. A contract sees `core`: what it was opened with, its
-/// log, and which shards are paused; all else is what the log says (`docs/WHOLE.md`).
+/// A bench: peers, sessions, connections, account book, timers and log in one value. A contract sees `core`:
+/// what it was opened with, its log, and which shards are paused; all else is what the log says (`docs/WHOLE.md`).
 ///
 /// In: `step`, `run`, `replay`, `back`, `pause`, `resume`. Looks: those of `core`. Laws: `law.rt`.
 pub struct World {
@@ -38,9 +39,9 @@ impl Drop for World {
 }
 
 impl World {
-    /// A bench that is opened with this, and with a registry for each shard, all of the same laws. Why it isn't: the first that holds of
-    /// too many or too few parts, a name that is none or twice, laws that differ or lack a kind, a name in a table that the laws lack, an
-    /// account that can't be opened; and memory.
+    /// A bench that is opened with this, and with a registry for each shard, all of the same laws. Why it isn't: the
+    /// first that holds of too many or too few parts, a name that is none or twice, laws that differ or lack a kind, a
+    /// name in a table that the laws lack, an account that can't be opened; and memory.
     pub fn new(
         alloc: Global,
         config: Config,
@@ -64,7 +65,8 @@ impl World {
         }
     }
 
-    /// Takes a step, or refuses it: for the first of its reasons, and for memory only where there is none. A refused step changes nothing.
+    /// Takes a step, or refuses it: for the first of its reasons, and for memory only where there is none.
+    /// A refused step changes nothing.
     pub fn step(&mut self, step: Step) -> Result<(), StepFault>
         ensures ok { OnOk result (Takes self.old.core self.new.core step) }
         ensures fault { IfErr result (λ f. f ≡ fault_of self.old.core step) }
@@ -73,7 +75,8 @@ impl World {
         self.core.step(&self.registries, step, &mut self.room)
     }
 
-    /// Takes steps in their order, up to the first that is refused: answers its place in the list, from 0, and why. Those before it stay taken.
+    /// Takes steps in their order, up to the first that is refused: answers its place in the list, from 0, and why.
+    /// Those before it stay taken.
     pub fn run(&mut self, steps: Vec<Step>) -> Result<(), (usize, StepFault)>
         ensures { Runs self.old.core self.new.core steps.items result }
     {
@@ -88,17 +91,20 @@ impl World {
         Ok(())
     }
 
-    /// Adds an entry as it is, where it may follow those of the log, whatever is paused: for a log that is run again. No callback is asked;
-    /// a move is checked by the laws. Want of memory may be told before it is known whether the entry may follow.
+    /// Adds an entry as it is, where it may follow those of the log, whatever is paused: for a log that is run
+    /// again. No callback is asked; a move is checked by the laws. Want of memory may be told before it is known
+    /// whether the entry may follow.
     pub fn replay(&mut self, entry: Entry) -> Result<(), ReplayError>
         ensures ok { OnOk result (Replays self.old.core self.new.core entry) }
-        ensures illegal { IsErrOf result ReplayError.Illegal → MayFollow self.old.core.settings self.old.core.log entry → ⊥ }
+        ensures illegal { IsErrOf result ReplayError.Illegal
+            → MayFollow self.old.core.settings self.old.core.log entry → ⊥ }
         ensures err { OnErr result (self.new.core ≡ self.old.core) }
     {
         self.core.replay(entry, &mut self.room)
     }
 
-    /// Takes the last step back, where one was taken; says whether. Which shards are paused stays. Asks no callback and takes no memory.
+    /// Takes the last step back, where one was taken; says whether. Which shards are paused stays.
+    /// Asks no callback and takes no memory.
     pub fn back(&mut self) -> bool
         ensures ok { IsTrue result → GoesBackTo self.old.core self.new.core }
         ensures none { IsFalse result → (self.old.core.log ≡ []) × (self.new.core ≡ self.old.core) }
@@ -109,7 +115,8 @@ impl World {
     /// A shard stops: it handles nothing until it goes on. Says whether there is one of that number. Takes no memory.
     pub fn pause(&mut self, shard: u32) -> bool
         ensures there { result ≡ nat_lt shard self.old.core.settings.node.shards }
-        ensures paused { IsTrue result → self.new.core ≡ with_paused self.old.core (slice_set self.old.core.paused shard true) }
+        ensures paused { IsTrue result
+            → self.new.core ≡ with_paused self.old.core (slice_set self.old.core.paused shard true) }
         ensures none { IsFalse result → self.new.core ≡ self.old.core }
     {
         self.core.pause(shard)
@@ -118,7 +125,8 @@ impl World {
     /// A shard goes on. Says whether there is one of that number. Takes no memory.
     pub fn resume(&mut self, shard: u32) -> bool
         ensures there { result ≡ nat_lt shard self.old.core.settings.node.shards }
-        ensures resumed { IsTrue result → self.new.core ≡ with_paused self.old.core (slice_set self.old.core.paused shard false) }
+        ensures resumed { IsTrue result
+            → self.new.core ≡ with_paused self.old.core (slice_set self.old.core.paused shard false) }
         ensures none { IsFalse result → self.new.core ≡ self.old.core }
     {
         self.core.resume(shard)

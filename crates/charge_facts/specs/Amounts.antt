@@ -1,23 +1,19 @@
 -- Amounts of units in groups of AVPs (RFC 8506 sections 8.17 to 8.22).
-use Rattle.std.specs.Prelude.{ℕ, ◌-◌, ◌^◌, ◌==◌, List, length, map, filter, find, sum, min, Option, None, Some, if◌then◌else◌, unwrap_or, is_some}
+use Rattle.std.specs.Prelude.{ℕ, ◌-◌, ◌^◌, List, map, filter, find, sum, min, Option, None, Some, if◌then◌else◌}
+use Rattle.std.specs.Prelude.{unwrap_or, is_some}
 use Rattle.std.specs.Option.{option_map, option_and_then, option_map_or}
-use Rattle.byteorder.specs.Endian.{big_number}
 use Rattle.base_codes.specs.declared.avp_code.TheConstants.{CC_TIME, CC_TOTAL_OCTETS, CC_SERVICE_SPECIFIC_UNITS}
 use Rattle.dia_avp.specs.declared.avp.Avp.{Avp}
 use Rattle.dia_avp.specs.Reading.{avps_in}
-use Rattle.dia_tree.specs.Faults.{is_coded}
+use Rattle.dia_avp.specs.Look.{is_coded, number_in}
 use Rattle.charge_facts.specs.declared.amount.Amount.{Amount}
 
 -- so many of a unit
 abbrev pub amount : ℕ → ℕ → Amount
 amount unit units = record { unit = unit; units = units }
 
--- the number that data of so many octets is, in network byte order; data of another size is none
-abbrev pub number_in : ℕ → List ℕ → Option ℕ
-number_in size octets = if length octets == size then Some (big_number size octets) else None
-
--- the amount that an AVP tells: CC-Time is seconds, unit 1, CC-Total-Octets octets, unit 2, CC-Service-Specific-Units unit 3;
--- any other AVP, and one of another size, tells none
+-- the amount that an AVP tells: CC-Time is seconds, unit 1, CC-Total-Octets octets, unit 2, CC-Service-Specific-Units
+-- unit 3; any other AVP, and one of another size, tells none
 abbrev pub amount_of : Avp → Option Amount
 amount_of a =
     if is_coded CC_TIME a then option_map (amount 1) (number_in 4 a.octets)
@@ -39,10 +35,6 @@ groups_of code avps = map group_in (filter (is_coded code) avps)
 
 abbrev pub first_group : ℕ → List Avp → Option (List Avp)
 first_group code avps = option_map group_in (find (is_coded code) avps)
-
--- the number of four octets that the first AVP of a code has
-abbrev pub first_number : ℕ → List Avp → Option ℕ
-first_number code avps = option_and_then (λ a. number_in 4 a.octets) (find (is_coded code) avps)
 
 -- what a group tells that may be absent: nothing where it is; where it tells no amount, this default
 abbrev pub told : Amount → Option (List Avp) → Amount

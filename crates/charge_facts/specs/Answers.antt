@@ -1,11 +1,13 @@
 -- The facts of the answers of credit control, a line each (RFC 8506 sections 3.2 and 8, RFC 6733 section 7.2).
-use Rattle.std.specs.Prelude.{ℕ, ◌+◌, ◌==◌, ◌&&◌, Bool, List, length, find, Option, None, Some, if◌then◌else◌, unwrap_or, is_some}
+use Rattle.std.specs.Prelude.{ℕ, ◌+◌, ◌==◌, ◌&&◌, Bool, List, length, find, Option, None, Some, if◌then◌else◌}
+use Rattle.std.specs.Prelude.{unwrap_or, is_some}
 use Rattle.std.specs.Option.{option_map, option_map_or}
-use Rattle.base_codes.specs.declared.avp_code.TheConstants.{RATING_GROUP, RESULT_CODE, GRANTED_SERVICE_UNIT, FINAL_UNIT_INDICATION}
+use Rattle.base_codes.specs.declared.avp_code.TheConstants.{RATING_GROUP, RESULT_CODE, GRANTED_SERVICE_UNIT}
+use Rattle.base_codes.specs.declared.avp_code.TheConstants.{FINAL_UNIT_INDICATION}
 use Rattle.base_codes.specs.declared.command_code.CommandCode.TheVariants.{CreditControl}
 use Rattle.base_codes.specs.CommandCodes.{number_of}
 use Rattle.dia_avp.specs.declared.avp.Avp.{Avp}
-use Rattle.dia_tree.specs.Faults.{is_coded}
+use Rattle.dia_avp.specs.Look.{is_coded, first_number}
 use Rattle.dia_command.specs.declared.command.Command.{Command}
 use Rattle.dia_command.specs.declared.command.Command.TheVariants.{Cca, ErrorAnswer}
 use Rattle.dia_command.specs.declared.command.CreditControlAnswer.{CreditControlAnswer as Answer}
@@ -13,7 +15,7 @@ use Rattle.dia_command.specs.declared.command.ErrorAnswer.{ErrorAnswer as Fault}
 use Rattle.dia_command.specs.Value.{type_number}
 use Rattle.charge_facts.specs.declared.facts.Slot.{Slot}
 use Rattle.charge_facts.specs.declared.facts.Facts.{Facts}
-use Rattle.charge_facts.specs.Amounts.{amount, told, first_group, first_number}
+use Rattle.charge_facts.specs.Amounts.{amount, told, first_group}
 use Rattle.charge_facts.specs.Requests.{group_number, no_slot, slot_at}
 use Rattle.charge_facts.specs.Places.{places_of}
 
@@ -83,9 +85,12 @@ facts_of_fault c = record {
   slot_4 = no_slot;
 }
 
--- the facts of the event that a command is for a client: a Credit-Control-Answer, or an answer that tells a fault of credit
--- control to a session; no other command is one
+-- the facts of the event that a command is for a client: a Credit-Control-Answer, or an answer that tells a fault of
+-- credit control to a session; no other command is one
 abbrev pub answer_places : Command → Option (List ℕ)
 answer_places (Cca c) = Some (places_of (facts_of_answer c))
-answer_places (ErrorAnswer c) = if (c.header.command == number_of CreditControl) && is_some c.session_id then Some (places_of (facts_of_fault c)) else None
+answer_places (ErrorAnswer c) =
+    if (c.header.command == number_of CreditControl) && is_some c.session_id
+    then Some (places_of (facts_of_fault c))
+    else None
 answer_places command = None

@@ -20,7 +20,14 @@ slot_places s =
 -- the places from one on as those of a slot
 abbrev pub with_slot : List ℕ → ℕ → Slot → List ℕ
 with_slot places first s =
-    slice_set (slice_set (slice_set (slice_set (slice_set (slice_set (slice_set places (first + GROUP) s.group) (first + USED) s.used) (first + WANT) s.want) (first + UNIT) s.unit) (first + RESULT_CODE) s.result) (first + GRANTED) s.granted) (first + FINAL) s.last
+    slice_set (slice_set (slice_set (slice_set (slice_set (slice_set (slice_set places
+    (first + GROUP) s.group)
+    (first + USED) s.used)
+    (first + WANT) s.want)
+    (first + UNIT) s.unit)
+    (first + RESULT_CODE) s.result)
+    (first + GRANTED) s.granted)
+    (first + FINAL) s.last
 
 -- of a message itself; peer and line are filled in by who posts the event
 abbrev pub message_places : Facts → List ℕ

@@ -3,6 +3,7 @@ use Rattle.std.specs.Prelude.{ℕ, ◌+◌, ◌==◌, List, length, map, Option,
 use Rattle.std.specs.Option.{option_map, option_map_or}
 use Rattle.base_codes.specs.declared.avp_code.TheConstants.{RATING_GROUP, REQUESTED_SERVICE_UNIT, USED_SERVICE_UNIT}
 use Rattle.dia_avp.specs.declared.avp.Avp.{Avp}
+use Rattle.dia_avp.specs.Look.{first_number}
 use Rattle.dia_command.specs.declared.command.CreditControlRequest.{CreditControlRequest as Request}
 use Rattle.dia_command.specs.declared.typed.TypedAvp.{TypedAvp}
 use Rattle.dia_command.specs.declared.value.RequestType.{RequestType}
@@ -12,7 +13,7 @@ use Rattle.charge_facts.specs.declared.amount.Amount.{Amount}
 use Rattle.charge_facts.specs.declared.facts.Units.{Units}
 use Rattle.charge_facts.specs.declared.facts.Slot.{Slot}
 use Rattle.charge_facts.specs.declared.facts.Facts.{Facts}
-use Rattle.charge_facts.specs.Amounts.{amount, told, total, groups_of, first_group, first_number}
+use Rattle.charge_facts.specs.Amounts.{amount, told, total, groups_of, first_group}
 use Rattle.charge_facts.specs.Accounts.{account_of}
 
 -- used units count in UPDATE and TERMINATION requests alone: before INITIAL and EVENT none were granted
@@ -54,7 +55,8 @@ slot_at slot_of services place = option_map_or (λ service. slot_of service.valu
 -- the units of a service that a request asks for and has used (Multiple-Services-Credit-Control, section 8.16)
 abbrev pub service_units : RequestType → ℕ → List Avp → Units
 service_units type default service =
-    units_by type (told (amount 2 default) (first_group REQUESTED_SERVICE_UNIT service)) (total (groups_of USED_SERVICE_UNIT service))
+    units_by type (told (amount 2 default) (first_group REQUESTED_SERVICE_UNIT service))
+    (total (groups_of USED_SERVICE_UNIT service))
 
 -- the slot of a service of a request
 abbrev pub request_slot : RequestType → ℕ → List Avp → Slot
@@ -72,7 +74,9 @@ request_slot type default service = record {
 abbrev pub request_units : Request → ℕ → Units
 request_units c default =
     if length c.multiple_services_credit_control == 0
-    then units_by c.cc_request_type.value (told (amount 2 default) (option_map (λ g. g.value) c.requested_service_unit)) (total (map (λ g. g.value) c.used_service_unit))
+    then units_by c.cc_request_type.value
+    (told (amount 2 default) (option_map (λ g. g.value) c.requested_service_unit))
+    (total (map (λ g. g.value) c.used_service_unit))
     else no_units
 
 -- the facts of a request

@@ -3,10 +3,9 @@
 ghost use Rattle.std.specs.Prelude.{◌≡◌};
 ghost use Rattle.charge_facts.specs.Accounts.{begins_with_0, account_number, is_e164, account_in, account_of};
 
-use crate::group::{first, first_number};
 use base_codes::avp_code;
 use base_text::number_of;
-use dia_avp::AvpList;
+use dia_avp::{AvpList, first_number_of, first_of};
 use dia_command::TypedAvp;
 
 /// As many digits as the number of an account has.
@@ -36,7 +35,7 @@ fn account_number(digits: &[u8]) -> u64
 fn is_e164(group: &AvpList) -> bool
     ensures { result ≡ is_e164 group.now }
 {
-    match first_number(group.as_slice(), avp_code::SUBSCRIPTION_ID_TYPE) {
+    match first_number_of(group.as_slice(), avp_code::SUBSCRIPTION_ID_TYPE) {
         Some(number) => number == E164,
         None => false,
     }
@@ -45,7 +44,7 @@ fn is_e164(group: &AvpList) -> bool
 fn account_in(group: &AvpList) -> u64
     ensures { result ≡ account_in group.now }
 {
-    match first(group.as_slice(), avp_code::SUBSCRIPTION_ID_DATA) {
+    match first_of(group.as_slice(), avp_code::SUBSCRIPTION_ID_DATA) {
         Some(data) => account_number(data.octets),
         None => 0,
     }

@@ -4,11 +4,11 @@ ghost use Rattle.std.specs.Prelude.{◌≡◌, map, Some, None};
 ghost use Rattle.std.specs.Option.{option_map};
 ghost use Rattle.dia_avp.specs.View.{seen};
 ghost use Rattle.dia_avp.specs.Reading.{avps_in};
-ghost use Rattle.charge_facts.specs.Amounts.{amount, amount_of, first_amount, units_of, told, total, groups_of, first_group};
+ghost use Rattle.charge_facts.specs.Amounts.{amount, amount_of, first_amount, units_of, told, total, groups_of};
+ghost use Rattle.charge_facts.specs.Amounts.{first_group};
 
-use crate::group::{first, is_coded, number_32, number_64};
 use base_codes::avp_code;
-use dia_avp::{Avp, AvpList, AvpView, first_avp};
+use dia_avp::{Avp, AvpList, AvpView, first_avp, first_of, is_coded, number_32, number_64};
 use dia_command::TypedAvp;
 
 /// So many of a unit: 1 seconds, 2 octets, 3 service specific units, 0 none.
@@ -91,7 +91,7 @@ pub(crate) fn told(group: &Option<TypedAvp<AvpList>>, default: Amount) -> Amount
 pub(crate) fn told_by(service: &AvpList, code: u32, default: Amount) -> Amount
     ensures { result ≡ told default (first_group code service.now) }
 {
-    match first(service.as_slice(), code) {
+    match first_of(service.as_slice(), code) {
         None => Amount::new(0, 0),
         Some(group) => match amount_in(group.octets) {
             Some(amount) => amount,

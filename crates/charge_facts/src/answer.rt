@@ -2,14 +2,14 @@
 
 ghost use Rattle.std.specs.Prelude.{◌≡◌, ◌+◌};
 ghost use Rattle.std.specs.Option.{option_map_or};
-ghost use Rattle.charge_facts.specs.Answers.{flag, result_of, answer_slot, facts_of_answer, facts_of_fault, answer_places};
+ghost use Rattle.charge_facts.specs.Answers.{flag, result_of, answer_slot, facts_of_answer, facts_of_fault};
+ghost use Rattle.charge_facts.specs.Answers.{answer_places};
 ghost use Rattle.charge_facts.specs.Requests.{slot_at};
 
 use crate::amount::{Amount, told, told_by};
 use crate::facts::{Facts, Slot, group_number};
-use crate::group::{first, first_number};
 use base_codes::{CommandCode, ResultCode, avp_code};
-use dia_avp::AvpList;
+use dia_avp::{AvpList, first_number_of, first_of};
 use dia_command::{Command, CreditControlAnswer, ErrorAnswer, TypedAvp};
 use tab_law::PLACES;
 
@@ -22,7 +22,7 @@ fn flag(there: bool) -> u64
 fn result_of(service: &AvpList) -> u64
     ensures { result ≡ result_of service.now }
 {
-    match first_number(service.as_slice(), avp_code::RESULT_CODE) {
+    match first_number_of(service.as_slice(), avp_code::RESULT_CODE) {
         Some(code) => u64::from(code),
         None => u64::from(ResultCode::Success.number()),
     }
@@ -32,9 +32,9 @@ fn slot_of(service: &AvpList) -> Slot
     ensures { result ≡ answer_slot service.now }
 {
     let granted = told_by(service, avp_code::GRANTED_SERVICE_UNIT, Amount::new(0, 0));
-    let last = first(service.as_slice(), avp_code::FINAL_UNIT_INDICATION);
+    let last = first_of(service.as_slice(), avp_code::FINAL_UNIT_INDICATION);
     Slot {
-        group: group_number(first_number(service.as_slice(), avp_code::RATING_GROUP)),
+        group: group_number(first_number_of(service.as_slice(), avp_code::RATING_GROUP)),
         used: 0,
         want: 0,
         unit: granted.unit,

@@ -2,7 +2,6 @@
 //!
 //! | File | What it does |
 //! |---|---|
-//! | `group` | the AVPs of groups, where they lie |
 //! | `amount` | amounts of units in groups |
 //! | `account` | the account that a request names |
 //! | `facts` | which fact stands at which place |
@@ -13,7 +12,6 @@ mod account;
 mod amount;
 mod answer;
 mod facts;
-mod group;
 mod request;
 
 pub use answer::answer_facts;

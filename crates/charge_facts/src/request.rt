@@ -4,15 +4,15 @@ ghost use Rattle.std.specs.Prelude.{◌≡◌, ◌+◌};
 ghost use Rattle.std.specs.Option.{option_map_or};
 ghost use Rattle.dia_command.specs.Value.{action_number};
 ghost use Rattle.charge_facts.specs.Amounts.{amount};
-ghost use Rattle.charge_facts.specs.Requests.{used_by, want_by, units_by, service_units, request_slot, slot_at, request_units, facts_of_request};
+ghost use Rattle.charge_facts.specs.Requests.{used_by, want_by, units_by, service_units, request_slot, slot_at};
+ghost use Rattle.charge_facts.specs.Requests.{request_units, facts_of_request};
 ghost use Rattle.charge_facts.specs.Places.{places_of};
 
 use crate::account::account_of;
 use crate::amount::{Amount, told, told_by, total, total_by};
 use crate::facts::{Facts, Slot, Units, group_number};
-use crate::group::first_number;
 use base_codes::avp_code;
-use dia_avp::AvpList;
+use dia_avp::{AvpList, first_number_of};
 use dia_command::{CreditControlRequest, RequestType, RequestedAction, TypedAvp};
 use tab_law::PLACES;
 
@@ -68,7 +68,7 @@ fn slot_of(request_type: RequestType, default_units: u64, service: &AvpList) -> 
 {
     let units = service_units(request_type, default_units, service);
     Slot {
-        group: group_number(first_number(service.as_slice(), avp_code::RATING_GROUP)),
+        group: group_number(first_number_of(service.as_slice(), avp_code::RATING_GROUP)),
         used: units.used,
         want: units.want,
         unit: units.unit,
@@ -145,9 +145,9 @@ fn facts_of(request: &CreditControlRequest, default_units: u64) -> Facts
 /// `session_fact` and `slot`. Peer, line and those of the quote are 0. Takes no memory.
 ///
 /// `default_units` are the octets that a Requested-Service-Unit without an amount asks for. The account is that of the
-/// first Subscription-Id of type END_USER_E164, 0 where its data is not 1 to 15 digits without a leading zero. An amount
-/// is the first of CC-Time, CC-Total-Octets and CC-Service-Specific-Units in its group; used units are summed, at most
-/// 2^64 - 1. An INITIAL or EVENT request has used none, a TERMINATION request wants none. Of a request with
+/// first Subscription-Id of type END_USER_E164, 0 where its data is not 1 to 15 digits without a leading zero. An
+/// amount is the first of CC-Time, CC-Total-Octets and CC-Service-Specific-Units in its group; used units are summed,
+/// at most 2^64 - 1. An INITIAL or EVENT request has used none, a TERMINATION request wants none. Of a request with
 /// Multiple-Services-Credit-Control (section 5.1.2) only the units of its services count; the first four have slots.
 pub fn request_facts(request: &CreditControlRequest, default_units: u64) -> [u64; PLACES]
     ensures { result ≡ places_of (facts_of_request request.now default_units) }

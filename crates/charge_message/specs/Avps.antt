@@ -1,7 +1,9 @@
 -- AVPs of credit control that this node writes: without vendor, with flag M (RFC 8506 section 8).
 use Rattle.std.specs.Prelude.{ℕ, ◌==◌, true, false, List, [], ◌∷◌, Option, None, Some, if◌then◌else◌, decimal}
 use Rattle.byteorder.specs.Endian.{big_bytes}
-use Rattle.base_codes.specs.declared.avp_code.TheConstants.{CC_TIME, CC_TOTAL_OCTETS, CC_SERVICE_SPECIFIC_UNITS, FINAL_UNIT_ACTION, SUBSCRIPTION_ID_TYPE, SUBSCRIPTION_ID_DATA}
+use Rattle.base_codes.specs.declared.avp_code.TheConstants.{CC_TIME, CC_TOTAL_OCTETS, CC_SERVICE_SPECIFIC_UNITS}
+use Rattle.base_codes.specs.declared.avp_code.TheConstants.{FINAL_UNIT_ACTION, SUBSCRIPTION_ID_TYPE}
+use Rattle.base_codes.specs.declared.avp_code.TheConstants.{SUBSCRIPTION_ID_DATA}
 use Rattle.deed_message.specs.Headers.{lowest}
 use Rattle.dia_avp.specs.declared.avp.Avp.{Avp}
 use Rattle.dia_avp.specs.Encoding.{encoding}

@@ -1,8 +1,11 @@
 -- The messages of credit control that a Snd-Msg deed sends (RFC 8506 sections 3.1 and 3.2, RFC 6733 section 7.2).
-use Rattle.std.specs.Prelude.{ℕ, ◌-◌, ◌/◌, ◌==◌, ◌&&◌, not, Bool, List, [], ◌∷◌, length, Option, None, Some, codes, slice_index, if◌then◌else◌}
+use Rattle.std.specs.Prelude.{ℕ, ◌-◌, ◌/◌, ◌==◌, ◌&&◌, not, Bool, List, [], ◌∷◌, length, Option, None, Some}
+use Rattle.std.specs.Prelude.{codes, slice_index, if◌then◌else◌}
 use Rattle.std.specs.Option.{option_map, option_to_list}
 use Rattle.std.specs.Str.{is_utf8}
-use Rattle.base_codes.specs.declared.session_fact.TheConstants.{HOP_BY_HOP, END_TO_END, CLASS, REQUEST_TYPE, REQUEST_NUMBER, ACCOUNT, USED, WANT, UNIT, ACTION_OR_CHECK, RESULT_CODE, GRANTED, FINAL, SERVICES}
+use Rattle.base_codes.specs.declared.session_fact.TheConstants.{HOP_BY_HOP, END_TO_END, CLASS, REQUEST_TYPE}
+use Rattle.base_codes.specs.declared.session_fact.TheConstants.{REQUEST_NUMBER, ACCOUNT, USED, WANT, UNIT}
+use Rattle.base_codes.specs.declared.session_fact.TheConstants.{ACTION_OR_CHECK, RESULT_CODE, GRANTED, FINAL, SERVICES}
 use Rattle.base_codes.specs.declared.deed_code.DeedCode.TheVariants.{SndMsg}
 use Rattle.base_codes.specs.DeedCodes.{number_of}
 use Rattle.base_codes.specs.declared.command_code.CommandCode.TheVariants.{CreditControl}
@@ -71,7 +74,8 @@ final_field last granted = if (last == 1) && not (granted == 0) then Some (made 
 -- the answer to a request of a type
 unfoldable pub answer_of : Identity → List ℕ → List ℕ → RequestType → Command
 answer_of me session a type = Cca (record {
-  header = answer_header CreditControl (is_protocol_error (slice_index a RESULT_CODE)) (slice_index a HOP_BY_HOP) (slice_index a END_TO_END);
+  header = answer_header CreditControl (is_protocol_error (slice_index a RESULT_CODE)) (slice_index a HOP_BY_HOP)
+      (slice_index a END_TO_END);
   session_id = made session;
   result_code = made (lowest (slice_index a RESULT_CODE));
   origin_host = made me.host;
@@ -89,7 +93,8 @@ answer_of me session a type = Cca (record {
 -- the answer that tells a fault by its Result-Code alone
 unfoldable pub fault_of : Identity → List ℕ → List ℕ → Command
 fault_of me session a = ErrorAnswer (record {
-  header = answer_header CreditControl (is_protocol_error (slice_index a RESULT_CODE)) (slice_index a HOP_BY_HOP) (slice_index a END_TO_END);
+  header = answer_header CreditControl (is_protocol_error (slice_index a RESULT_CODE)) (slice_index a HOP_BY_HOP)
+      (slice_index a END_TO_END);
   session_id = Some (made session);
   origin_host = made me.host;
   origin_realm = made me.realm;
@@ -102,7 +107,8 @@ fault_of me session a = ErrorAnswer (record {
 unfoldable pub is_session : List ℕ → Bool
 is_session session = is_utf8 session && not (length session == 0)
 
--- the class of the message that a Snd-Msg deed sends, 1 a request, 2 an answer, 3 one that tells a fault; 0 for any other deed
+-- the class of the message that a Snd-Msg deed sends, 1 a request, 2 an answer,
+-- 3 one that tells a fault; 0 for any other deed
 unfoldable pub class_of : Deed → ℕ
 class_of deed = if deed.code == number_of SndMsg then slice_index deed.a CLASS else 0
 
@@ -113,7 +119,8 @@ type_of deed = type_coded (slice_index deed.a REQUEST_TYPE)
 -- the request that a deed sends, if it sends one
 abbrev pub request_by : Identity → List ℕ → Deed → Option Command
 request_by me session deed =
-    if (class_of deed == 1) && is_session session then option_map (request_of me session deed.a) (type_of deed) else None
+    if (class_of deed == 1) && is_session session
+    then option_map (request_of me session deed.a) (type_of deed) else None
 
 -- the answer that a deed sends, if it sends one
 abbrev pub answer_by : Identity → List ℕ → Deed → Option Command

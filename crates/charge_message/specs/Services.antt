@@ -1,6 +1,9 @@
 -- Instances of Multiple-Services-Credit-Control that a deed with these arguments sends (RFC 8506 section 8.16).
-use Rattle.std.specs.Prelude.{ℕ, ◌+◌, ◌*◌, ◌-◌, ◌==◌, ◌&&◌, not, nat_lt, Bool, true, false, List, [], ◌∷◌, ◌++◌, if◌then◌else◌, slice_index}
-use Rattle.base_codes.specs.declared.avp_code.TheConstants.{RATING_GROUP, RESULT_CODE, REQUESTED_SERVICE_UNIT, USED_SERVICE_UNIT, GRANTED_SERVICE_UNIT, FINAL_UNIT_INDICATION}
+use Rattle.std.specs.Prelude.{ℕ, ◌+◌, ◌*◌, ◌-◌, ◌==◌, ◌&&◌, not, nat_lt, Bool, true, false, List, [], ◌∷◌}
+use Rattle.std.specs.Prelude.{◌++◌, if◌then◌else◌, slice_index}
+use Rattle.base_codes.specs.declared.avp_code.TheConstants.{RATING_GROUP, RESULT_CODE, REQUESTED_SERVICE_UNIT}
+use Rattle.base_codes.specs.declared.avp_code.TheConstants.{USED_SERVICE_UNIT, GRANTED_SERVICE_UNIT}
+use Rattle.base_codes.specs.declared.avp_code.TheConstants.{FINAL_UNIT_INDICATION}
 use Rattle.base_codes.specs.declared.session_fact.TheConstants as f
 use Rattle.base_codes.specs.declared.slot.TheConstants as slot
 use Rattle.dia_avp.specs.declared.avp.Avp.{Avp}
@@ -15,7 +18,8 @@ rating_avps group = if group == 1 then [] else number_avp RATING_GROUP (group - 
 
 -- the Final-Unit-Indication, where units are granted and are the last
 unfoldable pub final_avps : ℕ → ℕ → List Avp
-final_avps last granted = if (last == 1) && not (granted == 0) then made_avp FINAL_UNIT_INDICATION (encoding termination) ∷ [] else []
+final_avps last granted =
+    if (last == 1) && not (granted == 0) then made_avp FINAL_UNIT_INDICATION (encoding termination) ∷ [] else []
 
 -- of a request, by the place where the slot begins: what is wanted, what was used, the group
 unfoldable pub asked : List ℕ → ℕ → List Avp

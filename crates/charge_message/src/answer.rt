@@ -1,7 +1,8 @@
 //! From a deed to the answer of credit control that it sends (RFC 8506 section 3.2, RFC 6733 section 7.2).
 
 ghost use Rattle.std.specs.Prelude.{◌≡◌, Some, IfOk, OnErr, is_some, true, slice_index};
-ghost use Rattle.base_codes.specs.declared.session_fact.TheConstants.{HOP_BY_HOP, END_TO_END, UNIT, RESULT_CODE, GRANTED, FINAL};
+ghost use Rattle.base_codes.specs.declared.session_fact.TheConstants.{HOP_BY_HOP, END_TO_END, UNIT};
+ghost use Rattle.base_codes.specs.declared.session_fact.TheConstants.{RESULT_CODE, GRANTED, FINAL};
 ghost use Rattle.base_codes.specs.declared.command_code.CommandCode.TheVariants.{CreditControl};
 ghost use Rattle.deed_message.specs.Headers.{answer_header};
 ghost use Rattle.charge_message.specs.Avps.{units_field};
@@ -61,8 +62,10 @@ struct Units {
 }
 
 fn units_by(alloc: Global, deed: &Deed) -> Result<Units, AllocError>
-    ensures granted { IfOk result (λ u. u.granted ≡ units_field (slice_index deed.now.a UNIT) (slice_index deed.now.a GRANTED)) }
-    ensures last { IfOk result (λ u. u.last ≡ final_field (slice_index deed.now.a FINAL) (slice_index deed.now.a GRANTED)) }
+    ensures granted { IfOk result (λ u. u.granted
+        ≡ units_field (slice_index deed.now.a UNIT) (slice_index deed.now.a GRANTED)) }
+    ensures last { IfOk result (λ u. u.last
+        ≡ final_field (slice_index deed.now.a FINAL) (slice_index deed.now.a GRANTED)) }
     ensures services { IfOk result (λ u. u.services ≡ services answered deed.now.a) }
 {
     deed.known();
@@ -75,7 +78,8 @@ fn units_by(alloc: Global, deed: &Deed) -> Result<Units, AllocError>
 }
 
 fn header_by(deed: &Deed) -> Header
-    ensures { result ≡ answer_header CreditControl (is_protocol_error (slice_index deed.now.a RESULT_CODE)) (slice_index deed.now.a HOP_BY_HOP) (slice_index deed.now.a END_TO_END) }
+    ensures { result ≡ answer_header CreditControl (is_protocol_error (slice_index deed.now.a RESULT_CODE))
+        (slice_index deed.now.a HOP_BY_HOP) (slice_index deed.now.a END_TO_END) }
 {
     deed.known();
     answer_header(
@@ -144,17 +148,19 @@ fn fault_of(
 /// (RFC 6733 section 7.2), where the session's name is UTF-8 and not empty; none for any other deed. `session_fact` and
 /// `slot` say which argument is what.
 ///
-/// Identifiers are the request's, arguments 2 and 3. Numbers of four octets are taken modulo 2^32, a number whose argument
-/// is one more than it is 0 where that is 0, and a unit outside 1 to 3 is written as 2. Granted units stand where they are
-/// not 0, Final-Unit-Indication where they are granted and the last, Check-Balance-Result where its argument is not 0.
-/// Each slot with a group, of as many as the deed has services, is an instance of Multiple-Services-Credit-Control. All
-/// AVPs have flag M; the header has flag P, and flag E where the Result-Code is 3xxx.
+/// Identifiers are the request's, arguments 2 and 3. Numbers of four octets are taken modulo 2^32, a number
+/// whose argument is one more than it is 0 where that is 0, and a unit outside 1 to 3 is written as 2. Granted
+/// units stand where they are not 0, Final-Unit-Indication where they are granted and the last,
+/// Check-Balance-Result where its argument is not 0. Each slot with a group, of as many as the deed has
+/// services, is an instance of Multiple-Services-Credit-Control. All AVPs have flag M; the header has flag P,
+/// and flag E where the Result-Code is 3xxx.
 pub fn answer_message(
     alloc: Global,
     deed: &Deed,
     names: &Names<'_>,
 ) -> Result<Option<Command>, AllocError>
-    ensures message { IfOk result (λ message. message ≡ answer_by names.now.identity.now names.now.session.now deed.now) }
+    ensures message { IfOk result (λ message. message
+        ≡ answer_by names.now.identity.now names.now.session.now deed.now) }
 
     // Memory can be wanting only for a message.
     ensures memory { OnErr result (is_some (answer_by names.now.identity.now names.now.session.now deed.now) ≡ true) }

@@ -3,7 +3,8 @@
 ghost use Rattle.std.specs.Prelude.{◌≡◌, ◌≤◌, ◌∷◌, ◌++◌, [], None, length, IfOk, OnOk};
 ghost use Rattle.byteorder.specs.Endian.{big_bytes};
 ghost use Rattle.dia_avp.specs.Encoding.{encoding};
-ghost use Rattle.charge_message.specs.Avps.{made_avp, number_avp, amount_avp, units_field, units_avps, termination, subscription};
+ghost use Rattle.charge_message.specs.Avps.{made_avp, number_avp, amount_avp, units_field};
+ghost use Rattle.charge_message.specs.Avps.{units_avps, termination, subscription};
 
 use base_codes::avp_code;
 use byteorder::{BigEndian, ByteOrder};

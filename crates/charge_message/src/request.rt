@@ -2,7 +2,8 @@
 
 ghost use Rattle.std.specs.Prelude.{◌≡◌, ◌-◌, ◌∷◌, [], Some, None, IfOk, OnErr, is_some, true, codes, slice_index};
 ghost use Rattle.std.specs.Option.{option_to_list};
-ghost use Rattle.base_codes.specs.declared.session_fact.TheConstants.{HOP_BY_HOP, REQUEST_NUMBER, ACCOUNT, USED, WANT, UNIT};
+ghost use Rattle.base_codes.specs.declared.session_fact.TheConstants.{HOP_BY_HOP, REQUEST_NUMBER, ACCOUNT};
+ghost use Rattle.base_codes.specs.declared.session_fact.TheConstants.{USED, WANT, UNIT};
 ghost use Rattle.base_codes.specs.declared.command_code.CommandCode.TheVariants.{CreditControl};
 ghost use Rattle.deed_message.specs.Headers.{request_header};
 ghost use Rattle.dia_write.specs.Answer.{made};
@@ -60,7 +61,8 @@ fn subscriptions(alloc: Global, deed: &Deed) -> Result<TypedAvps<AvpList>, Alloc
 }
 
 fn used_by(alloc: Global, deed: &Deed) -> Result<TypedAvps<AvpList>, AllocError>
-    ensures { IfOk result (λ list. list ≡ option_to_list (units_field (slice_index deed.now.a UNIT) (slice_index deed.now.a USED))) }
+    ensures { IfOk result (λ list. list
+        ≡ option_to_list (units_field (slice_index deed.now.a UNIT) (slice_index deed.now.a USED))) }
 {
     deed.known();
     let used = units_field(
@@ -84,8 +86,10 @@ struct Units {
 }
 
 fn units_by(alloc: Global, deed: &Deed) -> Result<Units, AllocError>
-    ensures wanted { IfOk result (λ u. u.wanted ≡ units_field (slice_index deed.now.a UNIT) (slice_index deed.now.a WANT)) }
-    ensures used { IfOk result (λ u. u.used ≡ option_to_list (units_field (slice_index deed.now.a UNIT) (slice_index deed.now.a USED))) }
+    ensures wanted { IfOk result (λ u. u.wanted
+        ≡ units_field (slice_index deed.now.a UNIT) (slice_index deed.now.a WANT)) }
+    ensures used { IfOk result (λ u. u.used
+        ≡ option_to_list (units_field (slice_index deed.now.a UNIT) (slice_index deed.now.a USED))) }
     ensures services { IfOk result (λ u. u.services ≡ services asked deed.now.a) }
 {
     deed.known();
@@ -111,7 +115,8 @@ struct Purpose {
 fn purpose_of(alloc: Global, deed: &Deed, identity: &Identity) -> Result<Purpose, AllocError>
     ensures destination { IfOk result (λ p. p.destination_realm ≡ made identity.now.realm) }
     ensures context { IfOk result (λ p. p.service_context_id ≡ made (codes "dbench@example")) }
-    ensures subscription { IfOk result (λ p. p.subscription_id ≡ made (subscription (slice_index deed.now.a ACCOUNT)) ∷ []) }
+    ensures subscription { IfOk result (λ p. p.subscription_id
+        ≡ made (subscription (slice_index deed.now.a ACCOUNT)) ∷ []) }
 {
     Ok(Purpose {
         destination_realm: made_copy(alloc, &identity.realm)?,
@@ -121,7 +126,8 @@ fn purpose_of(alloc: Global, deed: &Deed, identity: &Identity) -> Result<Purpose
 }
 
 fn header_by(deed: &Deed) -> Header
-    ensures { result ≡ request_header CreditControl (slice_index deed.now.a HOP_BY_HOP) (slice_index deed.now.a REQUEST_NUMBER - 1) }
+    ensures { result
+        ≡ request_header CreditControl (slice_index deed.now.a HOP_BY_HOP) (slice_index deed.now.a REQUEST_NUMBER - 1) }
 {
     deed.known();
     let count = deed.a[session_fact::REQUEST_NUMBER].saturating_sub(1);
@@ -167,21 +173,23 @@ fn request_of(
     })))
 }
 
-/// The Credit-Control-Request that a deed of a session's machine sends (RFC 8506 section 3.1): that of a Snd-Msg deed of
-/// class 1 whose CC-Request-Type is 1 to 4, where the session's name is UTF-8 and not empty; none for any other deed.
-/// `session_fact` and `slot` say which argument is what.
+/// The Credit-Control-Request that a deed of a session's machine sends (RFC 8506 section 3.1): that of a Snd-Msg deed
+/// of class 1 whose CC-Request-Type is 1 to 4, where the session's name is UTF-8 and not empty; none for any other
+/// deed. `session_fact` and `slot` say which argument is what.
 ///
 /// Both identifiers are those of the sender's machine, argument 2, and the CC-Request-Number. Destination-Realm is this
-/// node's own realm. Numbers of four octets are taken modulo 2^32, a number whose argument is one more than it is 0 where
-/// that is 0, and a unit outside 1 to 3 is written as 2. Requested-Action stands in EVENT requests, units where they are
-/// not 0, Multiple-Services-Indicator in an INITIAL request with services. Each slot with a group, of as many as the
-/// deed has services, is an instance of Multiple-Services-Credit-Control. All AVPs have flag M, the header has flag P.
+/// node's own realm. Numbers of four octets are taken modulo 2^32, a number whose argument is one more than it
+/// is 0 where that is 0, and a unit outside 1 to 3 is written as 2. Requested-Action stands in EVENT requests,
+/// units where they are not 0, Multiple-Services-Indicator in an INITIAL request with services. Each slot with a
+/// group, of as many as the deed has services, is an instance of Multiple-Services-Credit-Control. All AVPs have
+/// flag M, the header has flag P.
 pub fn request_message(
     alloc: Global,
     deed: &Deed,
     names: &Names<'_>,
 ) -> Result<Option<Command>, AllocError>
-    ensures message { IfOk result (λ message. message ≡ request_by names.now.identity.now names.now.session.now deed.now) }
+    ensures message { IfOk result (λ message. message
+        ≡ request_by names.now.identity.now names.now.session.now deed.now) }
 
     // Memory can be wanting only for a message.
     ensures memory { OnErr result (is_some (request_by names.now.identity.now names.now.session.now deed.now) ≡ true) }

@@ -23,7 +23,11 @@ pub(crate) fn sender_of(
     identity: &Identity,
     session: &str,
 ) -> Result<Sender, AllocError>
-    ensures { IfOk result (λ s. s ≡ record { session_id = made session.now; origin_host = made identity.now.host; origin_realm = made identity.now.realm }) }
+    ensures { IfOk result (λ s. s ≡ record {
+      session_id = made session.now;
+      origin_host = made identity.now.host;
+      origin_realm = made identity.now.realm;
+    }) }
 {
     Ok(Sender {
         session_id: made(Text::from_str(alloc, session)?),

@@ -4,7 +4,8 @@ ghost use Rattle.std.specs.Prelude.{◌≡◌, ◌≤◌, ◌+◌, ◌++◌, ◌
 ghost use Rattle.base_codes.specs.declared.slot.TheConstants.{SIZE, MAX_SLOTS};
 ghost use Rattle.tab_law.specs.declared.limits.TheConstants.{PLACES};
 ghost use Rattle.charge_message.specs.Avps.{number_avp};
-ghost use Rattle.charge_message.specs.Services.{rating_avps, final_avps, asked, answered, avps_by, first_of, is_sent, service, services};
+ghost use Rattle.charge_message.specs.Services.{rating_avps, final_avps, asked, answered, avps_by, first_of};
+ghost use Rattle.charge_message.specs.Services.{is_sent, service, services};
 
 use crate::avp::{final_avp, number_avp, push_units};
 use base_codes::{avp_code, session_fact, slot};
@@ -146,8 +147,8 @@ fn push_service(
     Ok(())
 }
 
-/// The instances of a message: in a request, of each slot what is wanted, what was used, and the group; in an answer what is
-/// granted, the group, the result, and whether it is the last.
+/// The instances of a message: in a request, of each slot what is wanted, what was used, and the group;
+/// in an answer what is granted, the group, the result, and whether it is the last.
 #[tactic(auto, unfolding(crate::specs::Services::services))]
 pub(crate) fn services(
     alloc: Global,

@@ -27,7 +27,8 @@ with_facts facts kind = record { kind = kind; facts = facts }
 -- a Credit-Control-Request is an event of a server's session, and no other command is one
 abbrev pub server_event : Command → ℕ → Option Event
 server_event (Ccr c) default =
-    option_map (with_facts (places_of (facts_of_request c default))) (place_of (server_name c.cc_request_type.value) server_kinds)
+    option_map (with_facts (places_of (facts_of_request c default)))
+    (place_of (server_name c.cc_request_type.value) server_kinds)
 server_event command default = None
 
 -- the name of the kind that an answer is, by the CC-Request-Type that it repeats
@@ -42,7 +43,9 @@ abbrev pub client_name : Command → List ℕ
 client_name (Cca c) = answer_name c.cc_request_type.value
 client_name command = codes "CCA-Fault"
 
--- an answer of credit control is an event of a client's session, one that tells a fault too, and no other command is one
+-- an answer of credit control is an event of a client's session, one that tells a fault too,
+-- and no other command is one
 abbrev pub client_event : Command → Option Event
 client_event command =
-    option_and_then (λ facts. option_map (with_facts facts) (place_of (client_name command) client_kinds)) (answer_places command)
+    option_and_then (λ facts. option_map (with_facts facts) (place_of (client_name command) client_kinds))
+    (answer_places command)

@@ -1,3 +1,4 @@
+-- The definitions that the contracts of charge_session speak of.
 pub mod Deeds
 pub mod Events
 pub mod Quotes

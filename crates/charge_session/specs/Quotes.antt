@@ -12,13 +12,15 @@ use Rattle.charge_session.specs.declared.quote.Quotes.TheVariants.{One, Several}
 -- four numbers side by side from a place on
 abbrev pub with_numbers : ℕ → ℕ × ℕ × ℕ × ℕ → List ℕ → List ℕ
 with_numbers first numbers facts =
-    slice_set (slice_set (slice_set (slice_set facts first numbers.0) (first + 1) numbers.1) (first + 2) numbers.2) (first + 3) numbers.3
+    slice_set (slice_set (slice_set (slice_set facts first numbers.0) (first + 1) numbers.1) (first + 2) numbers.2)
+    (first + 3) numbers.3
 
 -- 1 for yes, 0 for no
 abbrev pub flag : Bool → ℕ
 flag is_so = if is_so then 1 else 0
 
--- the numbers of a quote: its verdict, the units offered, whether they are the last, the units that can be paid; zeros for none
+-- the numbers of a quote: its verdict, the units offered, whether they are the last,
+-- the units that can be paid; zeros for none
 abbrev pub numbers_of : Option Quote → ℕ × ℕ × ℕ × ℕ
 numbers_of None = (0, 0, 0, 0)
 numbers_of (Some q) = (number_of q.verdict, q.offer, flag q.is_final, q.pay)
@@ -39,4 +41,5 @@ with_slot quotes place k facts = with_quote (slot_at k + slot.RESULT_CODE) (slic
 abbrev pub quoted : Quotes → List ℕ → List ℕ
 quoted (One quote) facts = with_quote f.RESULT_CODE (Some quote) facts
 quoted (Several quotes) facts =
-    with_slot quotes 3 4 (with_slot quotes 2 3 (with_slot quotes 1 2 (with_slot quotes 0 1 (with_verdict quotes facts))))
+    with_slot quotes 3 4 (with_slot quotes 2 3
+    (with_slot quotes 1 2 (with_slot quotes 0 1 (with_verdict quotes facts))))

@@ -12,8 +12,8 @@ use Rattle.server_rules.specs.Kinds.{all}
 use Rattle.server_rules.specs.Laws.{slot_at}
 use Rattle.tab_step.specs.declared.machine.Event.{Event}
 use Rattle.tab_step.specs.declared.machine.MachineState.{MachineState}
-use Rattle.charge_session.specs.declared.want.Asked.{Asked}
-use Rattle.charge_session.specs.declared.want.Asked.TheVariants.{One, Several}
+use Rattle.charge_session.specs.declared.want.ServiceUnits.{ServiceUnits}
+use Rattle.charge_session.specs.declared.want.ServiceUnits.TheVariants.{One, Several}
 use Rattle.charge_session.specs.declared.want.Want.{Want}
 
 -- the account that the session keeps, or that of the message where it keeps none
@@ -29,11 +29,12 @@ slot_of group used want = record { group = group; used = used; want = want }
 abbrev pub service : List ℕ → ℕ → Option Slot
 service facts first =
     if slice_index facts (first + slot.GROUP) == 0 then None
-    else Some (slot_of (slice_index facts (first + slot.GROUP)) (slice_index facts (first + slot.USED)) (slice_index facts (first + slot.WANT)))
+    else Some (slot_of (slice_index facts (first + slot.GROUP)) (slice_index facts (first + slot.USED))
+    (slice_index facts (first + slot.WANT)))
 
--- what an event asks: nothing where the timer fired; what the request used and wants; or what its services did, slot by slot
--- (RFC 8506 section 5.1.2)
-abbrev pub asked_by : ServerKind → List ℕ → Asked
+-- what an event asks: nothing where the timer fired; what the request used and wants;
+-- or what its services did, slot by slot (RFC 8506 section 5.1.2)
+abbrev pub asked_by : ServerKind → List ℕ → ServiceUnits
 asked_by Tcc facts = One (slot_of 0 0 0)
 asked_by kind facts =
     if slice_index facts f.SERVICES == 0 then One (slot_of 0 (slice_index facts f.USED) (slice_index facts f.WANT))

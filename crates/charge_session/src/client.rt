@@ -21,9 +21,9 @@ fn kind_of(command: &Command) -> ClientKind
 }
 
 /// The event that a command is for a session of a credit-control client: a Credit-Control-Answer by its CC-Request-Type
-/// (RFC 8506 section 8.3), or an answer that tells a fault of credit control to a session (RFC 6733 section 7.2), with the
-/// facts of `answer_facts`; no other command is one. The kind is its place in the laws of a client. Facts of peer and line
-/// are 0. Takes no memory.
+/// (RFC 8506 section 8.3), or an answer that tells a fault of credit control to a session (RFC 6733 section 7.2), with
+/// the facts of `answer_facts`; no other command is one. The kind is its place in the laws of a client. Facts of peer
+/// and line are 0. Takes no memory.
 pub fn client_event(command: &Command) -> Option<Event>
     ensures { result ≡ client_event command.now }
 {

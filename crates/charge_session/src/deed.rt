@@ -8,9 +8,9 @@ use acct_totals::Op;
 use base_codes::DeedCode;
 use tab_law::Deed;
 
-/// The operation that a deed asks of the account book, on the account and the session of what its event wanted: argument 0 is the
-/// amount, argument 1 the group, 0 for a request without groups (RFC 8506 section 8.16); none for a deed that is not the book's.
-/// Takes no memory.
+/// The operation that a deed asks of the account book, on the account and the session of what its event wanted:
+/// argument 0 is the amount, argument 1 the group, 0 for a request without groups (RFC 8506 section 8.16); none for a
+/// deed that is not the book's. Takes no memory.
 pub fn op_of(deed: &Deed, want: &Want) -> Option<Op>
     ensures { result ≡ op_of want.now deed.now }
 {

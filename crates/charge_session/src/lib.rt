@@ -23,4 +23,4 @@ pub use deed::op_of;
 pub use kind::{answer_kind, request_kind};
 pub use quote::{Quotes, fill_quotes};
 pub use server::server_event;
-pub use want::{Asked, Want, needs};
+pub use want::{ServiceUnits, Want, needs};

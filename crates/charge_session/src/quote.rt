@@ -7,8 +7,8 @@ use acct_totals::{Quote, request_verdict};
 use base_codes::{session_fact, slot};
 use tab_law::PLACES;
 
-/// What the account book answers a server's event: a quote of the request, or one of each of its services by slot, none where a
-/// slot has no service (RFC 8506 section 5.1.2).
+/// What the account book answers a server's event: a quote of the request, or one of each of its services by slot,
+/// none where a slot has no service (RFC 8506 section 5.1.2).
 #[derive(Clone, Copy, PartialEq, Eq)]
 pub enum Quotes {
     One(Quote),
@@ -51,10 +51,10 @@ fn put_verdict(facts: &mut [u64; PLACES], quotes: &[Option<Quote>; slot::MAX_SLO
     put_numbers(facts, session_fact::RESULT_CODE, (verdict, 0, 0, 0));
 }
 
-/// Puts what the book answers into the facts of a server's event. Of one quote its verdict, offer, whether that is final, and what
-/// can be paid become facts 12 to 15; of several the same become those of each slot, 0 where it has no service, and fact 12 is the
-/// verdict of the request: 5030 for an account that is not open, else 2001 where a slot has it, else 4012 (RFC 8506 section 9).
-/// All other facts stay. Takes no memory.
+/// Puts what the book answers into the facts of a server's event. Of one quote its verdict, offer, whether that is
+/// final, and what can be paid become facts 12 to 15; of several the same become those of each slot, 0 where it has no
+/// service, and fact 12 is the verdict of the request: 5030 for an account that is not open, else 2001 where a slot has
+/// it, else 4012 (RFC 8506 section 9). All other facts stay. Takes no memory.
 pub fn fill_quotes(facts: &mut [u64; PLACES], quotes: &Quotes)
     ensures { facts.new ≡ quoted quotes.now facts.old }
 {

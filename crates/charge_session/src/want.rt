@@ -11,22 +11,22 @@ use tab_step::{Event, MachineState};
 
 /// What a request used and wants.
 #[derive(Clone, Copy, PartialEq, Eq)]
-pub enum Asked {
+pub enum ServiceUnits {
     /// One service: that of a request without Multiple-Services-Credit-Control, whose group is 0.
     One(Slot),
     /// Several services, by slot (RFC 8506 section 8.16); none where a slot has no service.
     Several([Option<Slot>; slot::MAX_SLOTS]),
 }
 
-/// What is asked of the account book: the quote that the facts of a server's event tell, and the account and the session that its
-/// deeds are booked on.
+/// What is asked of the account book: the quote that the facts of a server's event tell,
+/// and the account and the session that its deeds are booked on.
 #[derive(Clone, Copy, PartialEq, Eq)]
 pub struct Want {
     /// The account, 0 for none.
     pub account: u64,
     /// The number of the session's machine.
     pub session: u64,
-    pub asked: Asked,
+    pub asked: ServiceUnits,
 }
 
 /// The number at a place.
@@ -64,24 +64,24 @@ fn service(facts: &[u64; PLACES], first: usize) -> Option<Slot>
 }
 
 /// What a request asks, and what a timer does.
-fn asked_by(kind: ServerKind, facts: &[u64; PLACES]) -> Asked
+fn asked_by(kind: ServerKind, facts: &[u64; PLACES]) -> ServiceUnits
     ensures { result ≡ asked_by kind facts.now }
 {
     if kind == ServerKind::Tcc {
-        return Asked::One(Slot {
+        return ServiceUnits::One(Slot {
             group: 0,
             used: 0,
             want: 0,
         });
     }
     if at(facts, session_fact::SERVICES) == 0 {
-        return Asked::One(Slot {
+        return ServiceUnits::One(Slot {
             group: 0,
             used: at(facts, session_fact::USED),
             want: at(facts, session_fact::WANT),
         });
     }
-    Asked::Several([
+    ServiceUnits::Several([
         service(facts, slot::FIRST),
         service(facts, slot::FIRST + slot::SIZE),
         service(facts, slot::FIRST + 2 * slot::SIZE),
@@ -89,8 +89,9 @@ fn asked_by(kind: ServerKind, facts: &[u64; PLACES]) -> Asked
     ])
 }
 
-/// What a session of a credit-control server asks of the account book where this event is to be handled (RFC 8506 sections 5.1.2
-/// to 5.4 and 6). The event's kind is its place in the laws of a server; none for any other number. Takes no memory.
+/// What a session of a credit-control server asks of the account book where this event is to be handled (RFC
+/// 8506 sections 5.1.2 to 5.4 and 6). The event's kind is its place in the laws of a server; none for any
+/// other number. Takes no memory.
 pub fn needs(event: &Event, state: &MachineState) -> Option<Want>
     ensures { result ≡ needs event.now state.now }
 {

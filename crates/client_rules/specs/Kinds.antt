@@ -1,9 +1,10 @@
 -- The kinds of events of a client's machine (RFC 8506 section 7), in the order of their first appearance in the table.
 use Rattle.std.specs.Prelude.{ℕ, List, [], ◌∷◌, codes}
 use Rattle.base_list.specs.declared.named.Named.{Named}
-use Rattle.tab_role.specs.Lines.{kind}
+use Rattle.tab_role.specs.Entries.{kind}
 use Rattle.client_rules.specs.declared.kind.ClientKind.{ClientKind}
-use Rattle.client_rules.specs.declared.kind.ClientKind.TheVariants.{Begin, One, CcaI, CcaFault, SendFail, Tx, More, End, CcaU, CcaT, CcaE}
+use Rattle.client_rules.specs.declared.kind.ClientKind.TheVariants.{Begin, One, CcaI, CcaFault, SendFail, Tx, More, End}
+use Rattle.client_rules.specs.declared.kind.ClientKind.TheVariants.{CcaU, CcaT, CcaE}
 
 -- the name of each
 abbrev pub name_of : ClientKind → List ℕ

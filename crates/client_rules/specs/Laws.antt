@@ -1,4 +1,5 @@
--- The laws of a client's machine: its guards and its actions, a line each (RFC 8506 section 7, in this project's profile).
+-- The laws of a client's machine: its guards and its actions, a line each (RFC 8506 section 7,
+-- in this project's profile).
 use Rattle.std.specs.Prelude.{ℕ, ◌++◌, List, [], ◌∷◌, codes}
 use Rattle.base_codes.specs.declared.deed_code.DeedCode.TheVariants as deeds
 use Rattle.base_codes.specs.declared.session_fact.TheConstants as f
@@ -13,10 +14,11 @@ use Rattle.tab_law.specs.declared.law.Test.TheVariants.{Equal, Among}
 use Rattle.tab_law.specs.declared.law.Change.{Change}
 use Rattle.tab_role.specs.declared.step.Services.{Services}
 use Rattle.tab_role.specs.declared.step.Services.TheVariants.{OfEvent, OfEventUnwanted}
-use Rattle.tab_role.specs.Lines.{set, next, deed, message, keep_services, guard, act}
+use Rattle.tab_role.specs.Entries.{set, next, deed, message, keep_services, guard, act}
 use Rattle.client_rules.specs.Kinds.{kinds}
 
--- a session of this type is opened: what its later requests need is kept, and the first goes to the peer, with the event's services
+-- a session of this type is opened: what its later requests need is kept, and the first goes to the peer,
+-- with the event's services
 abbrev pub open_session : ℕ → List Atom → List Change
 open_session type behind =
     set r.ACCOUNT (Fact f.ACCOUNT)
@@ -26,7 +28,8 @@ open_session type behind =
     ∷ set r.REQUEST_TYPE (Constant type)
     ∷ set r.PEER (Fact f.PEER)
     ∷ message deeds.ToPeer
-    ((Fact f.PEER ∷ Constant 0 ∷ Register r.MACHINE ∷ Constant 0 ∷ Constant 1 ∷ Constant type ∷ NewRegister r.REQUEST_NUMBER ∷ Fact f.ACCOUNT ∷ Constant 0 ∷ Fact f.WANT ∷ Fact f.UNIT ∷ []) ++ behind)
+    ((Fact f.PEER ∷ Constant 0 ∷ Register r.MACHINE ∷ Constant 0 ∷ Constant 1 ∷ Constant type
+    ∷ NewRegister r.REQUEST_NUMBER ∷ Fact f.ACCOUNT ∷ Constant 0 ∷ Fact f.WANT ∷ Fact f.UNIT ∷ []) ++ behind)
     OfEvent
     ∷ []
 
@@ -36,7 +39,8 @@ ask type want services =
     next r.REQUEST_NUMBER
     ∷ set r.REQUEST_TYPE (Constant type)
     ∷ message deeds.ToPeer
-    (Register r.PEER ∷ Constant 0 ∷ Register r.MACHINE ∷ Constant 0 ∷ Constant 1 ∷ Constant type ∷ NewRegister r.REQUEST_NUMBER ∷ Register r.ACCOUNT ∷ Fact f.USED ∷ want ∷ Register r.UNIT ∷ [])
+    (Register r.PEER ∷ Constant 0 ∷ Register r.MACHINE ∷ Constant 0 ∷ Constant 1
+    ∷ Constant type ∷ NewRegister r.REQUEST_NUMBER ∷ Register r.ACCOUNT ∷ Fact f.USED ∷ want ∷ Register r.UNIT ∷ [])
     services
     ∷ []
 
@@ -62,7 +66,8 @@ acts =
     act (codes "Snd-CCR-I") (open_session 1 [])
     ∷ act (codes "Start-Tx") (next r.TIMER ∷ deed deeds.Arm (NewRegister r.TIMER ∷ Constant 10 ∷ []) ∷ [])
     ∷ act (codes "Snd-CCR-E") (open_session 4 (Fact f.ACTION_OR_CHECK ∷ []))
-    ∷ act (codes "Take-Grant") ((set r.RESULT_CODE (Fact f.RESULT_CODE) ∷ set r.GRANTED (Fact f.GRANTED) ∷ set r.FINAL (Fact f.FINAL) ∷ set r.CHECK (Fact f.ACTION_OR_CHECK) ∷ []) ++ keep_services)
+    ∷ act (codes "Take-Grant") ((set r.RESULT_CODE (Fact f.RESULT_CODE) ∷ set r.GRANTED (Fact f.GRANTED)
+    ∷ set r.FINAL (Fact f.FINAL) ∷ set r.CHECK (Fact f.ACTION_OR_CHECK) ∷ []) ++ keep_services)
     ∷ act (codes "Stop-Tx") (next r.TIMER ∷ deed deeds.Disarm [] ∷ [])
     ∷ act (codes "Grant-Service") (tell 1)
     ∷ act (codes "End-Service") (tell 2)

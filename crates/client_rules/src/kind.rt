@@ -4,8 +4,8 @@ ghost use Rattle.std.specs.Prelude.{◌≡◌, Some};
 ghost use Rattle.base_list.specs.Named.{place_of};
 ghost use Rattle.client_rules.specs.Kinds.{name_of, kinds};
 
-/// A kind of events, in the order of the first appearance in the table: what the service tells its session, an answer by its
-/// CC-Request-Type (RFC 8506 section 8.3), what went wrong, or the timer.
+/// A kind of events, in the order of the first appearance in the table: what the service tells its session, an answer
+/// by its CC-Request-Type (RFC 8506 section 8.3), what went wrong, or the timer.
 #[derive(Clone, Copy, PartialEq, Eq)]
 pub enum ClientKind {
     /// The service asks for its first units.

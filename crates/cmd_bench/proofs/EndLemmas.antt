@@ -3,6 +3,7 @@ use Rattle.std.proofs.Common.{◌≡◌, ◌∙◌, ◌⊎◌, ℕ, Bool, true, 
 use Rattle.std.specs.Prelude.{codes}
 use Rattle.base_device.specs.Devices.{HasReadCause, IsRun, Tells}
 use Rattle.base_device.specs.Inputs.{IsToldUnread, IsUnread}
+use Rattle.base_device.specs.Tellings.{told_status}
 use Rattle.base_device.specs.declared.status.Status.{Status}
 use Rattle.base_device.specs.declared.status.Status.TheVariants as statuses
 use Rattle.base_device.specs.declared.whole.InputError.{InputError}
@@ -12,7 +13,7 @@ use Rattle.bench_setup.specs.declared.halt.Halt.{Halt}
 use Rattle.bench_setup.specs.declared.halt.Halt.TheVariants as halts
 use Rattle.bench_spec.specs.Opening.{Config}
 use Rattle.cmd_bench.specs.Met.{IsRunMet, TellsRefused}
-use Rattle.cmd_bench.specs.Told.{IsRunOn, run_status}
+use Rattle.cmd_bench.specs.Told.{IsRunOn}
 use Rattle.cmd_bench.specs.declared.shown.Shown.{Shown}
 
 -- a text was told with a status that is no fault, and no read failed
@@ -137,7 +138,7 @@ halt_words contents write_failures idle sink sink' halts.NoMemory answer told =
     told_words contents write_failures idle sink sink' (codes "no memory\n") statuses.NoMemory answer told (λ h. cc)
 
 -- a run is done or refused, which is neither a fault nor asks for other words
-pub status_is : (refused : Bool) → (run_status refused ≡ statuses.Fault → ⊥) × (run_status refused ≡ statuses.Usage → ⊥)
+pub status_is : (refused : Bool) → (told_status refused ≡ statuses.Fault → ⊥) × (told_status refused ≡ statuses.Usage → ⊥)
 status_is true = (λ h. cc, λ h. cc)
 status_is false = (λ h. cc, λ h. cc)
 
@@ -145,13 +146,13 @@ pub run_run : {I O : Type 0} (reads read_failures : I → ℕ) (contents : O →
     → IsRunOn contents write_failures idle config script shown sink sink' answer → read_failures source' ≡ read_failures source
     → IsRun reads read_failures write_failures idle source source' sink sink' answer
 run_run reads read_failures contents write_failures idle config script shown source source' sink sink' answer (inl run) same =
-    told_run reads read_failures contents write_failures idle source source' sink sink' run.text (run_status run.refused) answer run.told (status_is run.refused).0 same
+    told_run reads read_failures contents write_failures idle source source' sink sink' run.text (told_status run.refused) answer run.told (status_is run.refused).0 same
 run_run reads read_failures contents write_failures idle config script shown source source' sink sink' answer (inr told) same =
     told_run reads read_failures contents write_failures idle source source' sink sink' (codes "no memory\n") statuses.NoMemory answer told (λ h. cc) same
 
 pub run_words : {O : Type 0} (contents : O → Option (List ℕ)) (write_failures idle : O → ℕ) (config : Config) (script : List ℕ) (shown : Shown) (sink sink' : O) (answer : Status)
     → IsRunOn contents write_failures idle config script shown sink sink' answer → answer ≡ statuses.Usage → ⊥
 run_words contents write_failures idle config script shown sink sink' answer (inl run) =
-    told_words contents write_failures idle sink sink' run.text (run_status run.refused) answer run.told (status_is run.refused).1
+    told_words contents write_failures idle sink sink' run.text (told_status run.refused) answer run.told (status_is run.refused).1
 run_words contents write_failures idle config script shown sink sink' answer (inr told) =
     told_words contents write_failures idle sink sink' (codes "no memory\n") statuses.NoMemory answer told (λ h. cc)

@@ -3,3 +3,5 @@ pub mod EndLemmas
 pub mod BookLemmas
 pub mod OpenLemmas
 pub mod NodeEndLemmas
+pub mod LoggedLemmas
+pub mod ShownLemmas

@@ -4,6 +4,7 @@ use Rattle.std.specs.Prelude.{IfOk, Result, Ok, Err, is_some, map, min, replicat
 use Rattle.std.specs.Global.{Global}
 use Rattle.std.specs.Option.{option_and_then, option_or}
 use Rattle.std.proofs.lemmas.List.{length-replicate, length-take, take-map, take_min}
+use Rattle.base_device.specs.declared.told.Told.{Told}
 use Rattle.bench_nodes.specs.Acts.{AreBooksOf}
 use Rattle.bench_nodes.specs.Acts as acts
 use Rattle.bench_nodes.specs.Crossings.{first_in}
@@ -16,13 +17,13 @@ use Rattle.bench_spec.specs.Taken.{Run, opened}
 use Rattle.bench_spec.specs.declared.opening.OpeningError.{OpeningError}
 use Rattle.fault_text.specs.declared.spots.RowPlace.{RowPlace}
 use Rattle.tab_law.specs.Books.{Laws}
-use Rattle.cmd_bench.specs.Nodes.{AreOpenNodes, AreOpened, IsNodesRun, IsOpenNode, IsOpened, IsRunOnOpen, node_refusal, opened_by}
+use Rattle.cmd_bench.specs.Nodes.{AreOpenNodes, AreOpened, IsEnded, IsNodesRun, IsOpenNode, IsOpened, IsRunOnOpen, node_refusal, opened_by}
 use Rattle.cmd_bench.specs.Told.{opening_text_at, opening_told, unbound_at}
 use Rattle.cmd_bench.specs.declared.nodes.AllOpened.{AllOpened}
 use Rattle.cmd_bench.specs.declared.nodes.AllOpened.TheVariants as all
+use Rattle.cmd_bench.specs.declared.nodes.Ended.{Ended}
 use Rattle.cmd_bench.specs.declared.nodes.Opened.{Opened}
 use Rattle.cmd_bench.specs.declared.nodes.Opened.TheVariants as tried
-use Rattle.cmd_bench.specs.declared.opening.Outcome.{Outcome}
 use Rattle.cmd_bench.specs.declared.shown.Shown.{Shown}
 use Rattle.cmd_bench.proofs.BookLemmas.{same_books}
 use Rattle.cmd_bench.proofs.RunLemmas.{reason_of, told_at}
@@ -156,30 +157,30 @@ pub books_there : (books : List Laws) (setups : List Setup) (made : AllOpened) (
 books_there books setups made nodes there opened is same = books_of books setups there (are_there books setups made nodes there opened is same)
 
 -- a run on nodes that were opened is one on the nodes of a CONFIG
-run_is : (books : List Laws) (cut : ℕ) (setups : List Setup) (script : List ℕ) (shown : Shown) (nodes : List Node) (text : List ℕ) (refused : Bool) → AreOpenNodes books setups nodes
-    → IsRunOnOpen cut nodes script shown text refused → IsNodesRun books cut setups script shown text refused
-run_is books cut setups script shown nodes text true are run = inr (record { nodes = nodes; are = are; run = run })
-run_is books cut setups script shown nodes text false are run = record { nodes = nodes; are = are; run = run }
+run_is : (books : List Laws) (cut : ℕ) (setups : List Setup) (script : List ℕ) (shown : Shown) (nodes new : List Node) (text : List ℕ) (refused : Bool) → AreOpenNodes books setups nodes
+    → IsRunOnOpen cut nodes script shown new text refused → IsNodesRun books cut setups script shown new text refused
+run_is books cut setups script shown nodes new text true are run = inr (record { nodes = nodes; are = are; run = run })
+run_is books cut setups script shown nodes new text false are run = record { nodes = nodes; are = are; run = run }
 
-pub ran_there : {E : Type 0} (books : List Laws) (cut : ℕ) (setups : List Setup) (script : List ℕ) (shown : Shown) (made : AllOpened) (nodes : Vec Node Global) (there : List Node) (result : Result Outcome E)
-    → AreOpened books setups made → made ≡ all.Nodes nodes → there ≡ nodes.items
-    → IfOk result (λ run. IsRunOnOpen cut there script shown run.text.items run.refused)
-    → IfOk result (λ run. IsNodesRun books cut setups script shown run.text.items run.refused)
-ran_there books cut setups script shown made nodes there (Err e) opened is same run = tt
-ran_there books cut setups script shown made nodes there (Ok outcome) opened is same run =
-    run_is books cut setups script shown there outcome.text.items outcome.refused (are_there books setups made nodes there opened is same) run
+pub ran_there : {E : Type 0} (books : List Laws) (cut : ℕ) (setups : List Setup) (script : List ℕ) (shown : Shown) (made : AllOpened) (nodes : Vec Node Global) (result : Result Ended E)
+    → AreOpened books setups made → made ≡ all.Nodes nodes
+    → IfOk result (λ ended. IsRunOnOpen cut nodes.items script shown ended.nodes.items ended.run.text.items ended.run.refused)
+    → IfOk result (IsEnded books cut setups script shown)
+ran_there books cut setups script shown made nodes (Err e) opened is run = tt
+ran_there books cut setups script shown made nodes (Ok ended) opened is run =
+    run_is books cut setups script shown nodes.items ended.nodes.items ended.run.text.items ended.run.refused (are_there books setups made nodes nodes.items opened is refl) run
 
 -- a node that is not opened, as it is told
-refused_first : (books : List Laws) (cut : ℕ) (setups : List Setup) (script : List ℕ) (shown : Shown) (outcome : Outcome) (text : List ℕ)
+refused_first : (books : List Laws) (cut : ℕ) (setups : List Setup) (script : List ℕ) (shown : Shown) (new : List Node) (outcome : Told) (text : List ℕ)
     → first_in (node_refusal books) setups ≡ Some text → outcome.text.items ≡ text → outcome.refused ≡ true
-    → IsNodesRun books cut setups script shown outcome.text.items outcome.refused
-refused_first books cut setups script shown outcome text first told is =
-    let there : IsNodesRun books cut setups script shown outcome.text.items true = inl (first ∙ ap Some (sym told)) in
-    subst (λ (b : Bool). IsNodesRun books cut setups script shown outcome.text.items b) (sym is) there
+    → IsNodesRun books cut setups script shown new outcome.text.items outcome.refused
+refused_first books cut setups script shown new outcome text first told is =
+    let there : IsNodesRun books cut setups script shown new outcome.text.items true = inl (first ∙ ap Some (sym told)) in
+    subst (λ (b : Bool). IsNodesRun books cut setups script shown new outcome.text.items b) (sym is) there
 
-pub refused_there : (books : List Laws) (cut : ℕ) (setups : List Setup) (script : List ℕ) (shown : Shown) (made : AllOpened) (text : Vec ℕ Global) (outcome : Outcome)
+pub refused_there : (books : List Laws) (cut : ℕ) (setups : List Setup) (script : List ℕ) (shown : Shown) (new : List Node) (made : AllOpened) (text : Vec ℕ Global) (outcome : Told)
     → AreOpened books setups made → made ≡ all.Refused text → outcome ≡ record { text = text; refused = true }
-    → IsNodesRun books cut setups script shown outcome.text.items outcome.refused
-refused_there books cut setups script shown made text outcome opened is told =
-    refused_first books cut setups script shown outcome text.items (subst (λ (o : AllOpened). AreOpened books setups o) is opened)
-    (ap (λ (o : Outcome). o.text.items) told) (ap (λ (o : Outcome). o.refused) told)
+    → IsNodesRun books cut setups script shown new outcome.text.items outcome.refused
+refused_there books cut setups script shown new made text outcome opened is told =
+    refused_first books cut setups script shown new outcome text.items (subst (λ (o : AllOpened). AreOpened books setups o) is opened)
+    (ap (λ (o : Told). o.text.items) told) (ap (λ (o : Told). o.refused) told)

@@ -2,6 +2,7 @@
 use Rattle.std.proofs.Common.{◌≡◌, ◌∙◌, ℕ, Bool, true, false, List, Option, Some, None, ap, subst, sym}
 use Rattle.std.specs.Prelude.{IfOk, Result, Ok, Err, map, option_map}
 use Rattle.std.specs.Option.{option_and_then, option_or}
+use Rattle.base_device.specs.declared.told.Told.{Told}
 use Rattle.bench_open.specs.Faults.{IsErrorFor}
 use Rattle.bench_spec.specs.Opening.{Config, laws_of, opening_refusal, settings_of}
 use Rattle.bench_spec.specs.Taken.{Run, opened}
@@ -10,7 +11,6 @@ use Rattle.bench_spec.specs.declared.opening.OpeningError.TheVariants as errors
 use Rattle.fault_text.specs.declared.spots.RowPlace.{RowPlace}
 use Rattle.script_text.specs.RunLines.{first_bad_run}
 use Rattle.cmd_bench.specs.Told.{IsBenchRun, IsRunIn, bad_text, opening_text_at, refusal_of, unbound_at}
-use Rattle.cmd_bench.specs.declared.opening.Outcome.{Outcome}
 use Rattle.cmd_bench.specs.declared.shown.Shown.{Shown}
 
 -- where the bench is opened, the script alone can be refused
@@ -63,7 +63,7 @@ refused_of config script shown error text for told =
     ap whole (reason_of config error text for told) ∙ ap first told
 
 -- the same of an answer that may want memory
-pub runs_of : {E : Type 0} (config : Config) (script : List ℕ) (shown : Shown) (core : Run) (accounts : List ℕ) (result : Result Outcome E) → opening_refusal config ≡ None
+pub runs_of : {E : Type 0} (config : Config) (script : List ℕ) (shown : Shown) (core : Run) (accounts : List ℕ) (result : Result Told E) → opening_refusal config ≡ None
     → core ≡ opened (settings_of config) → accounts ≡ map (λ account. account.id) config.accounts
     → IfOk result (λ run. IsRunIn core script shown accounts run.text.items run.refused)
     → IfOk result (λ run. IsBenchRun config script shown run.text.items run.refused)
@@ -72,7 +72,7 @@ runs_of config script shown core accounts (Ok outcome) none is ids run =
     run_of config script shown core accounts outcome.text.items outcome.refused none is ids run
 
 -- an opening that is refused, as it is told
-pub refused_outcome : (config : Config) (script : List ℕ) (shown : Shown) (place : Option RowPlace) (error : OpeningError) (outcome : Outcome) → place ≡ unbound_at config
+pub refused_outcome : (config : Config) (script : List ℕ) (shown : Shown) (place : Option RowPlace) (error : OpeningError) (outcome : Told) → place ≡ unbound_at config
     → IsErrorFor (opening_refusal config) error → opening_text_at (laws_of config) place error ≡ Some outcome.text.items → outcome.refused ≡ true
     → IsBenchRun config script shown outcome.text.items outcome.refused
 refused_outcome config script shown place error outcome there for told is =

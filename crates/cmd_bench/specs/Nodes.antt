@@ -1,7 +1,9 @@
 -- What is told of nodes that are opened and of a script that is run on them.
-use Rattle.std.specs.Prelude.{◌≡◌, ◌⊎◌, ℕ, Bool, true, false, List, [], ◌∷◌, ◌++◌, codes, is_some, map, replicate, take, Option, Some, None, option_map}
+use Rattle.std.specs.Prelude.{◌≡◌, ◌⊎◌, ℕ, Bool, true, false, List, [], ◌∷◌, ◌++◌, codes, is_some, map, replicate, take}
+use Rattle.std.specs.Prelude.{Option, Some, None, option_map}
 use Rattle.base_device.specs.Devices.{Tells}
 use Rattle.base_device.specs.Inputs.{IsInput}
+use Rattle.base_device.specs.Tellings.{told_status}
 use Rattle.base_device.specs.declared.status.Status.{Status}
 use Rattle.base_device.specs.declared.status.Status.TheVariants as statuses
 use Rattle.bench_item.specs.declared.limit.TheConstants.{MAX_SHARDS}
@@ -21,9 +23,10 @@ use Rattle.tab_law.specs.Books.{Laws}
 use Rattle.cmd_bench.specs.Met.{TellsRefused}
 use Rattle.cmd_bench.specs.declared.nodes.AllOpened.{AllOpened}
 use Rattle.cmd_bench.specs.declared.nodes.AllOpened.TheVariants as all
+use Rattle.cmd_bench.specs.declared.nodes.Ended.{Ended}
 use Rattle.cmd_bench.specs.declared.nodes.Opened.{Opened}
 use Rattle.cmd_bench.specs.declared.nodes.Opened.TheVariants as tried
-use Rattle.cmd_bench.specs.Told.{bad_text, if_shown, opening_told, run_status}
+use Rattle.cmd_bench.specs.Told.{bad_text, if_shown, opening_told}
 use Rattle.cmd_bench.specs.declared.shown.Shown.{Shown}
 
 -- what a node's bench is opened with, of registries with these laws: the first of them, one for each shard
@@ -54,40 +57,55 @@ abbrev pub node_ends : Shown → List Node → List ℕ
 node_ends shown nodes = if_shown shown.lines (lines_told nodes) ++ if_shown shown.totals (totals_told nodes)
 
 -- what is printed where lines are run on nodes: what they print, and the end
-pub record NodesText (cut : ℕ) (old : List Node) (lines : List NodeLine) (shown : Shown) (text : List ℕ) : Type 0 where
-  pub new : List Node
+pub record NodesText (cut : ℕ) (old : List Node) (lines : List NodeLine) (shown : Shown) (new : List Node)
+    (text : List ℕ) : Type 0 where
   pub steps : List ℕ
   pub ran : RunsLines cut old [] lines new steps
   pub printed : text ≡ if_shown shown.steps steps ++ node_ends shown new
 
 -- what is printed of a script's run on nodes that are open, and whether it is a refusal
-abbrev pub IsRunOnOpen : (cut : ℕ) → List Node → (script : List ℕ) → Shown → (text : List ℕ) → Bool → Type 0
-IsRunOnOpen cut nodes script shown text true = option_map bad_text (first_bad_node_line nodes script) ≡ Some text
-IsRunOnOpen cut nodes script shown text false =
-    (first_bad_node_line nodes script ≡ None) × NodesText cut nodes (nodes_script_of nodes script) shown text
+abbrev pub IsRunOnOpen : (cut : ℕ) → List Node → (script : List ℕ) → Shown → (new : List Node) → (text : List ℕ)
+    → Bool → Type 0
+IsRunOnOpen cut nodes script shown new text true = option_map bad_text (first_bad_node_line nodes script) ≡ Some text
+IsRunOnOpen cut nodes script shown new text false =
+    (first_bad_node_line nodes script ≡ None) × NodesText cut nodes (nodes_script_of nodes script) shown new text
 
 -- all nodes were opened, and a script was run on them
-pub record RunsOpened (books : List Laws) (cut : ℕ) (setups : List Setup) (script : List ℕ) (shown : Shown) (text : List ℕ) (refused : Bool) : Type 0 where
+pub record RunsOpened
+    (books : List Laws) (cut : ℕ) (setups : List Setup) (script : List ℕ) (shown : Shown) (new : List Node)
+    (text : List ℕ) (refused : Bool) : Type 0 where
   pub nodes : List Node
   pub are : AreOpenNodes books setups nodes
-  pub run : IsRunOnOpen cut nodes script shown text refused
+  pub run : IsRunOnOpen cut nodes script shown new text refused
 
 -- what is printed of a script's run on the nodes of a CONFIG, and whether it is a refusal: of the first node that is
 -- not opened, or of a line of the script
-abbrev pub IsNodesRun : (books : List Laws) → (cut : ℕ) → (setups : List Setup) → (script : List ℕ) → Shown → (text : List ℕ) → Bool → Type 0
-IsNodesRun books cut setups script shown text true =
-    (first_in (node_refusal books) setups ≡ Some text) ⊎ RunsOpened books cut setups script shown text true
-IsNodesRun books cut setups script shown text false = RunsOpened books cut setups script shown text false
+abbrev pub IsNodesRun : (books : List Laws) → (cut : ℕ) → (setups : List Setup) → (script : List ℕ) → Shown
+    → (new : List Node) → (text : List ℕ) → Bool → Type 0
+IsNodesRun books cut setups script shown new text true =
+    (first_in (node_refusal books) setups ≡ Some text) ⊎ RunsOpened books cut setups script shown new text true
+IsNodesRun books cut setups script shown new text false = RunsOpened books cut setups script shown new text false
+
+-- that, and the nodes behind it
+abbrev pub IsEnded : (books : List Laws) → (cut : ℕ) → (setups : List Setup) → (script : List ℕ) → Shown → Ended
+    → Type 0
+IsEnded books cut setups script shown ended =
+    IsNodesRun books cut setups script shown ended.nodes.items ended.run.text.items ended.run.refused
 
 -- The text of a run was taken whole, and its status is the answer, or a write fault came.
-pub record NodesTold {O : Type 0} (contents : O → Option (List ℕ)) (failures idle : O → ℕ) (books : List Laws) (cut : ℕ) (setups : List Setup) (script : List ℕ) (shown : Shown) (old new : O) (answer : Status) : Type 0 where
+pub record NodesTold
+    {O : Type 0} (contents : O → Option (List ℕ)) (failures idle : O → ℕ) (books : List Laws) (cut : ℕ)
+    (setups : List Setup) (script : List ℕ) (shown : Shown) (old new : O) (answer : Status) : Type 0 where
+  pub nodes : List Node
   pub text : List ℕ
   pub refused : Bool
-  pub run : IsNodesRun books cut setups script shown text refused
-  pub told : Tells contents failures idle old new text (run_status refused) answer
+  pub run : IsNodesRun books cut setups script shown nodes text refused
+  pub told : Tells contents failures idle old new text (told_status refused) answer
 
 -- or memory ran out
-abbrev pub IsNodesRunOn : {O : Type 0} → (contents : O → Option (List ℕ)) → (failures idle : O → ℕ) → (books : List Laws) → (cut : ℕ) → (setups : List Setup) → (script : List ℕ) → Shown → (old new : O) → Status → Type 0
+abbrev pub IsNodesRunOn : {O : Type 0} → (contents : O → Option (List ℕ)) → (failures idle : O → ℕ)
+    → (books : List Laws) → (cut : ℕ) → (setups : List Setup) → (script : List ℕ) → Shown → (old new : O) → Status
+    → Type 0
 IsNodesRunOn contents failures idle books cut setups script shown old new answer =
     NodesTold contents failures idle books cut setups script shown old new answer
     ⊎ Tells contents failures idle old new (codes "no memory\n") statuses.NoMemory answer
@@ -103,20 +121,29 @@ AreOpened books setups (all.Nodes nodes) = AreOpenNodes books setups nodes.items
 AreOpened books setups (all.Refused text) = first_in (node_refusal books) setups ≡ Some text.items
 
 -- what nodes are opened with was read, and then a script
-pub record AreNodeInputs {I : Type 0} (remaining : I → Option (List ℕ)) (reads failures : I → ℕ) (old new : I) (setups : List Setup) (script : List ℕ) : Type 0 where
+pub record AreNodeInputs
+    {I : Type 0} (remaining : I → Option (List ℕ)) (reads failures : I → ℕ) (old new : I) (setups : List Setup)
+    (script : List ℕ) : Type 0 where
   pub after_setups : I
   pub setups_read : AreSetupsFrom remaining reads failures old after_setups setups
   pub script_read : IsInput remaining reads failures after_setups new script
 
--- what nodes are opened with was read, and then a script, and what is told is the script's run on all of them, by the laws of all roles
-pub record RunsOnNodes {I O : Type 0} (remaining : I → Option (List ℕ)) (reads failures : I → ℕ) (contents : O → Option (List ℕ)) (write_failures idle : O → ℕ) (cut : ℕ) (shown : Shown) (source source' : I) (sink sink' : O) (answer : Status) : Type 0 where
+-- what nodes are opened with was read, and then a script, and what is told is the script's run on all of them,
+-- by the laws of all roles
+pub record RunsOnNodes
+    {I O : Type 0} (remaining : I → Option (List ℕ)) (reads failures : I → ℕ) (contents : O → Option (List ℕ))
+    (write_failures idle : O → ℕ) (cut : ℕ) (shown : Shown) (source source' : I) (sink sink' : O)
+    (answer : Status) : Type 0 where
   pub setups : List Setup
   pub script : List ℕ
   pub inputs : AreNodeInputs remaining reads failures source source' setups script
-  pub run : IsNodesRunOn contents write_failures idle (replicate MAX_SHARDS all_laws) cut setups script shown sink sink' answer
+  pub run : IsNodesRunOn contents write_failures idle (replicate MAX_SHARDS all_laws) cut setups script shown
+      sink sink' answer
 
 -- a script is run, or a text that was read before is refused, or memory ran out
-abbrev pub IsNodesMet : {I O : Type 0} → (remaining : I → Option (List ℕ)) → (reads failures : I → ℕ) → (contents : O → Option (List ℕ)) → (write_failures idle : O → ℕ) → (cut : ℕ) → Shown → (source source' : I) → (sink sink' : O) → Status → Type 0
+abbrev pub IsNodesMet : {I O : Type 0} → (remaining : I → Option (List ℕ)) → (reads failures : I → ℕ)
+    → (contents : O → Option (List ℕ)) → (write_failures idle : O → ℕ) → (cut : ℕ) → Shown → (source source' : I)
+    → (sink sink' : O) → Status → Type 0
 IsNodesMet remaining reads failures contents write_failures idle cut shown source source' sink sink' answer =
     RunsOnNodes remaining reads failures contents write_failures idle cut shown source source' sink sink' answer
     ⊎ TellsRefused remaining reads failures contents write_failures idle source' sink sink' answer

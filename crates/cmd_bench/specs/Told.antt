@@ -1,7 +1,9 @@
 -- What is told of a bench that is opened and of a script that is run on it.
-use Rattle.std.specs.Prelude.{◌≡◌, ◌⊎◌, ℕ, min, Bool, true, false, List, [], ◌++◌, codes, decimal, map, replicate, Option, Some, None, option_map}
+use Rattle.std.specs.Prelude.{◌≡◌, ◌⊎◌, ℕ, min, Bool, true, false, List, [], ◌++◌, codes, decimal, map, replicate}
+use Rattle.std.specs.Prelude.{Option, Some, None, option_map}
 use Rattle.std.specs.Option.{option_and_then, option_or}
 use Rattle.base_device.specs.Devices.{Tells}
+use Rattle.base_device.specs.Tellings.{told_status}
 use Rattle.base_device.specs.declared.status.Status.{Status}
 use Rattle.base_device.specs.declared.status.Status.TheVariants as statuses
 use Rattle.bench_item.specs.declared.limit.TheConstants.{MAX_SHARDS}
@@ -36,6 +38,12 @@ if_shown false text = []
 abbrev pub ends_text : Shown → Run → List ℕ → List ℕ
 ends_text shown run accounts = if_shown shown.lines (lines_text run) ++ if_shown shown.totals (totals_text run accounts)
 
+-- lines were run, and what they print was put, or not
+pub record RunShown (old : Run) (lines : List RunLine) (steps_shown : Bool) (new : Run) (text : List ℕ) : Type 0 where
+  pub steps : List ℕ
+  pub ran : Ran old lines new steps
+  pub put : text ≡ if_shown steps_shown steps
+
 -- what is printed where lines are run: what they print, and the end
 pub record RunText (old : Run) (lines : List RunLine) (shown : Shown) (accounts text : List ℕ) : Type 0 where
   pub new : Run
@@ -51,8 +59,8 @@ opening_text laws errors.Names =
     Some (codes "not opened: names\n  wanted: a host, a realm and peers of 1 to 255 octets of ASCII, each peer once\n")
 opening_text laws errors.Laws = Some (codes "not opened: laws\n")
 opening_text laws (errors.Unbound name) = Some (unbound_text laws None name)
-opening_text laws errors.Account =
-    Some (codes "not opened: account\n  wanted: numbers from 1, each once, at most 2^62 units, 1024 accounts on a page\n")
+opening_text laws errors.Account = Some
+    (codes "not opened: account\n  wanted: numbers from 1, each once, at most 2^62 units, 1024 accounts on a page\n")
 opening_text laws errors.NoMemory = None
 
 -- the first row with a name that the laws lack: of the peers' table, of the clients' or of the servers'
@@ -78,7 +86,8 @@ bad_text line = codes "bad line " ++ decimal line ++ codes "\n"
 
 -- what is printed of a script's run on a bench that is open, and whether it is a refusal
 abbrev pub IsRunIn : Run → (script : List ℕ) → Shown → (accounts text : List ℕ) → Bool → Type 0
-IsRunIn run script shown accounts text true = option_map bad_text (first_bad_run run.settings.node.laws script) ≡ Some text
+IsRunIn run script shown accounts text true = option_map bad_text (first_bad_run run.settings.node.laws script)
+    ≡ Some text
 IsRunIn run script shown accounts text false =
     (first_bad_run run.settings.node.laws script ≡ None)
     × RunText run (run_script_of run.settings.node.laws script) shown accounts text
@@ -96,11 +105,6 @@ IsBenchRun config script shown text false =
     × RunText (opened (settings_of config)) (run_script_of (laws_of config) script) shown
     (map (λ account. account.id) config.accounts) text
 
--- the status of a run
-abbrev pub run_status : Bool → Status
-run_status true = statuses.Refused
-run_status false = statuses.Done
-
 -- The text of a run was taken whole, and its status is the answer, or a write fault came; or memory ran out.
 pub record RunTold
     {O : Type 0} (contents : O → Option (List ℕ)) (failures idle : O → ℕ) (config : Config) (script : List ℕ)
@@ -108,7 +112,7 @@ pub record RunTold
   pub text : List ℕ
   pub refused : Bool
   pub run : IsBenchRun config script shown text refused
-  pub told : Tells contents failures idle old new text (run_status refused) answer
+  pub told : Tells contents failures idle old new text (told_status refused) answer
 
 abbrev pub IsRunOn : {O : Type 0} → (contents : O → Option (List ℕ)) → (failures idle : O → ℕ) → Config
     → (script : List ℕ) → Shown → (old new : O) → Status → Type 0

@@ -1,16 +1,16 @@
 //! All nodes of a CONFIG opened, a script run on them, and that told.
-ghost use Rattle.std.specs.Prelude.{◌≡◌, ◌≢◌, ◌<◌, ◌≤◌, ◌+◌, ◌-◌, ◌*◌, ◌^◌, ◌++◌, IfErr, IfOk, OnOk, map, max, replicate, take};
+ghost use Rattle.std.specs.Prelude.{◌≡◌, ◌≢◌, ◌<◌, ◌≤◌, ◌+◌, ◌-◌, ◌*◌, ◌^◌, ◌++◌, IfErr, IfOk, OnOk, map, max};
+ghost use Rattle.std.specs.Prelude.{replicate, take};
 ghost use Rattle.base_device.specs.Devices.{IsRun};
 ghost use Rattle.bench_nodes.specs.Acts.{AreBooksOf, settings_of};
 ghost use Rattle.bench_setup.specs.Halts.{IsHalt};
 ghost use Rattle.role_tables.specs.Roles.{all_laws};
-ghost use Rattle.cmd_bench.specs.Nodes.{AreNodeInputs, AreOpened, IsNodesMet, IsNodesRun, IsNodesRunOn, IsOpened, IsRunOnOpen, NodesText, node_ends};
+ghost use Rattle.cmd_bench.specs.Nodes.{AreNodeInputs, AreOpened, IsEnded, IsNodesMet, IsNodesRunOn, IsOpened};
+ghost use Rattle.cmd_bench.specs.Nodes.{IsRunOnOpen, NodesText, node_ends};
 
-use crate::opening::{
-    Outcome, bad_line, numbers_of, opening_text_at, refusal, run_status, unbound_at,
-};
+use crate::opening::{bad_line, numbers_of, opening_text_at, unbound_at};
 use crate::shown::Shown;
-use base_device::{ByteSink, FileSource, MAX_IDLE_WRITES, MAX_READS, Status, tell};
+use base_device::{ByteSink, FileSource, MAX_IDLE_WRITES, MAX_READS, Status, Told, tell};
 use bench_core::Core;
 use bench_item::MAX_SHARDS;
 use bench_nodes::{Node, NodeLine, put_node_lines, put_node_totals, read_nodes_script, run_nodes};
@@ -110,7 +110,7 @@ fn nodes_text(
     shown: Shown,
 ) -> Result<Vec<u8>, AllocError>
     requires { AreBooksOf (map (λ r. r.book) registries.now) (settings_of nodes.old) }
-    ensures { IfOk result (λ text. NodesText cut nodes.old lines.items shown text.items) }
+    ensures { IfOk result (λ text. NodesText cut nodes.old lines.items shown nodes.new text.items) }
 {
     let mut room = Box::new(alloc, Stepped::new())?;
     let mut text = Vec::new(alloc);
@@ -130,18 +130,42 @@ fn run_there(
     registries: &[Registry],
     script: &[u8],
     shown: Shown,
-) -> Result<Outcome, AllocError>
+) -> Result<Told, AllocError>
     requires { AreBooksOf (map (λ r. r.book) registries.now) (settings_of nodes.old) }
-    ensures { IfOk result (λ run. IsRunOnOpen cut nodes.old script.now shown run.text.items run.refused) }
+    ensures { IfOk result (λ run. IsRunOnOpen cut nodes.old script.now shown nodes.new run.text.items run.refused) }
 {
     match read_nodes_script(alloc, nodes, script) {
-        Ok(lines) => Ok(Outcome {
+        Ok(lines) => Ok(Told {
             text: nodes_text(alloc, cut, nodes, registries, lines, shown)?,
             refused: false,
         }),
         Err(LinesError::NoMemory) => Err(AllocError),
-        Err(LinesError::BadLine(line)) => Ok(refusal(bad_line(alloc, line)?)),
+        Err(LinesError::BadLine(line)) => Ok(Told::refusal(bad_line(alloc, line)?)),
     }
+}
+
+/// What is told of a script's run, and the nodes behind it; none where they are not all opened.
+#[derive(Drop)]
+pub(crate) struct Ended {
+    pub(crate) run: Told,
+    pub(crate) nodes: Vec<Node>,
+}
+
+/// A script's run on nodes that were opened.
+fn run_through(
+    alloc: Global,
+    cut: usize,
+    mut nodes: Vec<Node>,
+    registries: &[Registry],
+    script: &[u8],
+    shown: Shown,
+) -> Result<Ended, AllocError>
+    requires { AreBooksOf (map (λ r. r.book) registries.now) (settings_of nodes.items) }
+    ensures { IfOk result (λ ended. IsRunOnOpen cut nodes.items script.now shown
+        ended.nodes.items ended.run.text.items ended.run.refused) }
+{
+    let run = run_there(alloc, cut, &mut nodes, registries, script, shown)?;
+    Ok(Ended { run, nodes })
 }
 
 /// A script's run on nodes that are opened with these registries.
@@ -152,12 +176,15 @@ fn run_opened(
     registries: &[Registry],
     script: &[u8],
     shown: Shown,
-) -> Result<Outcome, AllocError>
-    ensures { IfOk result (λ run. IsNodesRun (map (λ r. r.book) registries.now) cut setups.items script.now shown run.text.items run.refused) }
+) -> Result<Ended, AllocError>
+    ensures { IfOk result (IsEnded (map (λ r. r.book) registries.now) cut setups.items script.now shown) }
 {
     match open_nodes(alloc, setups, registries)? {
-        AllOpened::Nodes(mut nodes) => run_there(alloc, cut, &mut nodes, registries, script, shown),
-        AllOpened::Refused(text) => Ok(refusal(text)),
+        AllOpened::Nodes(nodes) => run_through(alloc, cut, nodes, registries, script, shown),
+        AllOpened::Refused(text) => Ok(Ended {
+            run: Told::refusal(text),
+            nodes: Vec::new(alloc),
+        }),
     }
 }
 
@@ -172,11 +199,11 @@ struct NodesJob<'a> {
 }
 
 impl WithCalls for NodesJob<'_> {
-    type Answer = Outcome;
+    type Answer = Ended;
 
-    ghost answers = { λ job laws run. IsNodesRun laws job.cut job.setups.items job.script.now job.shown run.text.items run.refused };
+    ghost answers = { λ job laws ended. IsEnded laws job.cut job.setups.items job.script.now job.shown ended };
 
-    fn run(self, registries: Vec<Registry>) -> Result<Outcome, AllocError> {
+    fn run(self, registries: Vec<Registry>) -> Result<Ended, AllocError> {
         let NodesJob {
             alloc,
             cut,
@@ -188,9 +215,29 @@ impl WithCalls for NodesJob<'_> {
     }
 }
 
-/// Opens nodes with callbacks that answer by the laws of all roles, runs a script on them, and prints that. Octets come at
-/// the other end of a connection in pieces of at most `cut`. Refused are, in this order, the first node that is not opened,
-/// and a line of the script that has another form, the first of them; then nothing is run.
+/// A script's run on nodes whose callbacks answer by the laws of all roles.
+pub(crate) fn run_setups(
+    alloc: Global,
+    cut: usize,
+    setups: Vec<Setup>,
+    script: &[u8],
+    shown: Shown,
+) -> Result<Ended, AllocError>
+    ensures { IfOk result (IsEnded (replicate MAX_SHARDS all_laws) cut setups.items script.now shown) }
+{
+    let job = NodesJob {
+        alloc,
+        cut,
+        setups,
+        script,
+        shown,
+    };
+    with_calls(alloc, MAX_SHARDS, job)
+}
+
+/// Opens nodes with callbacks that answer by the laws of all roles, runs a script on them, and prints that. Octets come
+/// at the other end of a connection in pieces of at most `cut`. Refused are, in this order, the first node that is not
+/// opened, and a line of the script that has another form, the first of them; then nothing is run.
 pub fn run_nodes_on<O: ByteSink>(
     alloc: Global,
     cut: usize,
@@ -201,31 +248,25 @@ pub fn run_nodes_on<O: ByteSink>(
 ) -> Status
     requires idle { O.idle sink.old ≡ 0 }
     requires failures { O.failures sink.old < 2 ^ 64 - 1 }
-    ensures run { IsNodesRunOn O.contents O.failures O.idle (replicate MAX_SHARDS all_laws) cut setups.items script.now shown sink.old sink.new result }
+    ensures run { IsNodesRunOn O.contents O.failures O.idle (replicate MAX_SHARDS all_laws) cut setups.items script.now
+        shown sink.old sink.new result }
     ensures row { O.most_idle sink.new ≤ max (O.most_idle sink.old) MAX_IDLE_WRITES }
 {
-    let job = NodesJob {
-        alloc,
-        cut,
-        setups,
-        script,
-        shown,
-    };
-    match with_calls(alloc, MAX_SHARDS, job) {
-        Ok(run) => tell(sink, &run.text, run_status(run.refused)),
+    match run_setups(alloc, cut, setups, script, shown) {
+        Ok(ended) => tell(sink, &ended.run.text, ended.run.status()),
         Err(AllocError) => tell(sink, b"no memory\n", Status::NoMemory),
     }
 }
 
 /// What a run of all nodes needs.
 #[derive(Drop)]
-struct AllReady {
-    setups: Vec<Setup>,
-    script: Vec<u8>,
+pub(crate) struct AllReady {
+    pub(crate) setups: Vec<Setup>,
+    pub(crate) script: Vec<u8>,
 }
 
 /// Reads a CONFIG and the files that its nodes name, and then a script.
-fn read_all_nodes<I: FileSource>(
+pub(crate) fn read_all_nodes<I: FileSource>(
     alloc: Global,
     config: &str,
     script: Option<&str>,
@@ -235,7 +276,8 @@ fn read_all_nodes<I: FileSource>(
     requires failures { I.failures source.old < 2 ^ 64 - 1 }
     ensures reads { I.reads source.new ≤ I.reads source.old + 258 * MAX_READS }
     ensures sound { OnOk result (I.failures source.new ≡ I.failures source.old) }
-    ensures ready { IfOk result (λ ready. AreNodeInputs I.remaining I.reads I.failures source.old source.new ready.setups.items ready.script.items) }
+    ensures ready { IfOk result (λ ready. AreNodeInputs I.remaining I.reads I.failures source.old source.new
+        ready.setups.items ready.script.items) }
     ensures halt { IfErr result (IsHalt I.remaining I.reads I.failures source.old source.new) }
 {
     let setups = read_nodes(alloc, config, source)?;
@@ -255,7 +297,8 @@ fn run_nodes_ready<O: ByteSink>(
 ) -> Status
     requires idle { O.idle sink.old ≡ 0 }
     requires failures { O.failures sink.old < 2 ^ 64 - 1 }
-    ensures run { IsNodesRunOn O.contents O.failures O.idle (replicate MAX_SHARDS all_laws) cut ready.setups.items ready.script.items shown
+    ensures run { IsNodesRunOn O.contents O.failures O.idle (replicate MAX_SHARDS all_laws) cut ready.setups.items
+        ready.script.items shown
         sink.old sink.new result }
     ensures row { O.most_idle sink.new ≤ max (O.most_idle sink.old) MAX_IDLE_WRITES }
 {
@@ -264,7 +307,8 @@ fn run_nodes_ready<O: ByteSink>(
 }
 
 /// Reads a CONFIG, the files that its nodes name beside it, and a script of a file or of standard input, and runs the
-/// script on all nodes. Refused are, in this order, what is read before the script, and then what `run_nodes_on` refuses.
+/// script on all nodes. Refused are, in this order, what is read before the script,
+/// and then what `run_nodes_on` refuses.
 pub fn run_all_nodes<I: FileSource, O: ByteSink>(
     alloc: Global,
     cut: usize,
@@ -281,7 +325,9 @@ pub fn run_all_nodes<I: FileSource, O: ByteSink>(
     ensures reads { I.reads source.new ≤ I.reads source.old + 258 * MAX_READS }
     ensures row { O.most_idle sink.new ≤ max (O.most_idle sink.old) MAX_IDLE_WRITES }
     ensures run { IsRun I.reads I.failures O.failures O.idle source.old source.new sink.old sink.new result }
-    ensures met { result ≢ Status.Fault → IsNodesMet I.remaining I.reads I.failures O.contents O.failures O.idle cut shown source.old source.new sink.old sink.new result }
+    ensures as_asked { result ≢ Status.Fault
+        → IsNodesMet I.remaining I.reads I.failures O.contents O.failures O.idle cut shown source.old source.new
+        sink.old sink.new result }
     ensures words { result ≢ Status.Usage }
 {
     match read_all_nodes(alloc, config, script, source) {

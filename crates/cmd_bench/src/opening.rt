@@ -4,10 +4,12 @@ ghost use Rattle.base_device.specs.Devices.{Tells};
 ghost use Rattle.bench_script.specs.Ran.{IsRunBy};
 ghost use Rattle.bench_open.specs.Given.{config_of, first_of};
 ghost use Rattle.fault_text.specs.Faults.{unbound_text};
-ghost use Rattle.cmd_bench.specs.Told.{IsBenchRun, IsRunIn, IsRunOn, bad_text, opened_with, opening_text, opening_text_at, run_status, unbound_at, unbound_in};
+ghost use Rattle.cmd_bench.specs.Told.{IsBenchRun, IsRunIn, IsRunOn, bad_text, opened_with, opening_text};
+ghost use Rattle.cmd_bench.specs.Told.{opening_text_at, unbound_at, unbound_in};
 
 use crate::shown::{Shown, run_text};
-use base_device::{ByteSink, MAX_IDLE_WRITES, Status, tell};
+use base_device::{ByteSink, MAX_IDLE_WRITES, Status, Told, tell};
+use base_progress::{Progress, Unwatched};
 use base_text::put_number;
 use bench_core::Core;
 use bench_item::MAX_SHARDS;
@@ -33,22 +35,6 @@ const BAD_LAWS: &str = "not opened: laws\n";
 const BAD_ACCOUNT: &str =
     "not opened: account\n  wanted: numbers from 1, each once, at most 2^62 units, 1024 accounts on a page\n";
 
-/// What is told of a run, and whether it is a refusal.
-#[derive(Drop)]
-pub(crate) struct Outcome {
-    pub(crate) text: Vec<u8>,
-    pub(crate) refused: bool,
-}
-
-pub(crate) fn refusal(text: Vec<u8>) -> Outcome
-    ensures { result ≡ record { text = text; refused = true } }
-{
-    Outcome {
-        text,
-        refused: true,
-    }
-}
-
 /// `bad line N`: the first line of a script that has another form.
 pub fn bad_line(alloc: Global, line: usize) -> Result<Vec<u8>, AllocError>
     ensures { IfOk result (λ text. text.items ≡ bad_text line) }
@@ -59,7 +45,8 @@ pub fn bad_line(alloc: Global, line: usize) -> Result<Vec<u8>, AllocError>
     Ok(text)
 }
 
-/// The first row of a bench's tables with a name that these laws lack: of the peers' table, of the clients' or of the servers'.
+/// The first row of a bench's tables with a name that these laws lack: of the peers' table,
+/// of the clients' or of the servers'.
 fn unbound_in(laws: &LawBook, config: &Config) -> Option<RowPlace>
     ensures { result ≡ unbound_in laws.now config.now.peer config.now.client config.now.server }
 {
@@ -72,9 +59,11 @@ fn unbound_in(laws: &LawBook, config: &Config) -> Option<RowPlace>
     }
 }
 
-/// The first row of a bench's tables with a name that the laws of the first registry lack, and the line on which it begins.
+/// The first row of a bench's tables with a name that the laws of the first registry lack,
+/// and the line on which it begins.
 pub fn unbound_at(alloc: Global, config: &Config, registries: &[Registry]) -> Option<RowPlace>
-    ensures { result ≡ unbound_in (first_of (map (λ r. r.book) registries.now)) config.now.peer config.now.client config.now.server }
+    ensures { result ≡ unbound_in (first_of (map (λ r. r.book) registries.now)) config.now.peer config.now.client
+        config.now.server }
 {
     match registries.first() {
         Some(registry) => unbound_in(registry.laws(), config),
@@ -89,7 +78,8 @@ fn lacking_text(
     place: Option<RowPlace>,
     name: &[u8],
 ) -> Result<Vec<u8>, AllocError>
-    ensures { IfOk result (λ text. text.items ≡ unbound_text (first_of (map (λ r. r.book) registries.now)) place name.now) }
+    ensures { IfOk result (λ text. text.items
+        ≡ unbound_text (first_of (map (λ r. r.book) registries.now)) place name.now) }
 {
     match registries.first() {
         Some(registry) => unbound_text(alloc, registry.laws(), place, name),
@@ -104,7 +94,8 @@ pub fn opening_text_at(
     place: Option<RowPlace>,
     error: &OpeningError,
 ) -> Result<Vec<u8>, AllocError>
-    ensures { IfOk result (λ text. opening_text_at (first_of (map (λ r. r.book) registries.now)) place error.now ≡ Some text.items) }
+    ensures { IfOk result (λ text. opening_text_at (first_of (map (λ r. r.book) registries.now)) place error.now
+        ≡ Some text.items) }
 {
     match error {
         OpeningError::Unbound(name) => lacking_text(alloc, registries, place, name.as_slice()),
@@ -122,7 +113,8 @@ pub fn opening_text(
     registries: &[Registry],
     error: &OpeningError,
 ) -> Result<Vec<u8>, AllocError>
-    ensures { IfOk result (λ text. opening_text (first_of (map (λ r. r.book) registries.now)) error.now ≡ Some text.items) }
+    ensures { IfOk result (λ text. opening_text (first_of (map (λ r. r.book) registries.now)) error.now
+        ≡ Some text.items) }
 {
     match error {
         OpeningError::Limits => Vec::from_slice(alloc, BAD_LIMITS.as_bytes()),
@@ -135,25 +127,28 @@ pub fn opening_text(
 }
 
 /// A script's run on a bench that is open.
-fn run_in(
+fn run_in<P: Progress>(
     alloc: Global,
     core: &mut Core,
     registries: &[Registry],
     script: &[u8],
     shown: Shown,
     accounts: &[u64],
-) -> Result<Outcome, AllocError>
+    progress: &mut P,
+) -> Result<Told, AllocError>
     requires { IsRunBy core.old (map (λ r. r.book) registries.now) }
     ensures { IfOk result (λ run. IsRunIn core.old script.now shown accounts.now run.text.items run.refused) }
 {
     let mut room = Box::new(alloc, Stepped::new())?;
     match read_run_script(alloc, core.laws(), script) {
-        Ok(lines) => Ok(Outcome {
-            text: run_text(alloc, core, registries, &mut room, lines, shown, accounts)?,
+        Ok(lines) => Ok(Told {
+            text: run_text(
+                alloc, core, registries, &mut room, lines, shown, accounts, progress,
+            )?,
             refused: false,
         }),
         Err(LinesError::NoMemory) => Err(AllocError),
-        Err(LinesError::BadLine(line)) => Ok(refusal(bad_line(alloc, line)?)),
+        Err(LinesError::BadLine(line)) => Ok(Told::refusal(bad_line(alloc, line)?)),
     }
 }
 
@@ -165,55 +160,63 @@ pub(crate) fn numbers_of(alloc: Global, accounts: &[Account]) -> Result<Vec<u64>
 }
 
 /// A script's run on a bench that is opened with these registries.
-fn run_with(
+fn run_with<P: Progress>(
     alloc: Global,
     config: Config,
     registries: &[Registry],
     script: &[u8],
     shown: Shown,
-) -> Result<Outcome, AllocError>
-    ensures { IfOk result (λ run. IsBenchRun (config_of config (map (λ r. r.book) registries.now)) script.now shown run.text.items run.refused) }
+    progress: &mut P,
+) -> Result<Told, AllocError>
+    ensures { IfOk result (λ run. IsBenchRun (config_of config (map (λ r. r.book) registries.now)) script.now shown
+        run.text.items run.refused) }
 {
     let accounts = numbers_of(alloc, &config.accounts)?;
     let place = unbound_at(alloc, &config, registries);
     match Core::new(alloc, config, registries) {
-        Ok(mut core) => run_in(alloc, &mut core, registries, script, shown, &accounts),
-        Err(error) => Ok(refusal(opening_text_at(alloc, registries, place, &error)?)),
+        Ok(mut core) => run_in(
+            alloc, &mut core, registries, script, shown, &accounts, progress,
+        ),
+        Err(error) => Ok(Told::refusal(opening_text_at(alloc, registries, place, &error)?)),
     }
 }
 
 /// A script that is to be run on a bench.
 #[derive(Drop)]
-struct Job<'a> {
+struct Job<'a, P> {
     alloc: Global,
     config: Config,
     script: &'a [u8],
     shown: Shown,
+    progress: &'a mut P,
 }
 
-impl WithCalls for Job<'_> {
-    type Answer = Outcome;
+impl<P: Progress> WithCalls for Job<'_, P> {
+    type Answer = Told;
 
-    ghost answers = { λ job laws run. IsBenchRun (config_of job.config laws) job.script.now job.shown run.text.items run.refused };
+    ghost answers = { λ job laws run. IsBenchRun (config_of job.config laws) job.script.now job.shown run.text.items
+        run.refused };
 
-    fn run(self, registries: Vec<Registry>) -> Result<Outcome, AllocError> {
+    fn run(self, registries: Vec<Registry>) -> Result<Told, AllocError> {
         let Job {
             alloc,
             config,
             script,
             shown,
+            progress,
         } = self;
-        run_with(alloc, config, &registries, script, shown)
+        run_with(alloc, config, &registries, script, shown, progress)
     }
 }
 
 /// A script's run on a bench with callbacks that answer by the laws of all roles.
-fn run_all(
+fn run_all<P: Progress>(
     alloc: Global,
     config: Config,
     script: &[u8],
     shown: Shown,
-) -> Result<Outcome, AllocError>
+    progress: &mut P,
+) -> Result<Told, AllocError>
     ensures { IfOk result (λ run. IsBenchRun (opened_with config) script.now shown run.text.items run.refused) }
 {
     let count = config.shards.min(MAX_SHARDS as u64) as usize;
@@ -222,23 +225,14 @@ fn run_all(
         config,
         script,
         shown,
+        progress,
     };
     with_calls(alloc, count, job)
 }
 
-/// The status of a run.
-pub(crate) fn run_status(refused: bool) -> Status
-    ensures { result ≡ run_status refused }
-{
-    if refused {
-        Status::Refused
-    } else {
-        Status::Done
-    }
-}
-
-/// Opens a bench with callbacks that answer by the laws of all roles, runs a script on it, and prints that. Refused are, in this order, an
-/// opening, and a line of the script that has another form, the first of them; then nothing is run.
+/// Opens a bench with callbacks that answer by the laws of all roles, runs a script on it, and prints that. Refused
+/// are, in this order, an opening, and a line of the script that has another form, the first of them;
+/// then nothing is run.
 pub fn run_on<O: ByteSink>(
     alloc: Global,
     config: Config,
@@ -251,8 +245,25 @@ pub fn run_on<O: ByteSink>(
     ensures run { IsRunOn O.contents O.failures O.idle (opened_with config) script.now shown sink.old sink.new result }
     ensures row { O.most_idle sink.new ≤ max (O.most_idle sink.old) MAX_IDLE_WRITES }
 {
-    match run_all(alloc, config, script, shown) {
-        Ok(run) => tell(sink, &run.text, run_status(run.refused)),
+    run_watched_on(alloc, config, script, shown, sink, &mut Unwatched)
+}
+
+/// The same, and `progress` is told how far the run is.
+pub(crate) fn run_watched_on<O: ByteSink, P: Progress>(
+    alloc: Global,
+    config: Config,
+    script: &[u8],
+    shown: Shown,
+    sink: &mut O,
+    progress: &mut P,
+) -> Status
+    requires idle { O.idle sink.old ≡ 0 }
+    requires failures { O.failures sink.old < 2 ^ 64 - 1 }
+    ensures run { IsRunOn O.contents O.failures O.idle (opened_with config) script.now shown sink.old sink.new result }
+    ensures row { O.most_idle sink.new ≤ max (O.most_idle sink.old) MAX_IDLE_WRITES }
+{
+    match run_all(alloc, config, script, shown, progress) {
+        Ok(run) => tell(sink, &run.text, run.status()),
         Err(AllocError) => tell(sink, b"no memory\n", Status::NoMemory),
     }
 }

@@ -1,8 +1,9 @@
 //! What is printed of a run.
 ghost use Rattle.std.specs.Prelude.{◌≡◌, ◌++◌, IfOk, OnOk, map};
-ghost use Rattle.bench_script.specs.Ran.{IsRunBy};
-ghost use Rattle.cmd_bench.specs.Told.{RunText, ends_text, if_shown};
+ghost use Rattle.bench_script.specs.Ran.{Does, IsRunBy, Prints};
+ghost use Rattle.cmd_bench.specs.Told.{RunShown, RunText, ends_text, if_shown};
 
+use base_progress::Progress;
 use bench_core::Core;
 use bench_script::{put_lines, put_totals, run_script};
 use script_text::RunLine;
@@ -39,8 +40,69 @@ fn put_ends(
     Ok(())
 }
 
-/// What is printed where the lines of a script are run on a bench.
-pub(crate) fn run_text(
+/// After so many lines it is told how far a run is.
+const LINES: usize = 1_000;
+
+/// Tells how far a run is, now and then.
+fn look<P: Progress>(progress: &mut P, left: usize, total: usize) {
+    if left % LINES == 0 {
+        progress.at(total.saturating_sub(left), total);
+    }
+}
+
+/// Does what a line asks for.
+fn run_line(
+    alloc: Global,
+    core: &mut Core,
+    registries: &[Registry],
+    room: &mut Stepped,
+    line: RunLine,
+    out: &mut Vec<u8>,
+) -> Result<(), AllocError>
+    requires { IsRunBy core.old (map (λ r. r.book) registries.now) }
+    ensures { OnOk result (Prints (Does core.old line core.new) out.old.items out.new.items) }
+{
+    let mut lines = Vec::new(alloc);
+    lines.push(line)?;
+    run_script(alloc, core, registries, room, lines, out)?;
+    Ok(())
+}
+
+/// Lets go of what was put, where it isn't shown.
+fn keep(shown: bool, out: &mut Vec<u8>)
+    ensures { out.new.items ≡ if_shown shown out.old.items }
+{
+    if !shown {
+        out.clear();
+    }
+}
+
+/// What the lines of a script print that are run on a bench, where that is shown. How far the run is, is told.
+fn run_lines<P: Progress>(
+    alloc: Global,
+    core: &mut Core,
+    registries: &[Registry],
+    room: &mut Stepped,
+    lines: Vec<RunLine>,
+    steps: bool,
+    progress: &mut P,
+) -> Result<Vec<u8>, AllocError>
+    requires { IsRunBy core.old (map (λ r. r.book) registries.now) }
+    ensures { IfOk result (λ text. RunShown core.old lines.items steps core.new text.items) }
+{
+    let mut text = Vec::new(alloc);
+    let total = lines.len();
+    let mut left = lines.into_iter();
+    'lines: while let Some(line) = left.next() {
+        run_line(alloc, core, registries, room, line, &mut text)?;
+        keep(steps, &mut text);
+        look(progress, left.len(), total);
+    }
+    Ok(text)
+}
+
+/// What is printed where the lines of a script are run on a bench. How far the run is, is told.
+pub(crate) fn run_text<P: Progress>(
     alloc: Global,
     core: &mut Core,
     registries: &[Registry],
@@ -48,15 +110,12 @@ pub(crate) fn run_text(
     lines: Vec<RunLine>,
     shown: Shown,
     accounts: &[u64],
+    progress: &mut P,
 ) -> Result<Vec<u8>, AllocError>
     requires { IsRunBy core.old (map (λ r. r.book) registries.now) }
     ensures { IfOk result (λ text. RunText core.old lines.items shown accounts.now text.items) }
 {
-    let mut text = Vec::new(alloc);
-    run_script(alloc, core, registries, room, lines, &mut text)?;
-    if !shown.steps {
-        text.clear();
-    }
+    let mut text = run_lines(alloc, core, registries, room, lines, shown.steps, progress)?;
     put_ends(&mut text, core, shown, accounts)?;
     Ok(text)
 }

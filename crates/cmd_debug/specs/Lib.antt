@@ -1,3 +1,4 @@
+-- The definitions that the contracts of cmd_debug speak of.
 pub mod Sessions
 pub mod Opened
 pub mod Told

@@ -30,7 +30,7 @@ pub fn debug_on<I: FileSource, O: ByteSink>(
     ensures reads { I.reads source.new ≤ I.reads source.old + MAX_READS }
     ensures row { O.most_idle sink.new ≤ max (O.most_idle sink.old) MAX_IDLE_WRITES }
     ensures run { IsRun I.reads I.failures O.failures O.idle source.old source.new sink.old sink.new result }
-    ensures met { result ≢ Status.Fault
+    ensures as_asked { result ≢ Status.Fault
         → IsDebugOn I.remaining I.reads I.failures O.contents O.failures O.idle (opened_with config) script.now
         source.old source.new sink.old sink.new result }
     ensures words { result ≢ Status.Usage }

@@ -79,7 +79,7 @@ fn debug_ready<I: FileSource, O: ByteSink>(
     ensures reads { I.reads source.new ≤ I.reads source.old + MAX_READS }
     ensures row { O.most_idle sink.new ≤ max (O.most_idle sink.old) MAX_IDLE_WRITES }
     ensures run { IsRun I.reads I.failures O.failures O.idle source.old source.new sink.old sink.new result }
-    ensures met { result ≢ Status.Fault
+    ensures as_asked { result ≢ Status.Fault
         → IsDebugOn I.remaining I.reads I.failures O.contents O.failures O.idle (opened_with ready.setup.bench)
         ready.script.items source.old source.new sink.old sink.new result }
     ensures words { result ≢ Status.Usage }
@@ -108,7 +108,7 @@ pub fn debug<I: FileSource, O: ByteSink>(
     ensures reads { I.reads source.new ≤ I.reads source.old + 7 * MAX_READS }
     ensures row { O.most_idle sink.new ≤ max (O.most_idle sink.old) MAX_IDLE_WRITES }
     ensures run { IsRun I.reads I.failures O.failures O.idle source.old source.new sink.old sink.new result }
-    ensures met { result ≢ Status.Fault
+    ensures as_asked { result ≢ Status.Fault
         → IsDebugMet I.remaining I.reads I.failures O.contents O.failures O.idle
         (option_map (λ name. name.now) script.entry) source.old source.new sink.old sink.new result }
     ensures words { result ≢ Status.Usage }

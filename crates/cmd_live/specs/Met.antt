@@ -1,5 +1,6 @@
 -- What `live` does: nodes live and are told of, or something is refused before.
-use Rattle.std.specs.Prelude.{◌≡◌, ◌<◌, ◌⊎◌, ◌∷◌, ℕ, Bool, true, List, [], Option, None, Some, codes, flat_map, length, if◌then◌else◌}
+use Rattle.std.specs.Prelude.{◌≡◌, ◌<◌, ◌⊎◌, ◌∷◌, ℕ, Bool, true, List, [], Option, None, Some, codes, flat_map}
+use Rattle.std.specs.Prelude.{length, if◌then◌else◌}
 use Rattle.base_device.specs.Devices.{Tells}
 use Rattle.base_device.specs.declared.status.Status.{Status}
 use Rattle.base_device.specs.declared.status.Status.TheVariants as statuses
@@ -24,13 +25,18 @@ abbrev pub hosts_of : Option (List ℕ) → List Setup → List (List ℕ)
 hosts_of host setups = flat_map (wanted_host host) setups
 
 -- the seconds are no number, and nothing is read
-pub record WantsSeconds {I O : Type 0} (contents : O → Option (List ℕ)) (write_failures idle : O → ℕ) (seconds : Option (List ℕ)) (source source' : I) (sink sink' : O) (answer : Status) : Type 0 where
+pub record WantsSeconds
+    {I O : Type 0} (contents : O → Option (List ℕ)) (write_failures idle : O → ℕ) (seconds : Option (List ℕ))
+    (source source' : I) (sink sink' : O) (answer : Status) : Type 0 where
   pub wrong : seconds_of seconds ≡ None
   pub unread : source' ≡ source
-  pub told : Tells contents write_failures idle sink sink' (codes "wanted: a number of seconds behind --seconds\n") statuses.Usage answer
+  pub told : Tells contents write_failures idle sink sink' (codes "wanted: a number of seconds behind --seconds\n")
+      statuses.Usage answer
 
 -- CONFIG or a file that it names is not read, or refused
-pub record IsHalted {I O : Type 0} (remaining : I → Option (List ℕ)) (reads failures : I → ℕ) (contents : O → Option (List ℕ)) (write_failures idle : O → ℕ) (source source' : I) (sink sink' : O) (answer : Status) : Type 0 where
+pub record IsHalted
+    {I O : Type 0} (remaining : I → Option (List ℕ)) (reads failures : I → ℕ) (contents : O → Option (List ℕ))
+    (write_failures idle : O → ℕ) (source source' : I) (sink sink' : O) (answer : Status) : Type 0 where
   pub halt : Halt
   pub cause : IsHalt remaining reads failures source source' halt
   pub told : IsToldHalt contents write_failures idle sink sink' halt answer
@@ -43,7 +49,9 @@ IsRefusal statuses.NoMemory = Unit {0}
 IsRefusal other = ⊥
 
 -- what was read can't live: a node is refused, the system refuses a socket or a folder, or memory ran out
-pub record IsRefusedLife {I O : Type 0} (remaining : I → Option (List ℕ)) (reads failures : I → ℕ) (contents : O → Option (List ℕ)) (write_failures idle : O → ℕ) (source source' : I) (sink sink' : O) (answer : Status) : Type 0 where
+pub record IsRefusedLife
+    {I O : Type 0} (remaining : I → Option (List ℕ)) (reads failures : I → ℕ) (contents : O → Option (List ℕ))
+    (write_failures idle : O → ℕ) (source source' : I) (sink sink' : O) (answer : Status) : Type 0 where
   pub setups : List Setup
   pub read : AreSetupsFrom remaining reads failures source source' setups
   pub text : List ℕ
@@ -52,7 +60,10 @@ pub record IsRefusedLife {I O : Type 0} (remaining : I → Option (List ℕ)) (r
   pub told : Tells contents write_failures idle sink sink' text status answer
 
 -- the nodes that are to live did, of which there is one at least, and each of them is told of
-pub record HasLived {I O : Type 0} (remaining : I → Option (List ℕ)) (reads failures : I → ℕ) (contents : O → Option (List ℕ)) (write_failures idle : O → ℕ) (host : Option (List ℕ)) (source source' : I) (sink sink' : O) (answer : Status) : Type 0 where
+pub record HasLived
+    {I O : Type 0} (remaining : I → Option (List ℕ)) (reads failures : I → ℕ) (contents : O → Option (List ℕ))
+    (write_failures idle : O → ℕ) (host : Option (List ℕ)) (source source' : I) (sink sink' : O)
+    (answer : Status) : Type 0 where
   pub setups : List Setup
   pub read : AreSetupsFrom remaining reads failures source source' setups
   pub some : 0 < length (hosts_of host setups)
@@ -61,8 +72,9 @@ pub record HasLived {I O : Type 0} (remaining : I → Option (List ℕ)) (reads 
   pub are : AreTold (hosts_of host setups) text status
   pub told : Tells contents write_failures idle sink sink' text status answer
 
-abbrev pub IsLiveMet : {I O : Type 0} → (remaining : I → Option (List ℕ)) → (reads failures : I → ℕ) → (contents : O → Option (List ℕ)) → (write_failures idle : O → ℕ)
-    → (host seconds : Option (List ℕ)) → (source source' : I) → (sink sink' : O) → Status → Type 0
+abbrev pub IsLiveMet : {I O : Type 0} → (remaining : I → Option (List ℕ)) → (reads failures : I → ℕ)
+    → (contents : O → Option (List ℕ)) → (write_failures idle : O → ℕ) → (host seconds : Option (List ℕ))
+    → (source source' : I) → (sink sink' : O) → Status → Type 0
 IsLiveMet remaining reads failures contents write_failures idle host seconds source source' sink sink' answer =
     WantsSeconds contents write_failures idle seconds source source' sink sink' answer
     ⊎ IsHalted remaining reads failures contents write_failures idle source source' sink sink' answer

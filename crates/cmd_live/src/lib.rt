@@ -6,6 +6,7 @@
 //! | `places` | where nodes listen, and where peers are dialled |
 //! | `nodes` | the nodes of a CONFIG that are to live, opened, and their sockets |
 //! | `turns` | the loop of a node: timers, desks, sockets |
+//! | `watch` | what an operator is told each second |
 //! | `told` | what is told of all nodes |
 //! | `run` | all of that, to a status |
 #![tactic(auto)]
@@ -16,6 +17,7 @@ mod places;
 mod run;
 mod told;
 mod turns;
+mod watch;
 
 pub use run::{LiveWords, live};
 pub use turns::{Lived, Living, live_one};

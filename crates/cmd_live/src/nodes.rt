@@ -5,6 +5,7 @@ ghost use Rattle.cmd_live.specs.Met.{hosts_of, is_wanted, wanted_host};
 use crate::opening::{Opened, Opening, Refused, open};
 use crate::places::{Listens, addresses_of, listening_at};
 use crate::turns::Living;
+use crate::watch::Watch;
 use base_list::Octets;
 use base_text::put_number;
 use bench_item::is_same_host;
@@ -64,6 +65,21 @@ fn sockets_of<R: Net>(
     }
 }
 
+/// What is counted of a node's log, where a line a second is wanted.
+fn watch_of(
+    alloc: Global,
+    node: &NodeConfig,
+    live: &LiveNode,
+    stats: bool,
+) -> Result<Option<Watch>, AllocError> {
+    if !stats {
+        return Ok(None);
+    }
+    let host = node.identity.host.as_slice();
+    let peers = node.peers.as_slice().len();
+    Ok(Some(Watch::new(alloc, host, live.core(), peers)?))
+}
+
 /// Opens a node at its place in CONFIG, and its sockets.
 fn living_of<R: Net>(
     rt: &R,
@@ -72,6 +88,7 @@ fn living_of<R: Net>(
     node: &NodeConfig,
     bench: Config,
     seconds: u64,
+    stats: bool,
 ) -> Result<Living, Refused> {
     let dialled = addresses_of(rt, alloc, node.peers.as_slice())?;
     let shards = bench.shards;
@@ -82,12 +99,14 @@ fn living_of<R: Net>(
         bench,
         dialled: &dialled,
     })?;
+    let watch = watch_of(alloc, node, &live, stats)?;
     Ok(Living {
         sockets: sockets_of(rt, alloc, place, node, live)?,
         desks,
         shards,
         turns: node.turns,
         seconds,
+        watch,
     })
 }
 
@@ -95,6 +114,7 @@ fn living_of<R: Net>(
 #[derive(Drop)]
 pub(crate) struct Nodes {
     pub(crate) hosts: Vec<Octets>,
+    pub(crate) nodes: Vec<NodeConfig>,
     pub(crate) livings: Vec<Living>,
 }
 
@@ -115,7 +135,8 @@ fn add_wanted(
     setup: &Setup,
     host: Option<&str>,
 ) -> Result<(), AllocError>
-    ensures { OnOk result (hosts.new.items ≡ hosts.old.items ++ wanted_host (option_map (λ host. host.now) host.entry) setup.now) }
+    ensures { OnOk result (hosts.new.items
+        ≡ hosts.old.items ++ wanted_host (option_map (λ host. host.now) host.entry) setup.now) }
 {
     if is_wanted(setup, host) {
         hosts.push(setup.node.identity.host.copy(alloc)?)?;
@@ -134,22 +155,32 @@ fn hosts_of(alloc: Global, setups: &[Setup], host: Option<&str>) -> Result<Vec<O
     Ok(hosts)
 }
 
+/// Nodes that were opened, and what CONFIG says of them.
+#[derive(Drop)]
+struct Begun {
+    nodes: Vec<NodeConfig>,
+    livings: Vec<Living>,
+}
+
 /// Opens the nodes that are to live.
-fn livings_of<R: Net>(
+fn begun_of<R: Net>(
     rt: &R,
     alloc: Global,
     setups: Vec<Setup>,
     host: Option<&str>,
     seconds: u64,
-) -> Result<Vec<Living>, Refused> {
+    stats: bool,
+) -> Result<Begun, Refused> {
+    let mut nodes = Vec::new(alloc);
     let mut livings = Vec::new(alloc);
     'setups: for (place, setup) in setups.into_iter().enumerate() {
         if is_wanted(&setup, host) {
             let Setup { node, bench } = setup;
-            livings.push(living_of(rt, alloc, place, &node, bench, seconds)?)?;
+            livings.push(living_of(rt, alloc, place, &node, bench, seconds, stats)?)?;
+            nodes.push(node)?;
         }
     }
-    Ok(livings)
+    Ok(Begun { nodes, livings })
 }
 
 /// The nodes that are to live, of which there has to be one.
@@ -159,16 +190,20 @@ pub(crate) fn nodes_of<R: Net>(
     setups: Vec<Setup>,
     host: Option<&str>,
     seconds: u64,
+    stats: bool,
 ) -> Result<Nodes, Refused>
-    ensures hosts { IfOk result (λ nodes. nodes.hosts.items ≡ hosts_of (option_map (λ host. host.now) host.entry) setups.items) }
+    ensures hosts { IfOk result (λ nodes. nodes.hosts.items
+        ≡ hosts_of (option_map (λ host. host.now) host.entry) setups.items) }
     ensures some { IfOk result (λ nodes. 0 < length nodes.hosts.items) }
 {
     let hosts = hosts_of(alloc, &setups, host)?;
     if hosts.is_empty() {
         return Err(no_node(alloc, host)?);
     }
+    let Begun { nodes, livings } = begun_of(rt, alloc, setups, host, seconds, stats)?;
     Ok(Nodes {
-        livings: livings_of(rt, alloc, setups, host, seconds)?,
         hosts,
+        nodes,
+        livings,
     })
 }

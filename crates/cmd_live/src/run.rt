@@ -5,11 +5,12 @@ ghost use Rattle.cmd_live.specs.Told.{AreTold, seconds_of};
 
 use crate::nodes::{Nodes, nodes_of};
 use crate::opening::Refused;
-use crate::told::{Told, tell_all};
+use crate::told::{Ended, tell_all};
 use crate::turns::{Lived, Living};
 use base_device::{ByteSink, FileSource, MAX_IDLE_WRITES, MAX_READS, Status, tell};
 use base_text::number_of;
 use bench_setup::{Setup, read_nodes, tell_halt};
+use live_report::Places;
 use std::alloc::{AllocError, AllocGlobal, Global};
 use std::fs::create_dir_all;
 use std::net::Net;
@@ -28,6 +29,8 @@ pub struct LiveWords<'a> {
     pub seconds: Option<&'a str>,
     /// The folder where logs are written.
     pub log: Option<&'a str>,
+    /// Whether each node tells a line a second.
+    pub stats: bool,
 }
 
 /// What is told where no log can be written to a folder.
@@ -47,20 +50,35 @@ fn make_folder<R: Files>(rt: &R, alloc: Global, folder: Option<&str>) -> Result<
     Ok(())
 }
 
+/// Where files are written, where they are.
+fn places_of(words: LiveWords<'_>) -> Option<Places<'_>> {
+    match words.log {
+        Some(folder) => Some(Places {
+            folder,
+            config: words.config,
+        }),
+        None => None,
+    }
+}
+
 /// The nodes live, and are told of.
 fn live_all<R: Files, F: Fn(Vec<Living>) -> Result<Vec<Option<Lived>>, AllocError>>(
     rt: &R,
     alloc: Global,
     nodes: Nodes,
-    folder: Option<&str>,
+    places: Option<Places<'_>>,
     together: &F,
-) -> Result<Told, Refused>
+) -> Result<Ended, Refused>
     requires { F.IsAlwaysCallable together.now }
     ensures { IfOk result (λ told. AreTold nodes.hosts.items told.text.items told.status) }
 {
-    let Nodes { hosts, livings } = nodes;
+    let Nodes {
+        hosts,
+        nodes,
+        livings,
+    } = nodes;
     let lived = together(livings)?;
-    Ok(tell_all(rt, alloc, folder, &hosts, &lived)?)
+    Ok(tell_all(rt, alloc, places, &hosts, &nodes, &lived)?)
 }
 
 /// The seconds that are wanted; without the word as many as a number tells.
@@ -81,19 +99,21 @@ fn live_setups<R: Net + Files, F: Fn(Vec<Living>) -> Result<Vec<Option<Lived>>, 
     words: LiveWords<'_>,
     seconds: u64,
     together: &F,
-) -> Result<Told, Refused>
+) -> Result<Ended, Refused>
     requires { F.IsAlwaysCallable together.now }
-    ensures told { IfOk result (λ told. AreTold (hosts_of (option_map (λ host. host.now) words.entry.node) setups.items) told.text.items told.status) }
-    ensures some { IfOk result (λ told. 0 < length (hosts_of (option_map (λ host. host.now) words.entry.node) setups.items)) }
+    ensures told { IfOk result (λ told. AreTold (hosts_of (option_map (λ host. host.now) words.entry.node) setups.items)
+        told.text.items told.status) }
+    ensures some { IfOk result (λ told. 0 < length (hosts_of (option_map (λ host. host.now) words.entry.node)
+        setups.items)) }
 {
     make_folder(rt, alloc, words.log)?;
-    let nodes = nodes_of(rt, alloc, setups, words.node, seconds)?;
-    live_all(rt, alloc, nodes, words.log, together)
+    let nodes = nodes_of(rt, alloc, setups, words.node, seconds, words.stats)?;
+    live_all(rt, alloc, nodes, places_of(words), together)
 }
 
-/// Reads a CONFIG and the files that its nodes name, has its nodes live, or the one that is wanted, over TCP, for the
-/// turns of CONFIG or so many seconds, and prints of each how many entries its log has, and what stands on its accounts.
-/// Each log is legal.
+/// Reads a CONFIG and the files that its nodes name, has its nodes live, or the one that is wanted, over TCP,
+/// for the turns of CONFIG or so many seconds, and prints of each how many entries its log has,
+/// and what stands on its accounts. Each log is legal.
 ///
 /// `together` has them live side by side, each by `live_one`, and answers them in their order: a thread for each is
 /// started where the process begins.
@@ -113,11 +133,13 @@ pub fn live<
 
     // Seconds that are no number are told before anything is read; then what is wrong with an input; then what stands
     // in the way of nodes; else each node is told of that is to live.
-    ensures met { IsLiveMet I.remaining I.reads I.failures O.contents O.failures O.idle (option_map (λ host. host.now) words.entry.node)
-        (option_map (λ text. text.now) words.entry.seconds) source.old source.new sink.old sink.new result }
+    ensures as_asked { IsLiveMet I.remaining I.reads I.failures O.contents O.failures O.idle
+        (option_map (λ host. host.now) words.entry.node) (option_map (λ text. text.now) words.entry.seconds)
+        source.old source.new sink.old sink.new result }
 
     // Words are refused only where the seconds are no number, and then nothing is read.
-    ensures usage { result ≡ Status.Usage → (source.new ≡ source.old) × (seconds_of (option_map (λ text. text.now) words.entry.seconds) ≡ None) }
+    ensures usage { result ≡ Status.Usage → (source.new ≡ source.old)
+        × (seconds_of (option_map (λ text. text.now) words.entry.seconds) ≡ None) }
 {
     let alloc = rt.alloc();
     let Some(seconds) = seconds_of(words.seconds) else {

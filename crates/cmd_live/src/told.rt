@@ -6,14 +6,15 @@ use crate::turns::Lived;
 use base_device::Status;
 use base_list::Octets;
 use bench_core::Core;
-use live_report::{is_unwritten, put_node};
+use config_text::NodeConfig;
+use live_report::{Places, is_unwritten, put_node};
 use net_sockets::SocketsFault;
 use std::alloc::{AllocError, Global};
 use std::rt::Files;
 
 /// A text that is printed, and a status.
 #[derive(Drop)]
-pub(crate) struct Told {
+pub(crate) struct Ended {
     pub(crate) text: Vec<u8>,
     pub(crate) status: Status,
 }
@@ -42,7 +43,7 @@ fn worse(status: Status, fault: Option<SocketsFault>, is_unwritten: bool) -> Sta
 /// Tells of one node more, of which this is known.
 fn tell_of(
     alloc: Global,
-    told: &mut Told,
+    told: &mut Ended,
     host: &[u8],
     core: &Core,
     fault: Option<SocketsFault>,
@@ -56,26 +57,38 @@ fn tell_of(
     Ok(())
 }
 
-/// Tells of one node more, and writes its log where that is wanted.
+/// Tells of one node more, and writes its files where that is wanted.
 fn tell_node<R: Files>(
     rt: &R,
     alloc: Global,
-    told: &mut Told,
-    folder: Option<&str>,
+    told: &mut Ended,
+    places: Option<Places<'_>>,
     host: &[u8],
+    node: &NodeConfig,
     lived: &Lived,
 ) -> Result<(), AllocError>
     ensures { OnOk result (TellsOf host.now told.old.text.items told.new.text.items told.old.status told.new.status) }
 {
     let core = lived.living.sockets.node().node.core();
-    let is_unwritten = is_unwritten(rt, alloc, folder, host, core)?;
+    let is_unwritten = is_unwritten(rt, alloc, places, host, node, core)?;
     tell_of(alloc, told, host, core, lived.fault, is_unwritten)
 }
 
+/// A node that was to live, and what became of it.
+#[derive(Clone, Copy)]
+struct LivedNode<'a> {
+    node: &'a NodeConfig,
+    lived: &'a Lived,
+}
+
 /// The node at a place, if it lived.
-fn lived_at(lived: &[Option<Lived>], place: usize) -> Option<&Lived> {
-    match lived.get(place) {
-        Some(Some(one)) => Some(one),
+fn lived_node_at<'a>(
+    nodes: &'a [NodeConfig],
+    lived: &'a [Option<Lived>],
+    place: usize,
+) -> Option<LivedNode<'a>> {
+    match (nodes.get(place), lived.get(place)) {
+        (Some(node), Some(Some(lived))) => Some(LivedNode { node, lived }),
         _ => None,
     }
 }
@@ -84,21 +97,30 @@ fn lived_at(lived: &[Option<Lived>], place: usize) -> Option<&Lived> {
 pub(crate) fn tell_all<R: Files>(
     rt: &R,
     alloc: Global,
-    folder: Option<&str>,
+    places: Option<Places<'_>>,
     hosts: &[Octets],
+    nodes: &[NodeConfig],
     lived: &[Option<Lived>],
-) -> Result<Told, AllocError>
+) -> Result<Ended, AllocError>
     ensures { IfOk result (λ told. AreTold hosts.now told.text.items told.status) }
 {
-    let mut told = Told {
+    let mut told = Ended {
         text: Vec::new(alloc),
         status: Status::Done,
     };
     'hosts: for place in 0..hosts.len() {
-        let Some(one) = lived_at(lived, place) else {
+        let Some(LivedNode { node, lived: one }) = lived_node_at(nodes, lived, place) else {
             return Err(AllocError);
         };
-        tell_node(rt, alloc, &mut told, folder, hosts[place].as_slice(), one)?;
+        tell_node(
+            rt,
+            alloc,
+            &mut told,
+            places,
+            hosts[place].as_slice(),
+            node,
+            one,
+        )?;
     }
     Ok(told)
 }

@@ -7,12 +7,15 @@ ghost use Rattle.bench_node.specs.Going.{Goes};
 ghost use Rattle.role_tables.specs.Roles.{all_laws};
 
 use crate::opening::registry_count;
+use crate::watch::{SECOND, Watch};
+use bench_core::Core;
 use bench_node::LiveNode;
 use bench_setup::{WithCalls, with_calls};
 use live_desk::Desk;
 use net_sockets::{Node, Sockets, SocketsFault};
 use node_port::NodePort;
 use std::alloc::{AllocError, Global};
+use std::io::Write;
 use std::net::Net;
 use std::rt::Clock;
 use std::time::{Duration, Instant};
@@ -29,13 +32,14 @@ pub struct Living {
     pub(crate) shards: u64,
     pub(crate) turns: u64,
     pub(crate) seconds: u64,
+    pub(crate) watch: Option<Watch>,
 }
 
-/// How many whole seconds went by; none where the clock doesn't say.
-fn seconds_since<R: Clock>(rt: &R, start: &Instant) -> Option<u64> {
+/// How many microseconds went by; as many as before where the clock doesn't say.
+fn micros_since<R: Clock>(rt: &R, start: &Instant, before: u64) -> u64 {
     match start.elapsed(rt) {
-        Ok(time) => Some(time.as_secs()),
-        Err(_) => None,
+        Ok(time) => time.as_micros().min(u128::from(u64::MAX)) as u64,
+        Err(_) => before,
     }
 }
 
@@ -78,37 +82,111 @@ fn stir(
     Ok(fired || told || moved)
 }
 
+/// Counts what was added to a log, where it is watched.
+fn look(
+    watch: &mut Option<Watch>,
+    alloc: Global,
+    core: &Core,
+    moment: u64,
+) -> Result<(), AllocError> {
+    match watch {
+        Some(watch) => watch.look(alloc, core, moment),
+        None => Ok(()),
+    }
+}
+
+/// The same as of now, and tells the line of a second that went by, or the last; where it isn't watched, no clock is
+/// asked.
+fn tell<R: Clock, W: Write>(
+    eye: &mut Eye<'_, R, W>,
+    start: &Instant,
+    watch: &mut Option<Watch>,
+    core: &Core,
+    moment: u64,
+    is_last: bool,
+) -> Result<(), AllocError> {
+    let Some(watch) = watch else {
+        return Ok(());
+    };
+    let now = micros_since(eye.rt, start, moment);
+    watch.look(eye.alloc, core, now)?;
+    if is_last || watch.is_due(now) {
+        watch.tell(eye.alloc, core, now, &mut eye.terminal)?;
+    }
+    Ok(())
+}
+
+/// Who looks at a node: its system, its memory, and where lines are written.
+#[derive(Drop)]
+struct Eye<'a, R, W> {
+    rt: &'a R,
+    alloc: Global,
+    terminal: W,
+}
+
 /// Makes the turns of a node.
-fn turn_all<R: Net + Clock>(
-    rt: &R,
+fn turn_all<R: Net + Clock, W: Write>(
+    eye: &mut Eye<'_, R, W>,
     living: &mut Living,
     registries: &[Registry],
 ) -> Result<(), SocketsFault>
     requires { Each (λ r. r.book ≡ all_laws) registries.now }
 {
+    let rt = eye.rt;
     let start = Instant::now(rt)?;
     let mut moment = 0;
     for _ in 0..living.turns {
-        if let Some(now) = seconds_since(rt, &start) {
-            moment = now;
-        }
-        let Living { sockets, desks, .. } = living;
-        let moved = stir(&mut sockets.node_mut().node, desks, registries, moment)?;
-        if moment >= living.seconds || living.sockets.node().is_over() {
+        moment = micros_since(rt, &start, moment);
+        let Living {
+            sockets,
+            desks,
+            watch,
+            ..
+        } = living;
+        look(watch, eye.alloc, sockets.node().node.core(), moment)?;
+        let moved = stir(
+            &mut sockets.node_mut().node,
+            desks,
+            registries,
+            moment / SECOND,
+        )?;
+        let is_last = moment / SECOND >= living.seconds || living.sockets.node().is_over();
+        let Living { sockets, watch, .. } = living;
+        tell(
+            eye,
+            &start,
+            watch,
+            sockets.node().node.core(),
+            moment,
+            is_last,
+        )?;
+        if is_last {
             return Ok(());
         }
         let wait = if moved { 0 } else { WAIT };
         living.sockets.turn(rt, Duration::from_millis(wait))?;
     }
-    let Living { sockets, desks, .. } = living;
-    stir(&mut sockets.node_mut().node, desks, registries, moment)?;
+    let Living {
+        sockets,
+        desks,
+        watch,
+        ..
+    } = living;
+    look(watch, eye.alloc, sockets.node().node.core(), moment)?;
+    stir(
+        &mut sockets.node_mut().node,
+        desks,
+        registries,
+        moment / SECOND,
+    )?;
+    tell(eye, &start, watch, sockets.node().node.core(), moment, true)?;
     Ok(())
 }
 
 /// A node that lives.
 #[derive(Drop)]
-struct Life<'a, R> {
-    rt: &'a R,
+struct Life<'a, R, W> {
+    eye: Eye<'a, R, W>,
     living: Living,
 }
 
@@ -119,7 +197,7 @@ pub struct Lived {
     pub(crate) fault: Option<SocketsFault>,
 }
 
-impl<R: Net + Clock> WithCalls for Life<'_, R> {
+impl<R: Net + Clock, W: Write + Drop> WithCalls for Life<'_, R, W> {
     type Answer = Lived;
 
     ghost fits = { λ _ laws. Each (λ l. l ≡ all_laws) laws };
@@ -127,14 +205,28 @@ impl<R: Net + Clock> WithCalls for Life<'_, R> {
     ghost answers = { λ _ _ _. Unit {0} };
 
     fn run(self, registries: Vec<Registry>) -> Result<Lived, AllocError> {
-        let Life { rt, mut living } = self;
-        let fault = turn_all(rt, &mut living, &registries).err();
+        let Life {
+            mut eye,
+            mut living,
+        } = self;
+        let fault = turn_all(&mut eye, &mut living, &registries).err();
         Ok(Lived { living, fault })
     }
 }
 
-/// Makes the turns of a node, with callbacks of its own. None where there is no memory for these.
-pub fn live_one<R: Net + Clock>(rt: &R, alloc: Global, living: Living) -> Option<Lived> {
+/// Makes the turns of a node, with callbacks of its own; where it is watched, its lines are written to `terminal`.
+/// None where there is no memory for the callbacks.
+pub fn live_one<R: Net + Clock, W: Write + Drop>(
+    rt: &R,
+    alloc: Global,
+    terminal: W,
+    living: Living,
+) -> Option<Lived> {
     let count = registry_count(living.shards);
-    with_calls(alloc, count, Life { rt, living }).ok()
+    let eye = Eye {
+        rt,
+        alloc,
+        terminal,
+    };
+    with_calls(alloc, count, Life { eye, living }).ok()
 }

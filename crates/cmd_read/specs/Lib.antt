@@ -1,1 +1,2 @@
+-- The definitions that the contracts of cmd_read speak of.
 pub mod Reads

@@ -35,7 +35,8 @@ fn read_messages<I: ByteSource, O: ByteSink>(
     ensures reads { I.reads source.new ≤ I.reads source.old + MAX_READS }
     ensures row { O.most_idle sink.new ≤ max (O.most_idle sink.old) MAX_IDLE_WRITES }
     ensures run { IsRun I.reads I.failures O.failures O.idle source.old source.new sink.old sink.new result }
-    ensures report { IsReport (printed_in style by_line glossary.now) (end_in style) I.remaining O.contents source.old source.new sink.old sink.new result
+    ensures report { IsReport (printed_in style by_line glossary.now) (end_in style) I.remaining O.contents
+        source.old source.new sink.old sink.new result
         ⊎ (HasWriteCause O.failures O.idle sink.old sink.new × (result ≡ Status.Fault)) }
     ensures whole { result ≡ Status.Done → IsAtEnd (I.remaining source.new) }
     ensures refused { result ≡ Status.Refused → I.reads source.old < I.reads source.new }
@@ -71,7 +72,8 @@ fn read_file<I: FileSource, O: ByteSink>(
 
     // What was written out is what the text that was read of the file prints.
     ensures report { result ≢ Status.Fault → (start : I) × (I.reads start ≡ I.reads source.old)
-        × IsReport (printed_in style by_line glossary.now) (end_in style) I.remaining O.contents start source.new sink.old sink.new result }
+        × IsReport (printed_in style by_line glossary.now) (end_in style) I.remaining O.contents start source.new
+        sink.old sink.new result }
 
     // It is done only where nothing is left to read, and refused only where something was read.
     ensures whole { result ≡ Status.Done → IsAtEnd (I.remaining source.new) }
@@ -101,8 +103,9 @@ fn read_by<I: FileSource, O: ByteSink>(
     ensures reads { I.reads source.new ≤ I.reads source.old + MAX_READS }
     ensures row { O.most_idle sink.new ≤ max (O.most_idle sink.old) MAX_IDLE_WRITES }
     ensures run { IsRun I.reads I.failures O.failures O.idle source.old source.new sink.old sink.new result }
-    ensures met { result ≢ Status.Fault
-        → ReadsMessages I.remaining I.reads O.contents style by_line glossary.now (option_map (λ name. name.now) file.entry) source.old source.new sink.old sink.new result }
+    ensures as_asked { result ≢ Status.Fault
+        → ReadsMessages I.remaining I.reads O.contents style by_line glossary.now
+        (option_map (λ name. name.now) file.entry) source.old source.new sink.old sink.new result }
     ensures words { result ≢ Status.Usage }
 {
     match file {
@@ -124,7 +127,8 @@ fn tell_no_memory<O: ByteSink>(sink: &mut O) -> Status
 fn tell_wrong<O: ByteSink>(alloc: Global, line: &WrongLine<'_>, sink: &mut O) -> Status
     requires idle { O.idle sink.old ≡ 0 }
     requires failures { O.failures sink.old < 2 ^ 64 - 1 }
-    ensures told { Tells O.contents O.failures O.idle sink.old sink.new (wrong_text (seen_line line.now)) Status.Refused result
+    ensures told { Tells O.contents O.failures O.idle sink.old sink.new (wrong_text (seen_line line.now)) Status.Refused
+        result
         ⊎ TellsNoMemory O.contents O.failures O.idle sink.old sink.new result }
     ensures row { O.most_idle sink.new ≤ max (O.most_idle sink.old) MAX_IDLE_WRITES }
 {
@@ -151,8 +155,9 @@ fn read_with<I: FileSource, O: ByteSink>(
     ensures reads { I.reads source.new ≤ I.reads source.old + 2 * MAX_READS }
     ensures row { O.most_idle sink.new ≤ max (O.most_idle sink.old) MAX_IDLE_WRITES }
     ensures run { IsRun I.reads I.failures O.failures O.idle source.old source.new sink.old sink.new result }
-    ensures met { result ≢ Status.Fault
-        → ReadsByDictionary I.remaining I.reads I.failures O.contents O.failures O.idle style by_line (option_map (λ name. name.now) file.entry) source.old source.new sink.old sink.new result
+    ensures as_asked { result ≢ Status.Fault
+        → ReadsByDictionary I.remaining I.reads I.failures O.contents O.failures O.idle style by_line
+        (option_map (λ name. name.now) file.entry) source.old source.new sink.old sink.new result
         ⊎ TellsNoMemory O.contents O.failures O.idle sink.old sink.new result }
     ensures words { result ≢ Status.Usage }
 {
@@ -186,8 +191,9 @@ fn read_plainly<I: FileSource, O: ByteSink>(
     ensures reads { I.reads source.new ≤ I.reads source.old + MAX_READS }
     ensures row { O.most_idle sink.new ≤ max (O.most_idle sink.old) MAX_IDLE_WRITES }
     ensures run { IsRun I.reads I.failures O.failures O.idle source.old source.new sink.old sink.new result }
-    ensures met { result ≢ Status.Fault
-        → ReadsMessages I.remaining I.reads O.contents style by_line base_meanings (option_map (λ name. name.now) file.entry) source.old source.new sink.old sink.new result
+    ensures as_asked { result ≢ Status.Fault
+        → ReadsMessages I.remaining I.reads O.contents style by_line base_meanings
+        (option_map (λ name. name.now) file.entry) source.old source.new sink.old sink.new result
         ⊎ TellsNoMemory O.contents O.failures O.idle sink.old sink.new result }
     ensures words { result ≢ Status.Usage }
 {
@@ -197,8 +203,8 @@ fn read_plainly<I: FileSource, O: ByteSink>(
     }
 }
 
-/// Reads messages of a file or of standard input, by the dictionary of a file or without one. The dictionary is read whole before; its
-/// first wrong line is told, and then no message is read.
+/// Reads messages of a file or of standard input, by the dictionary of a file or without one.
+/// The dictionary is read whole before; its first wrong line is told, and then no message is read.
 pub fn read<I: FileSource, O: ByteSink>(
     alloc: Global,
     style: Style,
@@ -215,8 +221,9 @@ pub fn read<I: FileSource, O: ByteSink>(
     ensures reads { I.reads source.new ≤ I.reads source.old + 2 * MAX_READS }
     ensures row { O.most_idle sink.new ≤ max (O.most_idle sink.old) MAX_IDLE_WRITES }
     ensures run { IsRun I.reads I.failures O.failures O.idle source.old source.new sink.old sink.new result }
-    ensures met { result ≢ Status.Fault
-        → ReadsWith I.remaining I.reads I.failures O.contents O.failures O.idle style by_line (option_map (λ name. name.now) dictionary.entry)
+    ensures as_asked { result ≢ Status.Fault
+        → ReadsWith I.remaining I.reads I.failures O.contents O.failures O.idle style by_line
+        (option_map (λ name. name.now) dictionary.entry)
         (option_map (λ name. name.now) file.entry) source.old source.new sink.old sink.new result
         ⊎ TellsNoMemory O.contents O.failures O.idle sink.old sink.new result }
     ensures words { result ≢ Status.Usage }

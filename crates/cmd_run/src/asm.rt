@@ -26,8 +26,9 @@ pub(crate) fn assemble<I: FileSource, O: ByteSink>(
     ensures reads { I.reads source.new ≤ I.reads source.old + MAX_READS }
     ensures row { O.most_idle sink.new ≤ max (O.most_idle sink.old) MAX_IDLE_WRITES }
     ensures run { IsRun I.reads I.failures O.failures O.idle source.old source.new sink.old sink.new result }
-    ensures met { result ≢ Status.Fault
-        → AssemblesTable I.remaining I.reads I.failures O.contents O.failures O.idle source.old source.new sink.old sink.new result
+    ensures as_asked { result ≢ Status.Fault
+        → AssemblesTable I.remaining I.reads I.failures O.contents O.failures O.idle source.old source.new
+        sink.old sink.new result
         ⊎ TellsNoMemory O.contents O.failures O.idle sink.old sink.new result }
     ensures words { result ≢ Status.Usage }
 {

@@ -1,7 +1,7 @@
 //! One run of the program: from words, an input and an output to a status.
 ghost use Rattle.std.specs.Prelude.{◌≡◌, ◌≢◌, ◌⊎◌, ◌<◌, ◌≤◌, ◌+◌, ◌*◌, ◌-◌, ◌^◌, [], None, map, max, not, option_map};
 ghost use Rattle.base_device.specs.Devices.{IsRun, Tells};
-ghost use Rattle.cmd_words.specs.Asked.{meaning};
+ghost use Rattle.cmd_words.specs.Invocations.{meaning};
 ghost use Rattle.cmd_read.specs.Reads.{TellsNoMemory};
 ghost use Rattle.cmd_run.specs.Runs.{IsMet};
 ghost use Rattle.cmd_words.specs.Words.{AreRefused, AskForText, wanted, word_faults};
@@ -15,18 +15,22 @@ use base_device::{ByteSink, FileSource, MAX_IDLE_WRITES, MAX_READS, Status, tell
 use cmd_bench::{Shown, run as run_script, run_all_nodes, tell_sample};
 use cmd_debug::debug;
 use cmd_read::read;
-use cmd_words::{Asked, NoWords, Task, WordsError, parse_words};
+use cmd_words::{Invocation, NoWords, Task, WordsError, parse_words};
 use std::alloc::Global;
 use std::convert::AsStr;
 
 /// What is told where nodes are to live: that takes threads and sockets, and here are none (`cmd_live` has them).
 const NO_SOCKETS: &str = "live wants threads and sockets\n";
 
+/// What is told where logs are to be written: that takes files, and here are none (`run_logged` has them).
+const NO_FILES: &str = "--log wants files that can be written\n";
+
 /// Tells why there are no words: memory ran out, or they aren't understood since one of them isn't UTF-8.
 pub fn tell_no_words<O: ByteSink>(why: NoWords, sink: &mut O) -> Status
     requires idle { O.idle sink.old ≡ 0 }
     requires failures { O.failures sink.old < 2 ^ 64 - 1 }
-    ensures told { Tells O.contents O.failures O.idle sink.old sink.new (no_words_text why) (no_words_status why) result }
+    ensures told { Tells O.contents O.failures O.idle sink.old sink.new (no_words_text why)
+        (no_words_status why) result }
     ensures row { O.most_idle sink.new ≤ max (O.most_idle sink.old) MAX_IDLE_WRITES }
 {
     match why {
@@ -36,7 +40,7 @@ pub fn tell_no_words<O: ByteSink>(why: NoWords, sink: &mut O) -> Status
 }
 
 /// What is printed of a run.
-fn shown_of(quiet: bool, sent: bool, totals: bool) -> Shown
+pub(crate) fn shown_of(quiet: bool, sent: bool, totals: bool) -> Shown
     ensures { result ≡ record { steps = not quiet; lines = sent; totals = totals } }
 {
     Shown {
@@ -60,8 +64,9 @@ fn run<I: FileSource, O: ByteSink>(
     ensures reads { I.reads source.new ≤ I.reads source.old + 258 * MAX_READS }
     ensures row { O.most_idle sink.new ≤ max (O.most_idle sink.old) MAX_IDLE_WRITES }
     ensures run { IsRun I.reads I.failures O.failures O.idle source.old source.new sink.old sink.new result }
-    ensures met { result ≢ Status.Fault
-        → IsMet I.remaining I.reads I.failures O.contents O.failures O.idle (meaning task.entry) source.old source.new sink.old sink.new result }
+    ensures as_asked { result ≢ Status.Fault
+        → IsMet I.remaining I.reads I.failures O.contents O.failures O.idle (meaning task.entry) source.old source.new
+        sink.old sink.new result }
     ensures usage { result ≡ Status.Usage → AsksInVain (meaning task.entry) × (source.new ≡ source.old) }
 {
     match task {
@@ -87,6 +92,7 @@ fn run<I: FileSource, O: ByteSink>(
             let shown = shown_of(quiet, sent, totals);
             run_all_nodes(alloc, cut as usize, config, script, shown, source, sink)
         }
+        Task::Logged(..) => tell(sink, NO_FILES.as_bytes(), Status::Usage),
         Task::Sample => tell_sample(sink),
         Task::Live(..) => tell(sink, NO_SOCKETS.as_bytes(), Status::Usage),
         Task::Nothing(usage) => tell(sink, usage.as_bytes(), Status::Usage),
@@ -94,7 +100,7 @@ fn run<I: FileSource, O: ByteSink>(
 }
 
 /// Runs the program: `words` are the command line's, the program's name first; `source` is standard input, and opens
-/// files; every text goes to `sink`.
+/// files; every text goes to `sink`. Logs are not written here: `run_logged` does that.
 pub fn main_on<S: AsStr, I: FileSource, O: ByteSink>(
     alloc: Global,
     words: &[S],
@@ -106,31 +112,35 @@ pub fn main_on<S: AsStr, I: FileSource, O: ByteSink>(
     requires idle { O.idle sink.old ≡ 0 }
     requires write_failures { O.failures sink.old < 2 ^ 64 - 1 }
 
-    // The bounds on reads, of which a run of all nodes has those of 258 inputs, and on writes in a row that take nothing.
+    // The bounds on reads, of which a run of all nodes has those of 258 inputs,
+    // and on writes in a row that take nothing.
     ensures reads { I.reads source.new ≤ I.reads source.old + 258 * MAX_READS }
     ensures row { O.most_idle sink.new ≤ max (O.most_idle sink.old) MAX_IDLE_WRITES }
 
     // A fault comes only where a device failed or a bound was met, and a device's failure is told.
     ensures run { IsRun I.reads I.failures O.failures O.idle source.old source.new sink.old sink.new result }
 
-    // Words are refused only where something is wrong with them, or they ask for nothing that is there, and then nothing
-    // is read.
+    // Words are refused only where something is wrong with them, or they ask for nothing that is there,
+    // and then nothing is read.
     ensures usage { result ≡ Status.Usage
-        → (AreRefused (map S.text words.now) ⊎ ((word_faults (map S.text words.now) ≡ []) × AsksInVain (wanted (map S.text words.now))))
+        → (AreRefused (map S.text words.now)
+        ⊎ ((word_faults (map S.text words.now) ≡ []) × AsksInVain (wanted (map S.text words.now))))
         × (source.new ≡ source.old) }
 
     // Where the words are a command, what it asks for is done, or there is no memory to understand them.
-    ensures met { result ≢ Status.Fault → word_faults (map S.text words.now) ≡ []
-        → IsMet I.remaining I.reads I.failures O.contents O.failures O.idle (wanted (map S.text words.now)) source.old source.new sink.old sink.new result
+    ensures as_asked { result ≢ Status.Fault → word_faults (map S.text words.now) ≡ []
+        → IsMet I.remaining I.reads I.failures O.contents O.failures O.idle (wanted (map S.text words.now))
+        source.old source.new sink.old sink.new result
         ⊎ ((source.new ≡ source.old) × TellsNoMemory O.contents O.failures O.idle sink.old sink.new result) }
 
     // It is done only where they ask for a text or are a command; input is refused only where they are a command.
-    ensures done { result ≡ Status.Done → AskForText (map S.text words.now) ⊎ (word_faults (map S.text words.now) ≡ []) }
+    ensures done { result ≡ Status.Done
+        → AskForText (map S.text words.now) ⊎ (word_faults (map S.text words.now) ≡ []) }
     ensures refused { result ≡ Status.Refused → word_faults (map S.text words.now) ≡ [] }
 {
     match parse_words(alloc, words) {
-        Ok(Asked::Task(task)) => run(alloc, task, source, sink),
-        Ok(Asked::Text(text)) => tell(sink, text.as_bytes(), Status::Done),
+        Ok(Invocation::Task(task)) => run(alloc, task, source, sink),
+        Ok(Invocation::Text(text)) => tell(sink, text.as_bytes(), Status::Done),
         Err(WordsError::Refused(text)) => tell(sink, text.as_bytes(), Status::Usage),
         Err(WordsError::NoMemory) => tell(sink, b"no memory\n", Status::NoMemory),
     }

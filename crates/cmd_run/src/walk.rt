@@ -1,4 +1,5 @@
-//! `walk`: a table or its image stepped over events, by callbacks that answer by the laws of all roles; the names that tables may use.
+//! `walk`: a table or its image stepped over events, by callbacks that answer by the laws of all roles;
+//! the names that tables may use.
 ghost use Rattle.std.specs.Prelude.{◌≡◌, ◌≢◌, ◌⊎◌, ◌<◌, ◌≤◌, ◌+◌, ◌*◌, ◌-◌, ◌^◌, max, option_map, IfOk, OnErr};
 ghost use Rattle.base_device.specs.Devices.{HasWriteCause, IsRun, Tells};
 ghost use Rattle.cmd_read.specs.Reads.{TellsNoMemory};
@@ -17,7 +18,7 @@ use std::alloc::{AllocError, Global};
 use tab_call::{Ask, Calls, Do, Registry, StoredAct, StoredGuard};
 use tab_law::{Acted, LawBook, Scene, high_into, holds};
 use tab_role::TakesRoles;
-use tab_walk::{Manner, walk_on};
+use tab_walk::{WalkOptions, walk_on};
 
 /// What is told where no table has the name.
 const NO_ROLE: &str = "wanted the name of a shipped table: peer, client or server\n";
@@ -26,14 +27,15 @@ const NO_ROLE: &str = "wanted the name of a shipped table: peer, client or serve
 fn walk_by<O: ByteSink>(
     alloc: Global,
     laws: &LawBook,
-    manner: Manner<'_>,
+    options: WalkOptions<'_>,
     table: &[u8],
     events: &[u8],
     sink: &mut O,
 ) -> Result<Status, AllocError>
     requires idle { O.idle sink.old ≡ 0 }
     requires failures { O.failures sink.old < 2 ^ 64 - 1 }
-    ensures walk { IfOk result (IsWalkedOn O.contents O.failures O.idle laws.now manner.entry table.now events.now sink.old sink.new) }
+    ensures walk { IfOk result (IsWalkedOn O.contents O.failures O.idle laws.now options.entry table.now
+        events.now sink.old sink.new) }
     ensures err { OnErr result (sink.new ≡ sink.old) }
     ensures row { O.most_idle sink.new ≤ max (O.most_idle sink.old) MAX_IDLE_WRITES }
 {
@@ -56,7 +58,7 @@ fn walk_by<O: ByteSink>(
     if registry.register(laws, Calls { guards, acts }).is_err() {
         return Err(AllocError);
     }
-    Ok(walk_on(alloc, table, &registry, manner, events, sink))
+    Ok(walk_on(alloc, table, &registry, options, events, sink))
 }
 
 pub(crate) fn tell_no_memory<O: ByteSink>(sink: &mut O) -> Status
@@ -71,36 +73,37 @@ pub(crate) fn tell_no_memory<O: ByteSink>(sink: &mut O) -> Status
 /// Walks a table over the callbacks of all roles.
 fn walk_all<O: ByteSink>(
     alloc: Global,
-    manner: Manner<'_>,
+    options: WalkOptions<'_>,
     table: &[u8],
     events: &[u8],
     sink: &mut O,
 ) -> Status
     requires idle { O.idle sink.old ≡ 0 }
     requires failures { O.failures sink.old < 2 ^ 64 - 1 }
-    ensures walk { IsWalkedOn O.contents O.failures O.idle all_laws manner.entry table.now events.now sink.old sink.new result }
+    ensures walk { IsWalkedOn O.contents O.failures O.idle all_laws options.entry table.now events.now
+        sink.old sink.new result }
     ensures row { O.most_idle sink.new ≤ max (O.most_idle sink.old) MAX_IDLE_WRITES }
 {
     let Ok(laws) = all_laws(alloc) else {
         return tell_no_memory(sink);
     };
-    match walk_by(alloc, &laws, manner, table, events, sink) {
+    match walk_by(alloc, &laws, options, table, events, sink) {
         Ok(status) => status,
         Err(AllocError) => tell_no_memory(sink),
     }
 }
 
-/// The manner of a walk, by what its words ask for.
-fn manner_of<'a>(why: bool, from: Option<&'a str>) -> Manner<'a>
+/// The options of a walk, by what its words ask for.
+fn options_of<'a>(why: bool, from: Option<&'a str>) -> WalkOptions<'a>
     ensures why { result.why ≡ why }
     ensures from { from_of result ≡ option_map (λ text. text.now) from.entry }
 {
     match from {
-        Some(text) => Manner {
+        Some(text) => WalkOptions {
             why,
             from: Some(text.as_bytes()),
         },
-        None => Manner { why, from: None },
+        None => WalkOptions { why, from: None },
     }
 }
 
@@ -121,8 +124,9 @@ pub(crate) fn walk<I: FileSource, O: ByteSink>(
     ensures reads { I.reads source.new ≤ I.reads source.old + 2 * MAX_READS }
     ensures row { O.most_idle sink.new ≤ max (O.most_idle sink.old) MAX_IDLE_WRITES }
     ensures run { IsRun I.reads I.failures O.failures O.idle source.old source.new sink.old sink.new result }
-    ensures met { result ≢ Status.Fault
-        → WalksTable I.remaining I.reads I.failures O.contents O.failures O.idle why (option_map (λ text. text.now) from.entry) source.old source.new sink.old sink.new result
+    ensures as_asked { result ≢ Status.Fault
+        → WalksTable I.remaining I.reads I.failures O.contents O.failures O.idle why
+        (option_map (λ text. text.now) from.entry) source.old source.new sink.old sink.new result
         ⊎ TellsNoMemory O.contents O.failures O.idle sink.old sink.new result }
     ensures words { result ≢ Status.Usage }
 {
@@ -134,7 +138,7 @@ pub(crate) fn walk<I: FileSource, O: ByteSink>(
         Ok(text) => text,
         Err(why) => return tell_unread(alloc, events, why, sink),
     };
-    walk_all(alloc, manner_of(why, from), &table_text, &event_text, sink)
+    walk_all(alloc, options_of(why, from), &table_text, &event_text, sink)
 }
 
 /// The kinds, guards and actions of all roles, with their laws.

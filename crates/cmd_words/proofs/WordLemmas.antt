@@ -8,9 +8,9 @@ use Rattle.clap.specs.declared.error.Error.{Error}
 use Rattle.clap.specs.declared.error.kind.ErrorKind.{ErrorKind}
 use Rattle.clap.proofs.OnLiterals.{clap_on_literals}
 use Rattle.cmd_words.specs.Words.{dbench_app, wanted, wanted_of, word_faults}
-use Rattle.cmd_words.specs.Asked.{IsAsked, IsRefusal}
-use Rattle.cmd_words.specs.declared.words.Asked.{Asked}
-use Rattle.cmd_words.specs.declared.words.Asked.TheVariants as asked
+use Rattle.cmd_words.specs.Invocations.{IsAsked, IsRefusal}
+use Rattle.cmd_words.specs.declared.words.Invocation.{Invocation}
+use Rattle.cmd_words.specs.declared.words.Invocation.TheVariants as asked
 use Rattle.cmd_words.specs.declared.words.WordsError.{WordsError}
 use Rattle.cmd_words.specs.declared.words.WordsError.TheVariants as errors
 
@@ -33,7 +33,7 @@ unfolding word_faults
 faults-none app words same none = ap (λ (a : App). fault_of a words) (sym same) ∙ none
 
 -- the answer to an error is what the words ask for, or why they are refused
-pub IsAsked-error : (words : List Text) (error : Error) (answer : Result Asked WordsError)
+pub IsAsked-error : (words : List Text) (error : Error) (answer : Result Invocation WordsError)
     → HasKind (word_faults words) error → IsRefusal (kind_of error) answer → IsAsked words answer
 IsAsked-error words error (Ok (asked.Task task)) kind refusal = absurd refusal
 IsAsked-error words error (Ok (asked.Text text)) (inl memory) (inl help) = absurd (cc)

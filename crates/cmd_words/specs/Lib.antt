@@ -1,2 +1,3 @@
+-- The definitions that the contracts of cmd_words speak of.
 pub mod Words
-pub mod Asked
+pub mod Invocations

@@ -3,7 +3,8 @@ ghost use Rattle.std.specs.Prelude.{◌≡◌, IfOk, codes, false, true};
 ghost use Rattle.clap.specs.Simple.{on_top};
 ghost use Rattle.clap.specs.Words.{app_of, new_app, new_rule, rule_of, with_rule, with_subcommand};
 ghost use Rattle.clap.specs.declared.builder.command.Command.TheViews.{out-Command};
-ghost use Rattle.cmd_words.specs.Words.{dbench_app, debugging_app, flag_rule, option_rule, read_app, run_app, run_values, running_app, table_app, walk_app, walking_app};
+ghost use Rattle.cmd_words.specs.Words.{dbench_app, debugging_app, flag_rule, option_rule, read_app, run_app};
+ghost use Rattle.cmd_words.specs.Words.{run_values, running_app, table_app, walk_app, walking_app};
 
 use crate::debug::debug_command;
 use crate::live::live_command;
@@ -90,14 +91,15 @@ pub(crate) fn with_option<'a>(
     help: &'a str,
 ) -> Result<Command<'a>, AllocError>
     requires { (out-Command command).has_globals ≡ false }
-    ensures app { IfOk result (λ c. app_of c ≡ with_rule (app_of command.entry) (option_rule id.entry.now name.entry.now)) }
+    ensures app { IfOk result (λ c. app_of c
+        ≡ with_rule (app_of command.entry) (option_rule id.entry.now name.entry.now)) }
     ensures local { IfOk result (λ c. (out-Command c).has_globals ≡ false) }
 {
     with(command, option(alloc, id, name, help))
 }
 
 /// The command with one flag more.
-fn with_flag<'a>(
+pub(crate) fn with_flag<'a>(
     alloc: Global,
     command: Command<'a>,
     name: &'a str,
@@ -232,7 +234,8 @@ fn run_command<'a>(alloc: Global) -> Result<Command<'a>, AllocError>
         alloc,
         command,
         "nodes",
-        "Run every node of CONFIG; a line of SCRIPT is HOST and a line of its script, or settle, which carries octets between them",
+        "Run every node of CONFIG; a line of SCRIPT is HOST and a line of its script, or settle, \
+            which carries octets between them",
     )?;
     let command = with_option(
         alloc,
@@ -241,12 +244,20 @@ fn run_command<'a>(alloc: Global) -> Result<Command<'a>, AllocError>
         "cut",
         "Carry octets between nodes in pieces of N",
     )?;
+    let command = with_option(
+        alloc,
+        command,
+        "DIR",
+        "log",
+        "Write the log of each node to the file HOST.log in DIR, which is made where it isn't there",
+    )?;
     with_flag(alloc, command, "sample", "Print a small CONFIG")
 }
 
 /// The program's command, with none below it.
 fn top<'a>(alloc: Global) -> Command<'a>
-    ensures { app_of result ≡ on_top (λ s. record s { has_version = true; subcommand_required = true }) (new_app (codes "dbench")) }
+    ensures { app_of result
+        ≡ on_top (λ s. record s { has_version = true; subcommand_required = true }) (new_app (codes "dbench")) }
 {
     Command::new(alloc, "dbench")
         .version("0.1.0")
@@ -274,7 +285,8 @@ fn with_file_command<'a>(
     texts: (&'a str, &'a str),
     file: (&'a str, &'a str),
 ) -> Result<Command<'a>, AllocError>
-    ensures { IfOk result (λ c. app_of c ≡ with_subcommand (app_of command.entry) (with_rule (new_app name.entry.now) (new_rule file.entry.0.now)).top) }
+    ensures { IfOk result (λ c. app_of c
+        ≡ with_subcommand (app_of command.entry) (with_rule (new_app name.entry.now) (new_rule file.entry.0.now)).top) }
 {
     let subcommand = with_value(alloc, bare(alloc, name, texts.0, texts.1), file.0, file.1)?;
     with_command(command, subcommand)

@@ -15,4 +15,4 @@ mod live;
 mod texts;
 mod words;
 
-pub use words::{Asked, NoWords, Task, WordsError, given_words, parse_words};
+pub use words::{Invocation, NoWords, Task, WordsError, given_words, parse_words};

@@ -2,8 +2,10 @@
 ghost use Rattle.std.specs.Prelude.{◌≡◌, Some, map, option_map};
 ghost use Rattle.clap.specs.Words.{first_of, found_of, kind_of, rows_of};
 ghost use Rattle.cmd_words.specs.declared.words.WordsError.TheVariants.{NoMemory};
-ghost use Rattle.cmd_words.specs.Words.{debug_in, debug_wanted, is_given, live_in, live_wanted, read_wanted, run_in, run_wanted, walk_wanted, wanted_of, cut_of, nodes_wanted, uncut};
-ghost use Rattle.cmd_words.specs.Asked.{IsAsked, IsRefusal, meaning};
+ghost use Rattle.cmd_words.specs.Words.{debug_in, debug_wanted, is_given, live_in, live_wanted, read_wanted, run_in};
+ghost use Rattle.cmd_words.specs.Words.{run_wanted, walk_wanted, wanted_of, cut_of, logged};
+ghost use Rattle.cmd_words.specs.Words.{nodes_wanted, runs_in, uncut};
+ghost use Rattle.cmd_words.specs.Invocations.{IsAsked, IsRefusal, meaning};
 
 use crate::commands::command;
 use crate::debug::DEBUG_USAGE;
@@ -47,11 +49,11 @@ pub fn given_words<R: Env + AllocGlobal>(rt: &R) -> Result<Vec<String>, NoWords>
 /// What a command asks for.
 #[derive(Clone, Copy)]
 pub enum Task<'a> {
-    /// `read` in a style, each line by itself or not, by the dictionary of a file or without one, of this file or of standard
-    /// input.
+    /// `read` in a style, each line by itself or not, by the dictionary of a file or without one,
+    /// of this file or of standard input.
     Read(Style, bool, Option<&'a str>, Option<&'a str>),
-    /// `walk`, saying why or not, from where this text says or from the start, of this table, over the events of this file or
-    /// of standard input.
+    /// `walk`, saying why or not, from where this text says or from the start, of this table,
+    /// over the events of this file or of standard input.
     Walk(bool, Option<&'a str>, &'a str, Option<&'a str>),
     /// The names that tables may use.
     Names,
@@ -63,27 +65,29 @@ pub enum Task<'a> {
     Assemble(Option<&'a str>),
     /// `list`, of the image of this file or of standard input.
     ListImage(Option<&'a str>),
-    /// `run`, quiet or not, telling what was sent and the totals or not, of the first node of this file, over the script of this
-    /// file or of standard input.
+    /// `run`, quiet or not, telling what was sent and the totals or not, of the first node of this file,
+    /// over the script of this file or of standard input.
     Run(bool, bool, bool, &'a str, Option<&'a str>),
-    /// `debug`, of the first node of this file, over the script of this file or over none, with the commands of this file or of
-    /// standard input.
+    /// `debug`, of the first node of this file, over the script of this file or over none,
+    /// with the commands of this file or of standard input.
     Debug(&'a str, Option<&'a str>, Option<&'a str>),
-    /// `run --nodes`, quiet or not, telling what was sent and the totals or not, in pieces of so many octets, of the nodes of this
-    /// file, over the script of this file or of standard input.
+    /// `run --nodes`, quiet or not, telling what was sent and the totals or not, in pieces of so many octets, of the
+    /// nodes of this file, over the script of this file or of standard input.
     Nodes(bool, bool, bool, u64, &'a str, Option<&'a str>),
+    /// The same, and the log of each node is written into this folder, which stands first.
+    Logged(&'a str, bool, bool, bool, u64, &'a str, Option<&'a str>),
     /// A small CONFIG.
     Sample,
-    /// `live`: the nodes of this file, or the one of this host, for so many seconds or not, with their logs written to this folder or
-    /// not.
-    Live(&'a str, Option<&'a str>, Option<&'a str>, Option<&'a str>),
+    /// `live`: the nodes of this file, or the one of this host, for so many seconds or not,
+    /// with their logs written to this folder or not, and with a line a second or not.
+    Live(&'a str, Option<&'a str>, Option<&'a str>, Option<&'a str>, bool),
     /// Not one thing: what is told then.
     Nothing(&'static str),
 }
 
 /// What the words ask for.
 #[derive(Drop)]
-pub enum Asked<'a> {
+pub enum Invocation<'a> {
     Task(Task<'a>),
     /// A text: help or the version.
     Text(String),
@@ -114,13 +118,13 @@ impl<T: Drop> From<AllocFailed<T>> for WordsError {
 }
 
 // The text of an error is asked for, or tells what is wrong with the words.
-fn refusal<'a>(alloc: Global, error: &Error) -> Result<Asked<'a>, WordsError>
+fn refusal<'a>(alloc: Global, error: &Error) -> Result<Invocation<'a>, WordsError>
     ensures { IsRefusal (kind_of error.now) result }
 {
     match error.kind() {
         ErrorKind::OutOfMemory => Err(WordsError::NoMemory),
         ErrorKind::DisplayHelp | ErrorKind::DisplayVersion => {
-            Ok(Asked::Text(format!(in alloc; "{error}")?))
+            Ok(Invocation::Text(format!(in alloc; "{error}")?))
         }
         _ => Err(WordsError::Refused(format!(in alloc; "{error}")?)),
     }
@@ -144,7 +148,8 @@ fn read_task<'a>(
     dictionary: Option<&'a str>,
     file: Option<&'a str>,
 ) -> Task<'a>
-    ensures { meaning result ≡ read_wanted explain json by_line (option_map (λ text. text.now) dictionary.entry) (option_map (λ text. text.now) file.entry) }
+    ensures { meaning result ≡ read_wanted explain json by_line (option_map (λ text. text.now) dictionary.entry)
+        (option_map (λ text. text.now) file.entry) }
 {
     match (explain, json) {
         (false, false) => Task::Read(Style::Plain, by_line, dictionary, file),
@@ -163,7 +168,9 @@ fn walk_task<'a>(
     table: Option<&'a str>,
     events: Option<&'a str>,
 ) -> Task<'a>
-    ensures { meaning result ≡ walk_wanted names why (option_map (λ text. text.now) role.entry) (option_map (λ text. text.now) from.entry) (option_map (λ text. text.now) table.entry) (option_map (λ text. text.now) events.entry) }
+    ensures { meaning result
+        ≡ walk_wanted names why (option_map (λ text. text.now) role.entry) (option_map (λ text. text.now) from.entry)
+        (option_map (λ text. text.now) table.entry) (option_map (λ text. text.now) events.entry) }
 {
     match (names, why, role, from, table, events) {
         (true, false, None, None, None, None) => Task::Names,
@@ -182,7 +189,8 @@ fn run_task<'a>(
     config: Option<&'a str>,
     script: Option<&'a str>,
 ) -> Task<'a>
-    ensures { meaning result ≡ run_wanted sample quiet sent totals (option_map (λ text. text.now) config.entry) (option_map (λ text. text.now) script.entry) }
+    ensures { meaning result ≡ run_wanted sample quiet sent totals (option_map (λ text. text.now) config.entry)
+        (option_map (λ text. text.now) script.entry) }
 {
     match (sample, quiet, sent, totals, config, script) {
         (true, false, false, false, None, None) => Task::Sample,
@@ -191,17 +199,19 @@ fn run_task<'a>(
     }
 }
 
-/// What `live` asks for, by CONFIG, HOST, SECONDS and DIR.
+/// What `live` asks for, by CONFIG, HOST, SECONDS, DIR and its flag.
 fn live_task<'a>(
     config: Option<&'a str>,
     node: Option<&'a str>,
     seconds: Option<&'a str>,
     log: Option<&'a str>,
+    stats: bool,
 ) -> Task<'a>
-    ensures { meaning result ≡ live_wanted (option_map (λ text. text.now) config.entry) (option_map (λ text. text.now) node.entry) (option_map (λ text. text.now) seconds.entry) (option_map (λ text. text.now) log.entry) }
+    ensures { meaning result ≡ live_wanted (option_map (λ text. text.now) config.entry) (option_map (λ text. text.now)
+        node.entry) (option_map (λ text. text.now) seconds.entry) (option_map (λ text. text.now) log.entry) stats }
 {
     match config {
-        Some(config) => Task::Live(config, node, seconds, log),
+        Some(config) => Task::Live(config, node, seconds, log, stats),
         None => Task::Nothing(LIVE_USAGE),
     }
 }
@@ -229,7 +239,8 @@ fn nodes_task<'a>(
     config: Option<&'a str>,
     script: Option<&'a str>,
 ) -> Task<'a>
-    ensures { meaning result ≡ nodes_wanted sample quiet sent totals cut (option_map (λ text. text.now) config.entry) (option_map (λ text. text.now) script.entry) }
+    ensures { meaning result ≡ nodes_wanted sample quiet sent totals cut (option_map (λ text. text.now) config.entry)
+        (option_map (λ text. text.now) script.entry) }
 {
     match (sample, cut, config) {
         (false, Some(cut), Some(config)) => Task::Nodes(quiet, sent, totals, cut, config, script),
@@ -247,6 +258,21 @@ fn uncut<'a>(cut: Option<&str>, task: Task<'a>) -> Task<'a>
     }
 }
 
+/// The same with `--log`: of a run of all nodes, whose logs are written into a folder.
+fn logged<'a>(folder: Option<&'a str>, task: Task<'a>) -> Task<'a>
+    ensures { meaning result ≡ logged (option_map (λ text. text.now) folder.entry) (meaning task.entry) }
+{
+    let Some(folder) = folder else {
+        return task;
+    };
+    match task {
+        Task::Nodes(quiet, sent, totals, cut, config, script) => {
+            Task::Logged(folder, quiet, sent, totals, cut, config, script)
+        }
+        _ => Task::Nothing(RUN_USAGE),
+    }
+}
+
 /// The value of an argument, if it has one.
 fn value_of<'a>(found: &ArgMatches<'a>, id: &str) -> Option<&'a str>
     ensures { option_map (λ text. text.now) result ≡ first_of id.now (rows_of (found_of found.now)) }
@@ -254,9 +280,9 @@ fn value_of<'a>(found: &ArgMatches<'a>, id: &str) -> Option<&'a str>
     found.get_str(id)
 }
 
-/// What `run` asks for.
-fn run_task_of<'a>(found: &ArgMatches<'a>) -> Task<'a>
-    ensures { meaning result ≡ run_in (rows_of (found_of found.now)) }
+/// What `run` asks for, without `--log`.
+fn runs_task<'a>(found: &ArgMatches<'a>) -> Task<'a>
+    ensures { meaning result ≡ runs_in (rows_of (found_of found.now)) }
 {
     let sample = is_given(value_of(found, "sample"));
     let quiet = is_given(value_of(found, "quiet"));
@@ -271,13 +297,21 @@ fn run_task_of<'a>(found: &ArgMatches<'a>) -> Task<'a>
     uncut(cut, run_task(sample, quiet, sent, totals, config, script))
 }
 
+/// What `run` asks for.
+fn run_task_of<'a>(found: &ArgMatches<'a>) -> Task<'a>
+    ensures { meaning result ≡ run_in (rows_of (found_of found.now)) }
+{
+    logged(value_of(found, "DIR"), runs_task(found))
+}
+
 /// What `debug` asks for, by CONFIG, SCRIPT and the file of commands.
 fn debug_task<'a>(
     config: Option<&'a str>,
     script: Option<&'a str>,
     commands: Option<&'a str>,
 ) -> Task<'a>
-    ensures { meaning result ≡ debug_wanted (option_map (λ text. text.now) config.entry) (option_map (λ text. text.now) script.entry) (option_map (λ text. text.now) commands.entry) }
+    ensures { meaning result ≡ debug_wanted (option_map (λ text. text.now) config.entry)
+        (option_map (λ text. text.now) script.entry) (option_map (λ text. text.now) commands.entry) }
 {
     match config {
         Some(config) => Task::Debug(config, script, commands),
@@ -301,7 +335,14 @@ fn live_task_of<'a>(found: &ArgMatches<'a>) -> Task<'a>
     let config = value_of(found, "CONFIG");
     let node = value_of(found, "HOST");
     let seconds = value_of(found, "SECONDS");
-    live_task(config, node, seconds, value_of(found, "DIR"))
+    let log = value_of(found, "DIR");
+    live_task(
+        config,
+        node,
+        seconds,
+        log,
+        is_given(value_of(found, "stats")),
+    )
 }
 
 /// What a command asks for, by its name and what stands behind it.
@@ -353,7 +394,10 @@ fn task_of<'a>(name: &str, found: &ArgMatches<'a>) -> Task<'a>
 }
 
 /// What the words ask for; the first of them is the program's name.
-pub fn parse_words<'a, S: AsStr>(alloc: Global, words: &'a [S]) -> Result<Asked<'a>, WordsError>
+pub fn parse_words<'a, S: AsStr>(
+    alloc: Global,
+    words: &'a [S],
+) -> Result<Invocation<'a>, WordsError>
     ensures { IsAsked (map S.text words.entry.now) result }
 {
     let matches = match command(alloc)?.try_get_matches_from(words) {
@@ -361,7 +405,7 @@ pub fn parse_words<'a, S: AsStr>(alloc: Global, words: &'a [S]) -> Result<Asked<
         Err(error) => return refusal(alloc, &error),
     };
     match matches.subcommand() {
-        Some((name, found)) => Ok(Asked::Task(task_of(name, found))),
-        None => Ok(Asked::Task(Task::Read(Style::Plain, false, None, None))),
+        Some((name, found)) => Ok(Invocation::Task(task_of(name, found))),
+        None => Ok(Invocation::Task(Task::Read(Style::Plain, false, None, None))),
     }
 }

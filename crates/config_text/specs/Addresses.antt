@@ -1,5 +1,6 @@
 -- Which IPv4 address a text is.
-use Rattle.std.specs.Prelude.{ℕ, ◌==◌, ◌&&◌, nat_lt, Bool, List, [], ◌∷◌, Option, Some, None, length, slice_index, if◌then◌else◌}
+use Rattle.std.specs.Prelude.{ℕ, ◌==◌, ◌&&◌, nat_lt, Bool, List, [], ◌∷◌, Option, Some, None}
+use Rattle.std.specs.Prelude.{length, slice_index, if◌then◌else◌}
 use Rattle.base_text.specs.Numbers.{number_of}
 use Rattle.text_parts.specs.Pieces.{pieces_in}
 

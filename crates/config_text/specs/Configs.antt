@@ -10,7 +10,8 @@ abbrev pub host_of : PeerConfig → List ℕ
 host_of peer = peer.host
 
 -- all that the node has of it, as many desks as it has, and the tables and the dictionary
-pub record IsConfigOf (node : NodeConfig) (tables : RoleTables) (dictionary : List Definition) (config : Config) : Type 0 where
+pub record IsConfigOf (node : NodeConfig) (tables : RoleTables) (dictionary : List Definition)
+    (config : Config) : Type 0 where
   pub identity : config.identity ≡ node.identity
   pub peers : config.peers.items ≡ map host_of node.peers
   pub accounts : config.accounts.items ≡ node.accounts

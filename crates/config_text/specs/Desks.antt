@@ -39,7 +39,8 @@ repeated_in place d =
 -- a desk: a list of lines, or an object that has them
 abbrev pub desk_at : Place → Data → Result DeskConfig Fault
 desk_at place d =
-    if is_some (as_array d) then lines_in place d else if is_some (as_object d) then repeated_in place d else Err (fault_at place wanted.Desk)
+    if is_some (as_array d) then lines_in place d
+    else if is_some (as_object d) then repeated_in place d else Err (fault_at place wanted.Desk)
 
 abbrev pub desk_of : Place → ℕ → Data → Result DeskConfig Fault
 desk_of list index d = desk_at (item_at index list) d

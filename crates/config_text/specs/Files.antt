@@ -22,14 +22,16 @@ tables_with read = record { peer = read.0; client = read.1.0; server = read.1.1 
 abbrev pub names_in : Place → Data → Result Tables Fault
 names_in place d =
     after (object_of place shapes.Tables d)
-    (made tables_with (both (text_or_none place fields.Peer d) (both (text_or_none place fields.Client d) (text_or_none place fields.Server d))))
+    (made tables_with (both (text_or_none place fields.Peer d)
+    (both (text_or_none place fields.Client d) (text_or_none place fields.Server d))))
 
 abbrev pub no_tables : Tables
 no_tables = record { peer = None; client = None; server = None }
 
 -- the files of the tables, none for null
 unfoldable pub tables_of : Place → Data → Result Tables Fault
-tables_of place d = if is_null (field_of fields.Tables d) then Ok no_tables else names_in (within fields.Tables place) (field_of fields.Tables d)
+tables_of place d = if is_null (field_of fields.Tables d) then Ok no_tables
+    else names_in (within fields.Tables place) (field_of fields.Tables d)
 
 abbrev pub files_with : Tables × Name → Files
 files_with read = record { tables = read.0; dictionary = read.1 }

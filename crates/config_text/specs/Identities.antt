@@ -14,4 +14,5 @@ identity_with read = record { host = read.0; realm = read.1.0; address = read.1.
 -- who a node is: its host, realm and address
 unfoldable pub identity_of : Place → Data → Result Identity Fault
 identity_of place d =
-    made identity_with (both (text_in place fields.Host d) (both (text_in place fields.Realm d) (address_in place fields.Address d)))
+    made identity_with (both (text_in place fields.Host d)
+    (both (text_in place fields.Realm d) (address_in place fields.Address d)))

@@ -1,5 +1,6 @@
 -- Texts, numbers and addresses that stand in fields of an object. A field that is absent counts as null.
-use Rattle.std.specs.Prelude.{ℕ, List, Bool, Option, Some, None, Result, Ok, is_some, unwrap_or, option_and_then, if◌then◌else◌}
+use Rattle.std.specs.Prelude.{ℕ, List, Bool, Option, Some, None, Result, Ok, is_some}
+use Rattle.std.specs.Prelude.{unwrap_or, option_and_then, if◌then◌else◌}
 use Rattle.std.specs.Option.{ok_or}
 use Rattle.std.specs.Borrow.{Bor}
 use Rattle.serde_json.specs.Data.{Data, null}
@@ -41,11 +42,13 @@ text_in place field d = text_of (within field place) (field_of field d)
 
 -- a text in a field, or none for null
 unfoldable pub text_or_none : Place → Field → Data → Result (Option (List ℕ)) Fault
-text_or_none place field d = if is_null (field_of field d) then Ok None else made Some (text_of (within field place) (field_of field d))
+text_or_none place field d =
+    if is_null (field_of field d) then Ok None else made Some (text_of (within field place) (field_of field d))
 
 -- an address in a field
 unfoldable pub address_in : Place → Field → Data → Result (List ℕ) Fault
-address_in place field d = ok_or (option_and_then address_of (as_str (field_of field d))) (fault_at (within field place) wanted.Address)
+address_in place field d =
+    ok_or (option_and_then address_of (as_str (field_of field d))) (fault_at (within field place) wanted.Address)
 
 -- a whole number in a field
 unfoldable pub whole_in : Place → Field → Data → Result ℕ Fault
@@ -53,4 +56,5 @@ whole_in place field d = whole_of (within field place) (field_of field d)
 
 -- a whole number in a field, or the default for null
 unfoldable pub whole_or : ℕ → Place → Field → Data → Result ℕ Fault
-whole_or default place field d = if is_null (field_of field d) then Ok default else whole_of (within field place) (field_of field d)
+whole_or default place field d =
+    if is_null (field_of field d) then Ok default else whole_of (within field place) (field_of field d)

@@ -1,3 +1,4 @@
+-- The definitions that the contracts of config_text speak of.
 pub mod Fields
 pub mod Places
 pub mod Faults

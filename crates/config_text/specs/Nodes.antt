@@ -32,7 +32,8 @@ links_with read = record { identity = read.0; listen = read.1.0; peers = read.1.
 -- who a node is, where it listens, its peers
 unfoldable pub links_of : Place → Data → Result Links Fault
 links_of place d =
-    made links_with (both (identity_of place d) (both (text_or_none place fields.Listen d) (list_or_none peer_of place fields.Peers d)))
+    made links_with (both (identity_of place d)
+    (both (text_or_none place fields.Listen d) (list_or_none peer_of place fields.Peers d)))
 
 abbrev pub book_with : (ℕ × ℕ) × (List Account × ℕ) → Book
 book_with read = record { shards = read.0.0; pages = read.0.1; accounts = read.1.0; default_units = read.1.1 }
@@ -45,7 +46,8 @@ sizes_of place d = both (whole_or DEFAULT_SHARDS place fields.Shards d) (whole_o
 unfoldable pub book_of : Place → Data → Result Book Fault
 book_of place d =
     made book_with
-    (both (sizes_of place d) (both (list_or_none account_of place fields.Accounts d) (whole_or DEFAULT_UNITS place fields.DefaultUnits d)))
+    (both (sizes_of place d) (both (list_or_none account_of place fields.Accounts d)
+    (whole_or DEFAULT_UNITS place fields.DefaultUnits d)))
 
 abbrev pub work_with : List DeskConfig × (ℕ × Files) → Work
 work_with read = record { desks = read.0; turns = read.1.0; files = read.1.1 }
@@ -53,7 +55,8 @@ work_with read = record { desks = read.0; turns = read.1.0; files = read.1.1 }
 -- the desks, the turns of a run, the files
 unfoldable pub work_of : Place → Data → Result Work Fault
 work_of place d =
-    made work_with (both (list_or_none desk_of place fields.Desks d) (both (whole_or DEFAULT_TURNS place fields.Turns d) (files_of place d)))
+    made work_with (both (list_or_none desk_of place fields.Desks d)
+    (both (whole_or DEFAULT_TURNS place fields.Turns d) (files_of place d)))
 
 abbrev pub node_with : Links × (Book × Work) → NodeConfig
 node_with read = record {
@@ -71,7 +74,8 @@ node_with read = record {
 
 -- a node: an object that has no other field, and then the fields in their order
 unfoldable pub node_at : Place → Data → Result NodeConfig Fault
-node_at place d = after (object_of place shapes.Node d) (made node_with (both (links_of place d) (both (book_of place d) (work_of place d))))
+node_at place d = after (object_of place shapes.Node d) (made node_with
+    (both (links_of place d) (both (book_of place d) (work_of place d))))
 
 -- the node at an index of the list of all
 abbrev pub node_of : Place → ℕ → Data → Result NodeConfig Fault

@@ -39,9 +39,12 @@ unfoldable pub list_of : {T : Type 0} → (Place → ℕ → Data → Result T F
 list_of read place d = list_with (read place) place (as_array d)
 
 -- the parts of a list in a field
-unfoldable pub list_in : {T : Type 0} → (Place → ℕ → Data → Result T Fault) → Place → Field → Data → Result (List T) Fault
+unfoldable pub list_in : {T : Type 0} → (Place → ℕ → Data → Result T Fault)
+    → Place → Field → Data → Result (List T) Fault
 list_in read place field d = list_of read (within field place) (field_of field d)
 
 -- the same, and none for null
-unfoldable pub list_or_none : {T : Type 0} → (Place → ℕ → Data → Result T Fault) → Place → Field → Data → Result (List T) Fault
-list_or_none read place field d = if is_null (field_of field d) then Ok [] else list_of read (within field place) (field_of field d)
+unfoldable pub list_or_none : {T : Type 0}
+    → (Place → ℕ → Data → Result T Fault) → Place → Field → Data → Result (List T) Fault
+list_or_none read place field d =
+    if is_null (field_of field d) then Ok [] else list_of read (within field place) (field_of field d)

@@ -17,4 +17,5 @@ line_at index place = record place { line = Some index }
 
 -- a field of the object at a place: of a node or the whole, and else of what stands in a field of a node
 unfoldable pub within : Field → Place → Place
-within field place = if is_some place.field then record place { inner = Some field } else record place { field = Some field }
+within field place =
+    if is_some place.field then record place { inner = Some field } else record place { field = Some field }

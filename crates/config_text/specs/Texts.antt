@@ -23,8 +23,8 @@ IsRefusalOf error (errors.Fault fault) = ⊥
 unfoldable pub nodes_in : List ℕ → Option (Result (List NodeConfig) Fault)
 nodes_in text = option_map (λ d. after (unless_twice (twice_of text)) (nodes_of d)) (read text)
 
--- Memory may be wanting for any text, since reading JSON takes some. A text is no JSON where it is no UTF-8, or is the text of no
--- value. A fault is the first of the value that the text is.
+-- Memory may be wanting for any text, since reading JSON takes some. A text is no JSON where it is no UTF-8, or is the
+-- text of no value. A fault is the first of the value that the text is.
 abbrev pub IsRefused : List ℕ → ConfigError → Type 0
 IsRefused text errors.NoMemory = Unit {0}
 IsRefused text (errors.NotJson line column) = IsUtf8 text → read text ≡ None

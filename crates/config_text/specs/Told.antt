@@ -1,9 +1,11 @@
 -- What is told of a text that gives no nodes.
-use Rattle.std.specs.Prelude.{ℕ, ◌||◌, List, [], ◌∷◌, ◌++◌, Option, Some, None, codes, decimal, map, nat_lt, if◌then◌else◌}
+use Rattle.std.specs.Prelude.{ℕ, ◌||◌, List, [], ◌∷◌, ◌++◌, Option, Some, None, codes, decimal}
+use Rattle.std.specs.Prelude.{map, nat_lt, if◌then◌else◌}
 use Rattle.config_text.specs.declared.fault.ConfigError.{ConfigError}
 use Rattle.config_text.specs.declared.fault.ConfigError.TheVariants as errors
 use Rattle.config_text.specs.declared.fault.Wanted.{Wanted}
-use Rattle.config_text.specs.declared.fault.Wanted.TheVariants.{Text, Whole, Address, List as ListWanted, Object, Desk, Known, Once}
+use Rattle.config_text.specs.declared.fault.Wanted.TheVariants.{Text, Whole, Address, List as ListWanted, Object}
+use Rattle.config_text.specs.declared.fault.Wanted.TheVariants.{Desk, Known, Once}
 use Rattle.config_text.specs.declared.field.Field.{Field}
 use Rattle.config_text.specs.declared.field.Shape.{Shape}
 use Rattle.config_text.specs.declared.place.Place.{Place}
@@ -22,7 +24,8 @@ field_text (Some field) = codes "." ++ name_of field
 -- what is behind `nodes`: `[0].peers[1].host`
 unfoldable pub inside_text : Place → List ℕ
 inside_text place =
-    index_text place.node ++ field_text place.field ++ index_text place.item ++ field_text place.inner ++ index_text place.line
+    index_text place.node ++ field_text place.field
+    ++ index_text place.item ++ field_text place.inner ++ index_text place.line
 
 abbrev pub place_with : Place → Option ℕ → Option Field → List ℕ
 place_with place (Some node) field = codes "nodes" ++ inside_text place

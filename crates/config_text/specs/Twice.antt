@@ -1,7 +1,9 @@
 -- Names that stand twice in one object of JSON.
-use Rattle.std.specs.Prelude.{◌≡◌, ℕ, zero, suc, Bool, List, Option, Some, None, Result, Ok, Err, ⊤, option_and_then, take, ◌||◌, false, if◌then◌else◌}
+use Rattle.std.specs.Prelude.{◌≡◌, ℕ, zero, suc, Bool, List, Option, Some, None, Result, Ok, Err, ⊤, option_and_then}
+use Rattle.std.specs.Prelude.{take, ◌||◌, false, if◌then◌else◌}
 use Rattle.std.specs.Str.{bytes_eq}
-use Rattle.json.specs.Json.{Json, null, boolean, number, string, array, object, Items, no_items, item, Members, no_members, member, document, max_depth}
+use Rattle.json.specs.Json.{Json, null, boolean, number, string, array, object, Items, no_items, item, Members}
+use Rattle.json.specs.Json.{no_members, member, document, max_depth}
 use Rattle.config_text.specs.declared.fault.ConfigError.{ConfigError}
 use Rattle.config_text.specs.declared.fault.ConfigError.TheVariants as errors
 use Rattle.config_text.specs.declared.fault.Fault.{Fault}
@@ -27,7 +29,8 @@ twice_in_items inside (item j js) = or_else (inside j) (twice_in_items inside js
 -- the first name that another member behind it has, or what is found in a value in front of that
 abbrev pub twice_in_members : (Json → Option (List ℕ)) → Members → Option (List ℕ)
 twice_in_members inside no_members = None
-twice_in_members inside (member key j ms) = if is_named key ms then Some key else or_else (inside j) (twice_in_members inside ms)
+twice_in_members inside (member key j ms) =
+    if is_named key ms then Some key else or_else (inside j) (twice_in_members inside ms)
 
 abbrev pub twice_with : (Json → Option (List ℕ)) → Json → Option (List ℕ)
 twice_with inside null = None

@@ -2,7 +2,8 @@
 ghost use Rattle.std.specs.Prelude.{◌≡◌};
 ghost use Rattle.serde_json.specs.View.{view};
 ghost use Rattle.config_text.specs.Answers.{Answers};
-ghost use Rattle.config_text.specs.Leaves.{address_in, data_of, field_of, is_null, text_in, text_of, text_or_none, whole_in, whole_of, whole_or};
+ghost use Rattle.config_text.specs.Leaves.{address_in, data_of, field_of, is_null, text_in, text_of, text_or_none};
+ghost use Rattle.config_text.specs.Leaves.{whole_in, whole_of, whole_or};
 
 use crate::address::address_of;
 use crate::fault::{ConfigError, Fault, Wanted};

@@ -3,7 +3,8 @@ ghost use Rattle.std.specs.Prelude.{◌≡◌, Ok, IfErr, OnOk};
 ghost use Rattle.std.specs.Option.{option_map};
 ghost use Rattle.std.specs.Str.{IsUtf8};
 ghost use Rattle.json.specs.Value.{items_view, members_view, value_view};
-ghost use Rattle.config_text.specs.Twice.{IsTwice, first_twice, is_named, twice_in_items, twice_in_members, twice_of, twice_with, unless_twice};
+ghost use Rattle.config_text.specs.Twice.{IsTwice, first_twice, is_named, twice_in_items, twice_in_members};
+ghost use Rattle.config_text.specs.Twice.{twice_of, twice_with, unless_twice};
 
 use crate::fault::{ConfigError, Fault, Wanted};
 use crate::object::kept_name;

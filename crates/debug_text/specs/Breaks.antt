@@ -29,7 +29,8 @@ state_at key (Some state) = Ok (State key state)
 
 abbrev pub state_with : Tables → Option Key → List ℕ → Result Breakpoint CommandFault
 state_with tables None word = Err UnknownCommand
-state_with tables (Some key) word = state_at key (position (λ name. bytes_eq name word) (table_of tables key.role).states)
+state_with tables (Some key) word =
+    state_at key (position (λ name. bytes_eq name word) (table_of tables key.role).states)
 
 abbrev pub state_break : Tables → List Word → Result Breakpoint CommandFault
 state_break tables [] = Err UnknownCommand

@@ -10,7 +10,9 @@ use Rattle.debug_text.specs.declared.command.Command.TheVariants as commands
 use Rattle.debug_text.specs.declared.command.CommandFault.{CommandFault}
 use Rattle.debug_text.specs.declared.command.CommandFault.TheVariants.{UnknownCommand, NoSuchMachine}
 use Rattle.debug_text.specs.declared.verb.Verb.{Verb}
-use Rattle.debug_text.specs.declared.verb.Verb.TheVariants.{Step, Back, Go, ReverseGo, Goto, Break, Clear, Show, ListRow, TotalsOf, Where, Help, History, Why, Queues, Timers, Lines, Sent, Accounts}
+use Rattle.debug_text.specs.declared.verb.Verb.TheVariants.{Step, Back, Go, ReverseGo, Goto, Break, Clear, Show}
+use Rattle.debug_text.specs.declared.verb.Verb.TheVariants.{ListRow, TotalsOf, Where, Help, History, Why, Queues}
+use Rattle.debug_text.specs.declared.verb.Verb.TheVariants.{Timers, Lines, Sent, Accounts}
 
 -- a command without words behind it
 abbrev pub alone : Command → List Word → Result Command CommandFault

@@ -2,7 +2,9 @@
 use Rattle.std.specs.Prelude.{ℕ, List, ◌++◌, codes, decimal, Result, Ok, Err}
 use Rattle.bench_item.specs.Steps as steps
 use Rattle.debug_text.specs.declared.command.CommandFault.{CommandFault}
-use Rattle.debug_text.specs.declared.command.CommandFault.TheVariants.{UnknownCommand, BadNumber, NoSuchMachine, NoSuchBreakpoint, AtStart, TooManyBreakpoints, NoMemory, StepRefused, NoSuchAccount, NoSuchRow}
+use Rattle.debug_text.specs.declared.command.CommandFault.TheVariants.{UnknownCommand, BadNumber, NoSuchMachine}
+use Rattle.debug_text.specs.declared.command.CommandFault.TheVariants.{NoSuchBreakpoint, AtStart, TooManyBreakpoints}
+use Rattle.debug_text.specs.declared.command.CommandFault.TheVariants.{NoMemory, StepRefused, NoSuchAccount, NoSuchRow}
 
 -- the number that is printed for a fault
 abbrev pub number_of : CommandFault → ℕ

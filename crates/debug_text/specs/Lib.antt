@@ -1,3 +1,4 @@
+-- The definitions that the contracts of debug_text speak of.
 pub mod Tables
 pub mod Faults
 pub mod Verbs

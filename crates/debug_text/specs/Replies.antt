@@ -7,7 +7,8 @@ use Rattle.step_text.specs.Names.{key_name, shown}
 use Rattle.tab_step.specs.declared.machine.MachineState.{MachineState}
 use Rattle.debug_text.specs.Tables.{Tables, table_of}
 use Rattle.debug_text.specs.declared.reply.Reply.{Reply}
-use Rattle.debug_text.specs.declared.reply.Reply.TheVariants.{Text, End, At, StoppedAt, EndAt, WasSet, WasCleared, Stands, AreTotals, IsAt, Help}
+use Rattle.debug_text.specs.declared.reply.Reply.TheVariants.{Text, End, At, StoppedAt, EndAt, WasSet, WasCleared}
+use Rattle.debug_text.specs.declared.reply.Reply.TheVariants.{Stands, AreTotals, IsAt, Help}
 use Rattle.debug_text.specs.declared.write.TheConstants.{HELP}
 
 -- the registers that aren't 0, the first of them with that number: ` rR=V` each
@@ -40,7 +41,8 @@ abbrev pub reply_text : Tables → Reply → List ℕ
 reply_text tables (Text text) = text
 reply_text tables End = codes "end\n"
 reply_text tables (At place) = codes "at " ++ decimal place ++ codes "\n"
-reply_text tables (StoppedAt place number) = codes "stopped at " ++ decimal place ++ codes " by " ++ decimal number ++ codes "\n"
+reply_text tables (StoppedAt place number) =
+    codes "stopped at " ++ decimal place ++ codes " by " ++ decimal number ++ codes "\n"
 reply_text tables (EndAt place) = codes "end at " ++ decimal place ++ codes "\n"
 reply_text tables (WasSet number) = codes "break " ++ decimal number ++ codes "\n"
 reply_text tables (WasCleared number) = codes "cleared " ++ decimal number ++ codes "\n"

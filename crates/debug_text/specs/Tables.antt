@@ -13,7 +13,8 @@ pub record Tables : Type 0 where
   pub server : Contents
 
 abbrev pub tables_of : TableBook → Tables
-tables_of book = record { laws = book.laws.now; peer = book.peer.now; client = book.client.now; server = book.server.now }
+tables_of book =
+    record { laws = book.laws.now; peer = book.peer.now; client = book.client.now; server = book.server.now }
 
 -- the table of a role
 abbrev pub table_of : Tables → Role → Contents

@@ -2,7 +2,9 @@
 use Rattle.std.specs.Prelude.{ℕ, List, Option, Some, None, codes, if◌then◌else◌}
 use Rattle.std.specs.Str.{bytes_eq}
 use Rattle.debug_text.specs.declared.verb.Verb.{Verb}
-use Rattle.debug_text.specs.declared.verb.Verb.TheVariants.{Step, Back, Go, ReverseGo, Goto, Break, Clear, Show, ListRow, TotalsOf, Where, Help, History, Why, Queues, Timers, Lines, Sent, Accounts}
+use Rattle.debug_text.specs.declared.verb.Verb.TheVariants.{Step, Back, Go, ReverseGo, Goto, Break, Clear, Show}
+use Rattle.debug_text.specs.declared.verb.Verb.TheVariants.{ListRow, TotalsOf, Where, Help, History, Why, Queues}
+use Rattle.debug_text.specs.declared.verb.Verb.TheVariants.{Timers, Lines, Sent, Accounts}
 
 abbrev pub name_of : Verb → List ℕ
 name_of Step = codes "step"

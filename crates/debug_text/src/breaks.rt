@@ -2,7 +2,8 @@
 ghost use Rattle.std.specs.Prelude.{◌≡◌, ◌<◌, Ok, IfErr, IfOk, IfSome, length, position};
 ghost use Rattle.std.specs.Str.{bytes_eq};
 ghost use Rattle.script_text.specs.Keys.{key_of};
-ghost use Rattle.debug_text.specs.Breaks.{break_by, break_from, kind_break, machine_break, row_break, state_break, state_with, value_break, value_with};
+ghost use Rattle.debug_text.specs.Breaks.{break_by, break_from, kind_break, machine_break, row_break, state_break};
+ghost use Rattle.debug_text.specs.Breaks.{state_with, value_break, value_with};
 ghost use Rattle.debug_text.specs.Faults.{fault_in};
 ghost use Rattle.debug_text.specs.Tables.{tables_of};
 ghost use Rattle.debug_text.specs.Words.{register_of};

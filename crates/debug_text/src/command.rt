@@ -72,12 +72,12 @@ pub enum Command {
     Accounts,
 }
 
-/// Why a command is refused. Where several hold, the first of these is told: an unknown command, a bad number, no such row, too many
-/// breakpoints; and want of memory last.
+/// Why a command is refused. Where several hold, the first of these is told:
+/// an unknown command, a bad number, no such row, too many breakpoints; and want of memory last.
 #[derive(Clone, Copy)]
 pub enum CommandFault {
-    /// The word or the form is none of a command; a role, a kind of events or a state that isn't there, or a word that is no key, in `break`
-    /// and `list`.
+    /// The word or the form is none of a command; a role, a kind of events or a state that isn't there,
+    /// or a word that is no key, in `break` and `list`.
     UnknownCommand,
     /// A number is none, or of nothing that is there.
     BadNumber,

@@ -69,8 +69,8 @@ fn command_by(
     }
 }
 
-/// The command of a line. Why it is none: an unknown word or form, then a bad number; a machine that is to be shown by a word that is no
-/// key isn't there; and memory.
+/// The command of a line. Why it is none: an unknown word or form, then a bad number;
+/// a machine that is to be shown by a word that is no key isn't there; and memory.
 #[tactic(auto, unfolding(crate::specs::Commands::command_of))]
 pub fn read_command(
     alloc: Global,

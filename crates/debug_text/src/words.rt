@@ -3,7 +3,8 @@ ghost use Rattle.std.specs.Prelude.{◌≡◌, ◌==◌, Ok, IfErr, IfOk};
 ghost use Rattle.std.specs.List.{slice_split};
 ghost use Rattle.script_text.specs.Keys.{key_of};
 ghost use Rattle.debug_text.specs.Faults.{fault_in};
-ghost use Rattle.debug_text.specs.Words.{key_or, one_key, one_number, register_from, register_of, register_with, role_in, role_of, row_of, row_with};
+ghost use Rattle.debug_text.specs.Words.{key_or, one_key, one_number, register_from, register_of, register_with};
+ghost use Rattle.debug_text.specs.Words.{role_in, role_of, row_of, row_with};
 ghost use Rattle.text_parts.specs.Pieces.{words_left};
 
 use crate::command::CommandFault;

@@ -1,3 +1,4 @@
+//! The headers of the requests and answers that deeds send.
 ghost use Rattle.std.specs.Prelude.{◌≡◌};
 ghost use Rattle.deed_message.specs.Headers.{is_proxiable, header, lowest, identifier, request_header, answer_header};
 
@@ -50,9 +51,9 @@ fn identifier(machine: u64, count: u64) -> u32
     (machine % 0x1_0000 * 0x1_0000 + count % 0x1_0000) as u32
 }
 
-/// The header of a request that a machine sends. Both identifiers are the machine's number times 65,536 and the count of
-/// its requests modulo 65,536, modulo 2^32 (RFC 6733 section 3). Application-Id is the command's; flag P is set in credit
-/// control alone. `length` is 0: writing computes it.
+/// The header of a request that a machine sends. Both identifiers are the machine's number times 65,536 and the count
+/// of its requests modulo 65,536, modulo 2^32 (RFC 6733 section 3). Application-Id is the command's; flag P is set in
+/// credit control alone. `length` is 0: writing computes it.
 pub fn request_header(command: CommandCode, machine: u64, count: u64) -> Header
     ensures { result ≡ request_header command machine count }
 {
@@ -60,9 +61,9 @@ pub fn request_header(command: CommandCode, machine: u64, count: u64) -> Header
     header(command, true, false, identifier, identifier)
 }
 
-/// The header of an answer that a machine sends, with its request's identifiers modulo 2^32, and with flag E where `error`
-/// says so (RFC 6733 section 7.1.3). Application-Id is the command's; flag P is set in credit control alone, whatever the
-/// request had. `length` is 0: writing computes it.
+/// The header of an answer that a machine sends, with its request's identifiers modulo 2^32, and with flag E where
+/// `error` says so (RFC 6733 section 7.1.3). Application-Id is the command's; flag P is set in credit control alone,
+/// whatever the request had. `length` is 0: writing computes it.
 pub fn answer_header(command: CommandCode, error: bool, hop_by_hop: u64, end_to_end: u64) -> Header
     ensures { result ≡ answer_header command error hop_by_hop end_to_end }
 {

@@ -1,3 +1,4 @@
+//! What the messages of a machine say of names: this node's, and the machine's Session-Id.
 ghost use Rattle.std.specs.Prelude.{◌≡◌, IfOk};
 ghost use Rattle.dia_write.specs.Answer.{made};
 

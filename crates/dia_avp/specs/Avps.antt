@@ -1,9 +1,12 @@
 -- What octets mean: the AVPs whose encodings joined they are, reserved flags and padding aside (RFC 6733 section 4.1).
-use Rattle.std.specs.Prelude.{◌≡◌, ◌<◌, ◌≤◌, ℕ, zero, suc, ◌+◌, ◌^◌, Bool, true, false, not, ◌==◌, ◌⊎◌, bit_and, List, [], ◌∷◌, ◌++◌, length, slice_index, drop, Option, Some, None, Result, Ok, Err, if◌then◌else◌}
+use Rattle.std.specs.Prelude.{◌≡◌, ◌<◌, ◌≤◌, ℕ, zero, suc, ◌+◌, ◌^◌, Bool, true, false, not, ◌==◌, ◌⊎◌, bit_and, List}
+use Rattle.std.specs.Prelude.{[], ◌∷◌, ◌++◌, length, slice_index, drop, Option, Some, None, Result, Ok, Err}
+use Rattle.std.specs.Prelude.{if◌then◌else◌}
 use Rattle.byteorder.specs.Endian.{big_bytes, big_number}
 use Rattle.dia_avp.specs.declared.avp.Avp.{Avp}
 use Rattle.dia_avp.specs.declared.fault.FaultCode.{FaultCode}
-use Rattle.dia_avp.specs.declared.fault.FaultCode.TheVariants.{ShortHeader, LengthBelowHeader, PastEnd, TooMany, TooDeep}
+use Rattle.dia_avp.specs.declared.fault.FaultCode.TheVariants.{ShortHeader, LengthBelowHeader, PastEnd, TooMany}
+use Rattle.dia_avp.specs.declared.fault.FaultCode.TheVariants.{TooDeep}
 use Rattle.dia_avp.specs.declared.fault.AvpFault.{AvpFault}
 use Rattle.dia_avp.specs.declared.fault.ReadError.{ReadError}
 use Rattle.dia_avp.specs.declared.fault.ReadError.TheVariants as read_errors
@@ -62,7 +65,9 @@ length_field octets = big_number 3 (drop 5 octets)
 abbrev pub Broken : List ℕ → FaultCode → Type 0
 Broken octets ShortHeader = length octets < header_len octets
 Broken octets LengthBelowHeader = (header_len octets ≤ length octets) × (length_field octets < header_len octets)
-Broken octets PastEnd = (header_len octets ≤ length octets) × (header_len octets ≤ length_field octets) × (length octets < length_field octets)
+Broken octets PastEnd =
+    (header_len octets ≤ length octets) × (header_len octets ≤ length_field octets)
+    × (length octets < length_field octets)
 Broken octets TooMany = ⊥
 Broken octets TooDeep = ⊥
 

@@ -1,5 +1,6 @@
 -- How AVPs are written (RFC 6733 section 4.1): the numbers in network byte order.
-use Rattle.std.specs.Prelude.{◌≤◌, ℕ, zero, suc, ◌+◌, ◌*◌, ◌/◌, ◌-◌, ◌^◌, Bool, true, false, List, [], ◌∷◌, ◌++◌, length, Option, Some, None, if◌then◌else◌, replicate, Any}
+use Rattle.std.specs.Prelude.{◌≤◌, ℕ, zero, suc, ◌+◌, ◌*◌, ◌/◌, ◌-◌, ◌^◌, Bool, true, false, List, [], ◌∷◌, ◌++◌}
+use Rattle.std.specs.Prelude.{length, Option, Some, None, if◌then◌else◌, replicate, Any}
 use Rattle.std.specs.List.{flat_map}
 use Rattle.byteorder.specs.Endian.{big_bytes}
 use Rattle.dia_avp.specs.declared.avp.Avp.{Avp}
@@ -44,11 +45,13 @@ encoding list = flat_map encoded list
 
 -- the AVP without vendor whose data are these AVPs (RFC 6733 section 4.4)
 abbrev pub group_avp : ℕ → Bool → Bool → List Avp → Avp
-group_avp code mandatory protected list = record { code = code; vendor = None; mandatory = mandatory; protected = protected; octets = encoding list }
-
--- the AVP without vendor whose data is a number in 4 octets (RFC 6733 section 4.2)
-abbrev pub number_avp : ℕ → Bool → Bool → ℕ → Avp
-number_avp code mandatory protected number = record { code = code; vendor = None; mandatory = mandatory; protected = protected; octets = big_bytes 4 number }
+group_avp code mandatory protected list = record {
+  code = code;
+  vendor = None;
+  mandatory = mandatory;
+  protected = protected;
+  octets = encoding list;
+}
 
 -- some AVP is too long for 24 bits of length
 abbrev pub HasLong : List Avp → Type 0

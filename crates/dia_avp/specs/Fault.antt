@@ -1,7 +1,8 @@
 -- The numbers that stand for faults where they are printed.
 use Rattle.std.specs.Prelude.{ℕ}
 use Rattle.dia_avp.specs.declared.fault.FaultCode.{FaultCode}
-use Rattle.dia_avp.specs.declared.fault.FaultCode.TheVariants.{ShortHeader, LengthBelowHeader, PastEnd, TooMany, TooDeep}
+use Rattle.dia_avp.specs.declared.fault.FaultCode.TheVariants.{ShortHeader, LengthBelowHeader, PastEnd, TooMany}
+use Rattle.dia_avp.specs.declared.fault.FaultCode.TheVariants.{TooDeep}
 
 -- the number of a fault, 1 to 5
 abbrev pub number_of : FaultCode → ℕ

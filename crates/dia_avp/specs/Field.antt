@@ -1,5 +1,6 @@
 -- Values of AVP data (RFC 6733 sections 4.2 and 4.3.1). Text is UTF-8 as std has it.
-use Rattle.std.specs.Prelude.{◌≡◌, ◌≢◌, ◌<◌, ◌-◌, ◌^◌, ℕ, nat_lt, Bool, true, false, ◌==◌, List, ◌∷◌, ◌++◌, length, if◌then◌else◌}
+use Rattle.std.specs.Prelude.{◌≡◌, ◌≢◌, ◌<◌, ◌-◌, ◌^◌, ℕ, nat_lt, Bool, true, false, ◌==◌, List, ◌∷◌, ◌++◌, length}
+use Rattle.std.specs.Prelude.{if◌then◌else◌}
 use Rattle.byteorder.specs.Endian.{big_bytes, big_number}
 use Rattle.dia_avp.specs.declared.address.Address.{Address}
 use Rattle.dia_avp.specs.declared.address.Address.TheVariants.{V4, V6, Other}
@@ -16,7 +17,8 @@ IsUnsigned64 octets n = (n < 2 ^ 64) × (octets ≡ big_bytes 8 n)
 abbrev pub IsAddress : List ℕ → Address → Type 0
 IsAddress octets (V4 address) = (length address ≡ 4) × (octets ≡ 0 ∷ 1 ∷ address)
 IsAddress octets (V6 address) = (length address ≡ 16) × (octets ≡ 0 ∷ 2 ∷ address)
-IsAddress octets (Other family address) = (family < 2 ^ 16) × (family ≢ 1) × (family ≢ 2) × (octets ≡ big_bytes 2 family ++ address.now)
+IsAddress octets (Other family address) =
+    (family < 2 ^ 16) × (family ≢ 1) × (family ≢ 2) × (octets ≡ big_bytes 2 family ++ address.now)
 
 -- whether so many octets are an address of a family
 abbrev pub is_size_of : ℕ → ℕ → Bool

@@ -4,7 +4,8 @@ use Rattle.dia_avp.specs.declared.avp.Avp.{Avp}
 use Rattle.dia_avp.specs.declared.fault.FieldFault.{FieldFault}
 use Rattle.dia_avp.specs.declared.fault.FieldFault.TheVariants.{BadValue, BadLength}
 use Rattle.dia_avp.specs.declared.fault.FaultCode.{FaultCode}
-use Rattle.dia_avp.specs.declared.fault.FaultCode.TheVariants.{ShortHeader, LengthBelowHeader, PastEnd, TooMany, TooDeep}
+use Rattle.dia_avp.specs.declared.fault.FaultCode.TheVariants.{ShortHeader, LengthBelowHeader, PastEnd, TooMany}
+use Rattle.dia_avp.specs.declared.fault.FaultCode.TheVariants.{TooDeep}
 use Rattle.dia_avp.specs.Reading.{avps_in}
 
 -- what a fault among a group's AVPs is to the group: too many and too deep are a bad value, a broken AVP a bad length

@@ -1,3 +1,4 @@
+-- The definitions that the contracts of dia_avp speak of.
 pub mod Fault
 pub mod Encoding
 pub mod Avps
@@ -6,3 +7,4 @@ pub mod Reading
 pub mod Writing
 pub mod Field
 pub mod Group
+pub mod Look

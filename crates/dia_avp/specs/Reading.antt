@@ -1,5 +1,6 @@
 -- The AVP at the front of octets and all AVPs of octets, as functions on lists, which reading code is proved against.
-use Rattle.std.specs.Prelude.{ℕ, zero, suc, nat_lt, List, [], ◌∷◌, length, slice_index, slice_range, drop, Option, None, Result, Ok, Err, if◌then◌else◌}
+use Rattle.std.specs.Prelude.{ℕ, zero, suc, nat_lt, List, [], ◌∷◌, length, slice_index, slice_range, drop, Option, None}
+use Rattle.std.specs.Prelude.{Result, Ok, Err, if◌then◌else◌}
 use Rattle.byteorder.specs.Endian.{big_number}
 use Rattle.dia_avp.specs.declared.avp.Avp.{Avp}
 use Rattle.dia_avp.specs.declared.fault.FaultCode.{FaultCode}
@@ -32,7 +33,10 @@ avp_at octets =
 -- the whole AVPs of octets one after the other, at most so many, and what is left
 unfoldable pub parted : ℕ → List ℕ → List Avp × List ℕ
 parted zero octets = ([], octets)
-parted (suc n) octets = elim (avp_at octets) [ Ok x ↦ (x.0 ∷ (parted n x.1).0, (parted n x.1).1) | Err code ↦ ([], octets) ]
+parted (suc n) octets = elim (avp_at octets) [
+  | Ok x ↦ (x.0 ∷ (parted n x.1).0, (parted n x.1).1)
+  | Err code ↦ ([], octets)
+]
 
 -- the whole AVPs of octets one after the other, and what is left: nothing, or a broken AVP and all behind it
 unfoldable pub avps_in : List ℕ → List Avp × List ℕ

@@ -7,7 +7,13 @@ use Rattle.dia_avp.specs.declared.avp.AvpView.{AvpView}
 
 -- the AVP as a value
 abbrev pub seen : AvpView → Avp
-seen v = record { code = v.code; vendor = v.vendor; mandatory = v.mandatory; protected = v.protected; octets = v.octets.now }
+seen v = record {
+  code = v.code;
+  vendor = v.vendor;
+  mandatory = v.mandatory;
+  protected = v.protected;
+  octets = v.octets.now;
+}
 
 -- the AVP and the rest as values, or the fault
 abbrev pub front : Result (AvpView × Bor (List ℕ)) FaultCode → Result (Avp × List ℕ) FaultCode

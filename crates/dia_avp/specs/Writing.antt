@@ -23,4 +23,5 @@ MeansAvps list = NoZeroVendor list → Avps (encoding list) list
 
 -- the encoding of at most 128 AVPs without vendor 0 is read as this list, within at most 4 groups
 abbrev pub IsReadBack : List Avp → Type 0
-IsReadBack list = NoZeroVendor list → length list ≤ 128 → (depth : ℕ) → depth ≤ 4 → IsReading (encoding list) depth (Ok list)
+IsReadBack list =
+    NoZeroVendor list → length list ≤ 128 → (depth : ℕ) → depth ≤ 4 → IsReading (encoding list) depth (Ok list)

@@ -1,3 +1,4 @@
+//! An attribute-value pair, and how it is seen in octets.
 ghost use Rattle.std.specs.Prelude.{◌≡◌, ◌≤◌, length, IfOk, IsOk};
 ghost use Rattle.dia_avp.specs.View.{seen};
 

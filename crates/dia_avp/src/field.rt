@@ -64,7 +64,8 @@ impl<'a> AvpView<'a> {
         }
     }
 
-    /// The DiameterIdentity that the data is: ASCII, and so no octet over 0x7f (RFC 6733 section 4.3.1). It may be empty.
+    /// The DiameterIdentity that the data is: ASCII, and so no octet over 0x7f (RFC 6733 section 4.3.1). It may be
+    /// empty.
     pub fn as_identity(&self) -> Result<&'a [u8], FieldFault>
         ensures value { IfOk result (λ x. (x.now ≡ self.now.octets.now) × All (λ o. o < 128) x.now) }
         ensures refused { IfErr result (λ f. (f ≡ FieldFault.BadValue) × Any (λ o. 128 ≤ o) self.now.octets.now) }

@@ -82,8 +82,8 @@ pub fn first_avp(octets: &[u8]) -> Result<(AvpView<'_>, &[u8]), FaultCode>
     front_of(octets)
 }
 
-/// The AVP at the front of octets and what comes after its padding, or what is wrong there, as one function of the octets. Takes
-/// no memory.
+/// The AVP at the front of octets and what comes after its padding, or what is wrong there, as one function of the
+/// octets. Takes no memory.
 pub fn avp_at(octets: &[u8]) -> Result<(AvpView<'_>, &[u8]), FaultCode>
     ensures is { front result ≡ avp_at octets.now }
     ensures shorter { IfOk result (λ x. length x.1.now < length octets.now) }

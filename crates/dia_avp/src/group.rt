@@ -29,7 +29,8 @@ fn fault_in_group(code: FaultCode) -> FieldFault
 
 /// How many AVPs a group's data is, or why it is none.
 fn group_count(octets: &[u8], depth: u8) -> Result<usize, FieldFault>
-    ensures whole { IfOk result (λ n. (list : List AvpValue) × (length list ≡ n) × IsReading octets.now depth (Ok list)) }
+    ensures whole { IfOk result (λ n. (list : List AvpValue)
+        × (length list ≡ n) × IsReading octets.now depth (Ok list)) }
     ensures refused { IfErr result (λ f. group_fault depth octets.now ≡ Some f) }
 {
     match count_of(octets, depth) {
@@ -47,7 +48,8 @@ pub struct AvpsIn<'a> {
 impl<'a> AvpsIn<'a> {
     /// The first AVP, which is then no more among them. Takes no memory.
     pub fn next(&mut self) -> Option<AvpView<'a>>
-        ensures { (list : List AvpValue) → Avps self.old.octets.now list → (option_map seen result ≡ slice_get list 0) × Avps self.new.octets.now (drop 1 list) }
+        ensures { (list : List AvpValue) → Avps self.old.octets.now list
+            → (option_map seen result ≡ slice_get list 0) × Avps self.new.octets.now (drop 1 list) }
     {
         match first_avp(self.octets) {
             Ok((avp, after)) => {
@@ -65,7 +67,8 @@ impl<'a> AvpView<'a> {
     /// `BadValue`, a broken AVP is `BadLength`. The AVPs' own data is not looked at. Takes no memory.
     pub fn as_group(&self, depth: u8) -> Result<AvpsIn<'a>, FieldFault>
         // They are all of the data, and a list that it is read as.
-        ensures value { IfOk result (λ g. (g.octets.now ≡ self.now.octets.now) × (list : List AvpValue) × IsReading self.now.octets.now depth (Ok list)) }
+        ensures value { IfOk result (λ g. (g.octets.now ≡ self.now.octets.now)
+            × (list : List AvpValue) × IsReading self.now.octets.now depth (Ok list)) }
         ensures whole { IfOk result (λ _. group_fault depth self.now.octets.now ≡ None) }
         ensures refused { IfErr result (λ f. group_fault depth self.now.octets.now ≡ Some f) }
     {
@@ -76,8 +79,8 @@ impl<'a> AvpView<'a> {
     }
 }
 
-/// The AVPs that the AVP's data is (RFC 6733 section 4.4), as `read_avps` reads them within `depth` groups. Over 128 AVPs
-/// and over 4 groups are `BadValue`, a broken AVP is `BadLength`.
+/// The AVPs that the AVP's data is (RFC 6733 section 4.4), as `read_avps` reads them within `depth` groups. Over 128
+/// AVPs and over 4 groups are `BadValue`, a broken AVP is `BadLength`.
 pub fn group_of(alloc: Global, avp: &Avp, depth: u8) -> Result<AvpList, GroupError>
     // The AVPs of the data, of which nothing is left.
     ensures parts { IfOk result (λ list. avps_in avp.now.octets ≡ (list, [])) }

@@ -9,6 +9,7 @@ mod field;
 mod first;
 mod group;
 mod length;
+mod look;
 mod reading;
 mod writing;
 
@@ -20,5 +21,9 @@ pub use fault::{AvpFault, FaultCode, FieldFault, GroupError, ReadError, WriteErr
 pub use field::{identity_of, text_of, u32_of, u64_of};
 pub use first::{avp_at, first_avp};
 pub use group::{AvpsIn, group_of};
+pub use look::{
+    first_in, first_number_among, first_number_in, first_number_of, first_of, is_coded, number_32,
+    number_64,
+};
 pub use reading::{MAX_AVPS, MAX_DEPTH, read_avps};
-pub use writing::{put_avp, put_avps, put_group, put_number, write_avp, write_avps};
+pub use writing::{put_avp, put_avps, write_avp, write_avps};

@@ -18,7 +18,8 @@ pub const MAX_DEPTH: u8 = 4;
 
 /// How many AVPs the octets encode, or the first fault.
 pub(crate) fn count_of(octets: &[u8], depth: u8) -> Result<usize, AvpFault>
-    ensures whole { IfOk result (λ n. (list : List AvpValue) × (length list ≡ n) × IsReading octets.now depth (Ok list)) }
+    ensures whole { IfOk result (λ n. (list : List AvpValue)
+        × (length list ≡ n) × IsReading octets.now depth (Ok list)) }
     ensures fault { IfErr result (IsFault octets.now depth) }
 {
     if depth > MAX_DEPTH {

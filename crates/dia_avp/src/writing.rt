@@ -1,8 +1,10 @@
 //! The encoding of AVPs.
 
-ghost use Rattle.std.specs.Prelude.{◌≡◌, ◌+◌, ◌<◌, ◌≤◌, ◌^◌, ◌↔◌, ◌++◌, length, replicate, All, OnOk, OnErr, IsErrOf, IfSome, vec_len, vec_capacity};
+ghost use Rattle.std.specs.Prelude.{◌≡◌, ◌+◌, ◌<◌, ◌≤◌, ◌^◌, ◌↔◌, ◌++◌, length, replicate, All, OnOk, OnErr, IsErrOf};
+ghost use Rattle.std.specs.Prelude.{IfSome, vec_len, vec_capacity};
 ghost use Rattle.dia_avp.specs.View.{seen};
-ghost use Rattle.dia_avp.specs.Encoding.{length_of, encoded, encoding, header, flags_of, has_vendor, vendor_id, group_avp, number_avp, HasLong};
+ghost use Rattle.dia_avp.specs.Encoding.{length_of, encoded, encoding, header, flags_of, has_vendor, vendor_id};
+ghost use Rattle.dia_avp.specs.Encoding.{HasLong};
 ghost use Rattle.dia_avp.specs.Writing.{HasNumbers, MeansAvp, MeansAvps, IsReadBack};
 
 use crate::avp::{Avp, AvpView};
@@ -99,23 +101,6 @@ pub fn put_avp(avp: &AvpView<'_>, out: &mut Vec<u8>)
     put_padding(out, len.div_ceil(4) * 4 - len);
 }
 
-/// Appends the canonical encoding of the AVP without vendor whose data is a number in 4 octets (RFC 6733 section 4.2) to octets
-/// that have room for its 12. Takes no memory.
-#[inline]
-#[tactic(auto, unfolding(crate::specs::Encoding::encoded, crate::specs::Encoding::length_of))]
-pub fn put_number(code: u32, mandatory: bool, protected: bool, number: u32, out: &mut Vec<u8>)
-    requires { vec_len out.old + 12 ≤ vec_capacity out.old }
-    ensures items { out.new.items ≡ out.old.items ++ encoded (number_avp code mandatory protected number) }
-    ensures len { vec_len out.new ≡ vec_len out.old + 12 }
-    ensures room { vec_capacity out.old ≤ vec_capacity out.new }
-{
-    let mut octets = [0; 4];
-    BigEndian::write_u32(&mut octets, number);
-    let flags = flags_of(None, mandatory, protected);
-    put(out, &header_of(code, flags, 12));
-    put(out, &octets);
-}
-
 /// Appends the canonical encoding of the AVPs, the last padding too, to octets that have room for it. Takes no memory.
 pub fn put_avps(avps: &[Avp], out: &mut Vec<u8>)
     requires short { All (λ a. length_of a < 2 ^ 24) avps.now }
@@ -130,26 +115,8 @@ pub fn put_avps(avps: &[Avp], out: &mut Vec<u8>)
     }
 }
 
-/// Appends the canonical encoding of the AVP without vendor whose data is the AVPs (RFC 6733 section 4.4) to octets that have
-/// room for it. It has 8 octets more than the AVPs. Takes no memory.
-#[tactic(auto, unfolding(crate::specs::Encoding::encoded))]
-pub fn put_group(code: u32, mandatory: bool, protected: bool, list: &AvpList, out: &mut Vec<u8>)
-    requires short { length_of (group_avp code mandatory protected list.now) < 2 ^ 24 }
-    requires room { vec_len out.old + length (encoded (group_avp code mandatory protected list.now)) ≤ vec_capacity out.old }
-    ensures items { out.new.items ≡ out.old.items ++ encoded (group_avp code mandatory protected list.now) }
-    ensures len { vec_len out.new ≡ vec_len out.old + length (encoded (group_avp code mandatory protected list.now)) }
-    ensures room { vec_capacity out.old ≤ vec_capacity out.new }
-    ensures numbers { HasNumbers (group_avp code mandatory protected list.now) }
-    ensures inner { All HasNumbers list.now }
-{
-    let len = AVP_HEADER_LEN + encoded_len_of(list.as_slice()).unwrap();
-    let flags = flags_of(None, mandatory, protected);
-    put(out, &header_of(code, flags, len as u32));
-    put_avps(list.as_slice(), out);
-}
-
-/// Appends the canonical encoding of an AVP (RFC 6733 section 4.1): reserved flags and padding are zero. `out` grows by its
-/// own allocator.
+/// Appends the canonical encoding of an AVP (RFC 6733 section 4.1): reserved flags and padding are zero. `out` grows by
+/// its own allocator.
 pub fn write_avp(avp: &AvpView<'_>, out: &mut Vec<u8>) -> Result<(), WriteError>
     ensures ok { OnOk result (out.new.items ≡ out.old.items ++ encoded (seen avp.now)) }
 
@@ -158,7 +125,8 @@ pub fn write_avp(avp: &AvpView<'_>, out: &mut Vec<u8>) -> Result<(), WriteError>
     ensures err { OnErr result (out.new.items ≡ out.old.items) }
 
     // Memory is wanting only where there is no room for it, and the room stays.
-    ensures memory { IsErrOf result WriteError.NoMemory → vec_capacity out.old < vec_len out.old + length (encoded (seen avp.now)) }
+    ensures memory { IsErrOf result WriteError.NoMemory
+        → vec_capacity out.old < vec_len out.old + length (encoded (seen avp.now)) }
     ensures room { vec_capacity out.old ≤ vec_capacity out.new }
 
     // What was written means this AVP again, whatever comes after it.
@@ -182,7 +150,8 @@ pub fn write_avps(list: &AvpList, out: &mut Vec<u8>) -> Result<(), WriteError>
     ensures err { OnErr result (out.new.items ≡ out.old.items) }
 
     // Memory is wanting only where there is no room for them, and the room stays.
-    ensures memory { IsErrOf result WriteError.NoMemory → vec_capacity out.old < vec_len out.old + length (encoding list.now) }
+    ensures memory { IsErrOf result WriteError.NoMemory
+        → vec_capacity out.old < vec_len out.old + length (encoding list.now) }
     ensures room { vec_capacity out.old ≤ vec_capacity out.new }
 
     // What was written means this list, and is read as this list again.

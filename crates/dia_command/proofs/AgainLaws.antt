@@ -7,6 +7,7 @@ use Rattle.std.proofs.lemmas.List.Elements.{All-head, All-tail}
 use Rattle.byteorder.specs.Endian.{big_bytes, big_number}
 use Rattle.dia_avp.specs.declared.avp.Avp.{Avp}
 use Rattle.dia_avp.specs.Encoding.{encoding}
+use Rattle.dia_avp.specs.Look.{number_in}
 use Rattle.dia_avp.proofs.Bytes.{big_bytes_4}
 use Rattle.dia_dict.specs.declared.definition.Definition.{Definition}
 use Rattle.dia_dict.specs.Dictionary.{definition_of}
@@ -20,7 +21,7 @@ use Rattle.dia_command.specs.declared.value.RequestType.TheVariants.{Initial, Up
 use Rattle.dia_command.specs.declared.value.RequestedAction.{RequestedAction}
 use Rattle.dia_command.specs.declared.value.RequestedAction.TheVariants.{DirectDebiting, RefundAccount, CheckBalance, PriceEnquiry, Other}
 use Rattle.dia_command.specs.Value.{type_number, type_coded, action_number, action_coded}
-use Rattle.dia_command.specs.Field.{Field, Octets, Numbers, Types, Actions, Groups, avp_of, avps_coded, number_in, IsOctets, IsNumber, IsType, IsAction, IsGroup, IsTypedOf, AreTypedOf}
+use Rattle.dia_command.specs.Field.{Field, Octets, Numbers, Types, Actions, Groups, avp_of, avps_coded, IsOctets, IsNumber, IsType, IsAction, IsGroup, IsTypedOf, AreTypedOf}
 use Rattle.dia_command.specs.Laws.{IsRead, IsReadOf, WrittenAgain}
 
 some_is : {T : Type 0} → (x y : T) → Some x ≡ Some y → x ≡ y
@@ -63,19 +64,19 @@ Writes_again {T} Is data_of = (octets : List ℕ) (value : T) → Is octets valu
 number_data : Writes_again IsNumber (big_bytes 4)
 number_data octets n e fits = number_by octets (length octets == 4) n refl e fits
 
-type_from : (octets : List ℕ) (x : Option ℕ) (t : RequestType) → number_in octets ≡ x → option_and_then type_coded x ≡ Some t → ((i : ℕ) → get_or octets i 0 < 256) → big_bytes 4 (type_number t) ≡ octets
+type_from : (octets : List ℕ) (x : Option ℕ) (t : RequestType) → number_in 4 octets ≡ x → option_and_then type_coded x ≡ Some t → ((i : ℕ) → get_or octets i 0 < 256) → big_bytes 4 (type_number t) ≡ octets
 type_from octets None t f e fits = absurd cc
 type_from octets (Some n) t f e fits = rw (type_again n t e) (number_data octets n f fits)
 
 type_data : Writes_again IsType (λ t. big_bytes 4 (type_number t))
-type_data octets t e fits = type_from octets (number_in octets) t refl e fits
+type_data octets t e fits = type_from octets (number_in 4 octets) t refl e fits
 
-action_from : (octets : List ℕ) (x : Option ℕ) (a : RequestedAction) → number_in octets ≡ x → option_map action_coded x ≡ Some a → ((i : ℕ) → get_or octets i 0 < 256) → big_bytes 4 (action_number a) ≡ octets
+action_from : (octets : List ℕ) (x : Option ℕ) (a : RequestedAction) → number_in 4 octets ≡ x → option_map action_coded x ≡ Some a → ((i : ℕ) → get_or octets i 0 < 256) → big_bytes 4 (action_number a) ≡ octets
 action_from octets None a f e fits = absurd cc
 action_from octets (Some n) a f e fits = rw (← some_is (action_coded n) a e) (rw (action_again n) (number_data octets n f fits))
 
 action_data : Writes_again IsAction (λ a. big_bytes 4 (action_number a))
-action_data octets a e fits = action_from octets (number_in octets) a refl e fits
+action_data octets a e fits = action_from octets (number_in 4 octets) a refl e fits
 
 octets_data : Writes_again IsOctets (λ octets. octets)
 octets_data octets value e fits = e

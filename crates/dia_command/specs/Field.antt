@@ -1,9 +1,10 @@
 -- What stands at one place of a command's format: the values of the AVPs of one code, none or more, in order.
-use Rattle.std.specs.Prelude.{◌≡◌, ℕ, ◌==◌, if◌then◌else◌, List, [], ◌∷◌, ◌++◌, length, map, Option, None, Some}
+use Rattle.std.specs.Prelude.{◌≡◌, ℕ, List, [], ◌∷◌, ◌++◌, map, Option, None, Some}
 use Rattle.std.specs.Option.{option_map, option_and_then}
-use Rattle.byteorder.specs.Endian.{big_bytes, big_number}
+use Rattle.byteorder.specs.Endian.{big_bytes}
 use Rattle.dia_avp.specs.declared.avp.Avp.{Avp}
 use Rattle.dia_avp.specs.Encoding.{encoding}
+use Rattle.dia_avp.specs.Look.{number_in}
 use Rattle.dia_dict.specs.declared.definition.Definition.{Definition}
 use Rattle.dia_tree.specs.Canonical.{AreCanonical}
 use Rattle.dia_command.specs.declared.typed.TypedAvp.{TypedAvp}
@@ -22,9 +23,16 @@ pub data Field : Type 0 where
 
 -- a value as an AVP without vendor, whose data are these octets
 abbrev pub avp_of : {T : Type 0} → (T → List ℕ) → ℕ → TypedAvp T → Avp
-avp_of data_of code field = record { code = code; vendor = None; mandatory = field.mandatory; protected = field.protected; octets = data_of field.value }
+avp_of data_of code field = record {
+  code = code;
+  vendor = None;
+  mandatory = field.mandatory;
+  protected = field.protected;
+  octets = data_of field.value;
+}
 
--- the AVPs of a field: octets as they are, numbers in 4 octets in network byte order, groups as the encoding of their AVPs
+-- the AVPs of a field: octets as they are, numbers in 4 octets in network byte order,
+-- groups as the encoding of their AVPs
 abbrev pub avps_coded : ℕ → Field → List Avp
 avps_coded code (Octets values) = map (avp_of (λ octets. octets) code) values
 avps_coded code (Numbers values) = map (avp_of (big_bytes 4) code) values
@@ -37,15 +45,12 @@ abbrev pub avps_by : List AvpFormat → List Field → List Avp
 avps_by (f ∷ format) (field ∷ fields) = avps_coded f.code field ++ avps_by format fields
 avps_by format fields = []
 
--- what an AVP's data is as a number of 4 octets, a CC-Request-Type, a Requested-Action
-abbrev pub number_in : List ℕ → Option ℕ
-number_in octets = if length octets == 4 then Some (big_number 4 octets) else None
-
+-- what an AVP's data is as a CC-Request-Type, a Requested-Action
 abbrev pub type_in : List ℕ → Option RequestType
-type_in octets = option_and_then type_coded (number_in octets)
+type_in octets = option_and_then type_coded (number_in 4 octets)
 
 abbrev pub action_in : List ℕ → Option RequestedAction
-action_in octets = option_map action_coded (number_in octets)
+action_in octets = option_map action_coded (number_in 4 octets)
 
 -- the value that data are: octets as they are, a number, a CC-Request-Type, a Requested-Action, AVPs in their canonical
 -- encoding
@@ -53,7 +58,7 @@ abbrev pub IsOctets : List ℕ → List ℕ → Type 0
 IsOctets octets value = value ≡ octets
 
 abbrev pub IsNumber : List ℕ → ℕ → Type 0
-IsNumber octets value = number_in octets ≡ Some value
+IsNumber octets value = number_in 4 octets ≡ Some value
 
 abbrev pub IsType : List ℕ → RequestType → Type 0
 IsType octets value = type_in octets ≡ Some value

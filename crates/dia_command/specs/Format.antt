@@ -1,7 +1,12 @@
 -- Which commands there are, and the AVPs of each in the order in which they are written (RFC 6733 section 3.2).
 use Rattle.std.specs.Prelude.{ℕ, Bool, true, false, ◌==◌, ◌||◌, if◌then◌else◌, List, [], ◌∷◌, Option, None, Some}
 use Rattle.dia_command.specs.declared.kind.CommandKind.{CommandKind}
-use Rattle.dia_command.specs.declared.kind.CommandKind.TheVariants.{CapabilitiesExchangeRequest, CapabilitiesExchangeAnswer, DeviceWatchdogRequest, DeviceWatchdogAnswer, DisconnectPeerRequest, DisconnectPeerAnswer, ReAuthRequest, ReAuthAnswer, CreditControlRequest, CreditControlAnswer, ErrorAnswer}
+use Rattle.dia_command.specs.declared.kind.CommandKind.TheVariants.{CapabilitiesExchangeRequest}
+use Rattle.dia_command.specs.declared.kind.CommandKind.TheVariants.{CapabilitiesExchangeAnswer, DeviceWatchdogRequest}
+use Rattle.dia_command.specs.declared.kind.CommandKind.TheVariants.{DeviceWatchdogAnswer, DisconnectPeerRequest}
+use Rattle.dia_command.specs.declared.kind.CommandKind.TheVariants.{DisconnectPeerAnswer, ReAuthRequest, ReAuthAnswer}
+use Rattle.dia_command.specs.declared.kind.CommandKind.TheVariants.{CreditControlRequest, CreditControlAnswer}
+use Rattle.dia_command.specs.declared.kind.CommandKind.TheVariants.{ErrorAnswer}
 use Rattle.dia_command.specs.declared.format.AvpFormat.{AvpFormat}
 
 -- the kinds of command by Command Code: of requests, of answers
@@ -27,7 +32,8 @@ answer_coded code =
 abbrev pub kind_coded : ℕ → Bool → Option CommandKind
 kind_coded code request = if request then request_coded code else answer_coded code
 
--- the Application-Id of a Command Code that is known: credit control's for RAR, RAA, CCR and CCA, else the base protocol's
+-- the Application-Id of a Command Code that is known:
+-- credit control's for RAR, RAA, CCR and CCA, else the base protocol's
 abbrev pub application_of : ℕ → ℕ
 application_of code = if (code == 258) || (code == 272) then 4 else 0
 
@@ -53,14 +59,20 @@ required_if test code = record { code = code; required = test; several = false }
 
 -- the AVPs of a command in order; in an EVENT request of credit control Requested-Action must be there
 abbrev pub format_of : CommandKind → Bool → List AvpFormat
-format_of CapabilitiesExchangeRequest event = required 264 ∷ required 296 ∷ one_or_more 257 ∷ required 266 ∷ required 269 ∷ any_number 258 ∷ []
-format_of CapabilitiesExchangeAnswer event = required 268 ∷ required 264 ∷ required 296 ∷ one_or_more 257 ∷ required 266 ∷ required 269 ∷ any_number 258 ∷ []
+format_of CapabilitiesExchangeRequest event =
+    required 264 ∷ required 296 ∷ one_or_more 257 ∷ required 266 ∷ required 269 ∷ any_number 258 ∷ []
+format_of CapabilitiesExchangeAnswer event =
+    required 268 ∷ required 264 ∷ required 296 ∷ one_or_more 257 ∷ required 266 ∷ required 269 ∷ any_number 258 ∷ []
 format_of DeviceWatchdogRequest event = required 264 ∷ required 296 ∷ []
 format_of DeviceWatchdogAnswer event = required 268 ∷ required 264 ∷ required 296 ∷ []
 format_of DisconnectPeerRequest event = required 264 ∷ required 296 ∷ required 273 ∷ []
 format_of DisconnectPeerAnswer event = required 268 ∷ required 264 ∷ required 296 ∷ []
-format_of ReAuthRequest event = required 263 ∷ required 264 ∷ required 296 ∷ required 283 ∷ required 293 ∷ required 258 ∷ required 285 ∷ []
+format_of ReAuthRequest event =
+    required 263 ∷ required 264 ∷ required 296 ∷ required 283 ∷ required 293 ∷ required 258 ∷ required 285 ∷ []
 format_of ReAuthAnswer event = required 263 ∷ required 268 ∷ required 264 ∷ required 296 ∷ []
-format_of CreditControlRequest event = required 263 ∷ required 264 ∷ required 296 ∷ required 283 ∷ required 258 ∷ required 461 ∷ required 416 ∷ required 415 ∷ any_number 443 ∷ required_if event 436 ∷ optional 437 ∷ any_number 446 ∷ optional 455 ∷ any_number 456 ∷ []
-format_of CreditControlAnswer event = required 263 ∷ required 268 ∷ required 264 ∷ required 296 ∷ required 258 ∷ required 416 ∷ required 415 ∷ optional 431 ∷ optional 430 ∷ optional 422 ∷ any_number 456 ∷ []
+format_of CreditControlRequest event = required 263
+    ∷ required 264 ∷ required 296 ∷ required 283 ∷ required 258 ∷ required 461 ∷ required 416 ∷ required 415
+    ∷ any_number 443 ∷ required_if event 436 ∷ optional 437 ∷ any_number 446 ∷ optional 455 ∷ any_number 456 ∷ []
+format_of CreditControlAnswer event = required 263 ∷ required 268 ∷ required 264 ∷ required 296
+    ∷ required 258 ∷ required 416 ∷ required 415 ∷ optional 431 ∷ optional 430 ∷ optional 422 ∷ any_number 456 ∷ []
 format_of ErrorAnswer event = optional 263 ∷ required 264 ∷ required 296 ∷ required 268 ∷ optional 279 ∷ []

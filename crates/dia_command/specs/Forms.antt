@@ -2,7 +2,8 @@
 use Rattle.std.specs.Prelude.{List, [], ◌∷◌, slice_get, Option, None, Some}
 use Rattle.dia_avp.specs.declared.avp.Avp.{Avp}
 use Rattle.dia_command.specs.declared.command.Command.{Command}
-use Rattle.dia_command.specs.declared.command.Command.TheVariants.{Cer, Cea, Dwr, Dwa, Dpr, Dpa, Rar, Raa, Ccr, Cca, ErrorAnswer}
+use Rattle.dia_command.specs.declared.command.Command.TheVariants.{Cer, Cea, Dwr, Dwa, Dpr, Dpa, Rar, Raa}
+use Rattle.dia_command.specs.declared.command.Command.TheVariants.{Ccr, Cca, ErrorAnswer}
 use Rattle.dia_command.specs.declared.header.Header.{Header}
 use Rattle.dia_command.specs.declared.kind.CommandKind.{CommandKind}
 use Rattle.dia_command.specs.declared.kind.CommandKind.TheVariants as kinds

@@ -38,5 +38,6 @@ header_octets h len =
     ++ big_bytes 4 h.application ++ big_bytes 4 h.hop_by_hop ++ big_bytes 4 h.end_to_end
 
 -- the flags R and P, as a Credit-Control-Request has them (RFC 8506 section 3.1)
-pub request_and_proxiable : flags_octet (record { request = true; proxiable = true; error = false; retransmitted = false }) ≡ 192
+pub request_and_proxiable : flags_octet
+    (record { request = true; proxiable = true; error = false; retransmitted = false }) ≡ 192
 request_and_proxiable = refl

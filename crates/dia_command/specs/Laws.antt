@@ -13,7 +13,8 @@ use Rattle.dia_command.specs.Command.{kind_of, header_of, fields, rest_of}
 
 -- kind, header, fields and rest fix a command
 abbrev pub SameCommand : Type 0
-SameCommand = (a b : Command) → kind_of a ≡ kind_of b → header_of a ≡ header_of b → fields a ≡ fields b → rest_of a ≡ rest_of b → a ≡ b
+SameCommand = (a b : Command) → kind_of a ≡ kind_of b
+    → header_of a ≡ header_of b → fields a ≡ fields b → rest_of a ≡ rest_of b → a ≡ b
 
 -- an AVP as it was read: of this code, without vendor, its data octets
 pub record IsRead (code : ℕ) (a : Avp) : Type 0 where
@@ -34,7 +35,8 @@ pub record IsReadOf (definitions : List Definition) (code : ℕ) (field : Field)
 
 -- fields read from AVPs, each by its place in a format
 abbrev pub AreReadOf : List Definition → List AvpFormat → List Field → List (List Avp) → Type 0
-AreReadOf definitions (f ∷ format) (field ∷ fields) (list ∷ lists) = IsReadOf definitions f.code field list × AreReadOf definitions format fields lists
+AreReadOf definitions (f ∷ format) (field ∷ fields) (list ∷ lists) =
+    IsReadOf definitions f.code field list × AreReadOf definitions format fields lists
 AreReadOf definitions [] [] [] = Unit {0}
 AreReadOf definitions format fields lists = ⊥
 

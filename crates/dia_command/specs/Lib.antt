@@ -1,3 +1,4 @@
+-- The definitions that the contracts of dia_command speak of.
 pub mod Header
 pub mod Value
 pub mod Format

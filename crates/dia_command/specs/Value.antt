@@ -3,7 +3,8 @@ use Rattle.std.specs.Prelude.{ℕ, ◌==◌, if◌then◌else◌, Option, None, 
 use Rattle.dia_command.specs.declared.value.RequestType.{RequestType}
 use Rattle.dia_command.specs.declared.value.RequestType.TheVariants.{Initial, Update, Termination, Event}
 use Rattle.dia_command.specs.declared.value.RequestedAction.{RequestedAction}
-use Rattle.dia_command.specs.declared.value.RequestedAction.TheVariants.{DirectDebiting, RefundAccount, CheckBalance, PriceEnquiry, Other}
+use Rattle.dia_command.specs.declared.value.RequestedAction.TheVariants.{DirectDebiting, RefundAccount, CheckBalance}
+use Rattle.dia_command.specs.declared.value.RequestedAction.TheVariants.{PriceEnquiry, Other}
 
 -- CC-Request-Type: INITIAL_REQUEST 1, UPDATE_REQUEST 2, TERMINATION_REQUEST 3, EVENT_REQUEST 4
 abbrev pub type_number : RequestType → ℕ

@@ -1,5 +1,5 @@
-//! The AVPs of each command in the order in which they are written, as data. An AVP of a command comes by a line in its list.
-//! The sections of the standards stand at the commands' structs.
+//! The AVPs of each command in the order in which they are written, as data.
+//! An AVP of a command comes by a line in its list. The sections of the standards stand at the commands' structs.
 
 ghost use Rattle.std.specs.Prelude.{◌≡◌};
 ghost use Rattle.dia_command.specs.Format.{format_of};

@@ -3,8 +3,8 @@
 ghost use Rattle.std.specs.Prelude.{◌≡◌};
 ghost use Rattle.dia_command.specs.Format.{kind_coded, application_of};
 
-/// The commands that are read and written (RFC 6733 section 3.1, RFC 8506 section 3); `ErrorAnswer` is any answer that tells a
-/// fault (RFC 6733 section 7.2).
+/// The commands that are read and written (RFC 6733 section 3.1, RFC 8506 section 3);
+/// `ErrorAnswer` is any answer that tells a fault (RFC 6733 section 7.2).
 #[derive(Clone, Copy, PartialEq, Eq)]
 pub enum CommandKind {
     CapabilitiesExchangeRequest,

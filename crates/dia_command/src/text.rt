@@ -1,3 +1,4 @@
+//! Text in UTF-8, as the value of an AVP.
 ghost use Rattle.std.specs.Prelude.{◌≡◌, IfOk};
 ghost use Rattle.std.specs.String.{string_bytes};
 

@@ -1,3 +1,4 @@
+//! Values of AVPs with their flags: one, or several of one code.
 ghost use Rattle.std.specs.Prelude.{◌≡◌, [], ◌∷◌, ◌++◌, OnOk, OnErr};
 
 use std::alloc::{AllocError, Global};

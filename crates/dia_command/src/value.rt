@@ -40,8 +40,8 @@ impl RequestType {
     }
 }
 
-/// A Requested-Action (RFC 8506 section 8.41). Outside EVENT requests any number is read and written back, as `Other` where
-/// the standard names none; there `Other` never has a number below 4.
+/// A Requested-Action (RFC 8506 section 8.41). Outside EVENT requests any number is read and written back, as `Other`
+/// where the standard names none; there `Other` never has a number below 4.
 #[derive(Clone, Copy)]
 pub enum RequestedAction {
     DirectDebiting,

@@ -2,7 +2,9 @@
 use Rattle.std.specs.Prelude.{ℕ, List, [], ◌∷◌, None, codes}
 use Rattle.std.specs.Borrow.{Bor}
 use Rattle.dia_dict.specs.declared.definition.AvpKind.{AvpKind}
-use Rattle.dia_dict.specs.declared.definition.AvpKind.TheVariants.{Unsigned32, Unsigned64, Enumerated, Utf8String, DiameterIdentity, Address, Grouped, Time, OctetString}
+use Rattle.dia_dict.specs.declared.definition.AvpKind.TheVariants.{Unsigned32, Unsigned64, Enumerated, Utf8String}
+use Rattle.dia_dict.specs.declared.definition.AvpKind.TheVariants.{DiameterIdentity, Address, Grouped}
+use Rattle.dia_dict.specs.declared.definition.AvpKind.TheVariants.{Time, OctetString}
 use Rattle.dia_dict.specs.declared.definition.Definition.{Definition}
 
 -- an AVP of the base protocol or of credit control, without a vendor
@@ -13,7 +15,8 @@ of_base code name kind = record { code = code; vendor = None; name = name; kind 
 abbrev pub of_line : ℕ × Bor (List ℕ) × AvpKind → Definition
 of_line line = of_base line.0 line.1.now line.2
 
--- the AVPs of the base protocol and of credit control (RFC 6733 section 4.5, RFC 8506 section 8); Failed-AVP and Proxy-Info are kept as octets
+-- the AVPs of the base protocol and of credit control (RFC 6733 section 4.5, RFC 8506 section 8);
+-- Failed-AVP and Proxy-Info are kept as octets
 abbrev pub base : List Definition
 base =
     of_base 1 (codes "User-Name") Utf8String

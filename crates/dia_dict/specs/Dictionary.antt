@@ -1,5 +1,6 @@
 -- A dictionary is the list of the definitions that were added to those which every dictionary has, in order of adding.
-use Rattle.std.specs.Prelude.{◌≡◌, ℕ, Bool, false, ◌==◌, ◌&&◌, ◌||◌, nat_le, if◌then◌else◌, List, [], ◌∷◌, ◌++◌, length, find, All, Option, None, Some, is_some, unwrap_or}
+use Rattle.std.specs.Prelude.{◌≡◌, ℕ, Bool, false, ◌==◌, ◌&&◌, ◌||◌, nat_le, if◌then◌else◌, List, [], ◌∷◌, ◌++◌, length}
+use Rattle.std.specs.Prelude.{find, All, Option, None, Some, is_some, unwrap_or}
 use Rattle.std.specs.Str.{bytes_eq}
 use Rattle.base_list.specs.declared.error.AddFault.{AddFault}
 use Rattle.base_list.specs.declared.error.AddFault.TheVariants.{Taken, Full}
@@ -38,7 +39,8 @@ definition_named definitions name = find (is_named name) definitions
 
 -- whether a code and vendor, or a name, has a definition
 abbrev pub is_taken : List Definition → ℕ → Option ℕ → List ℕ → Bool
-is_taken definitions code vendor name = is_some (definition_of definitions code vendor) || is_some (definition_named definitions name)
+is_taken definitions code vendor name =
+    is_some (definition_of definitions code vendor) || is_some (definition_named definitions name)
 
 -- whether a definition is that of another's code and vendor, or has its name
 abbrev pub clashes : Definition → Definition → Bool
@@ -53,10 +55,12 @@ NoneTwice (d ∷ later) = All (λ other. clashes d other ≡ false) later × Non
 abbrev pub defined : ℕ → Option ℕ → List ℕ → AvpKind → Definition
 defined code vendor name kind = record { code = code; vendor = vendor; name = name; kind = kind }
 
--- why a definition may not be added, memory aside: its code and vendor, or its name, has one, or else there are 256 already
+-- why a definition may not be added, memory aside:
+-- its code and vendor, or its name, has one, or else there are 256 already
 abbrev pub refusal : List Definition → ℕ → Option ℕ → List ℕ → Option AddFault
 refusal definitions code vendor name =
-    if is_taken definitions code vendor name then Some Taken else if nat_le 256 (length definitions) then Some Full else None
+    if is_taken definitions code vendor name then Some Taken
+    else if nat_le 256 (length definitions) then Some Full else None
 
 -- what is wrong with an AVP by the definition that it has
 abbrev pub fault_by : Option Definition → Avp → Option DictFault

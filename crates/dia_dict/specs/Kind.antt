@@ -1,5 +1,6 @@
 -- The types of AVP data (RFC 6733 sections 4.2 and 4.3.1): their sizes, faults and values.
-use Rattle.std.specs.Prelude.{◌≡◌, ◌≤◌, ℕ, Bool, ◌==◌, nat_lt, if◌then◌else◌, List, length, Option, None, Some, option_map}
+use Rattle.std.specs.Prelude.{◌≡◌, ◌≤◌, ℕ, Bool, ◌==◌, nat_lt, if◌then◌else◌, List, length, Option}
+use Rattle.std.specs.Prelude.{None, Some, option_map}
 use Rattle.std.specs.List.{list_all}
 use Rattle.std.specs.Str.{is_utf8}
 use Rattle.dia_avp.specs.Field.{IsUnsigned32, IsUnsigned64, IsAddress, is_address}
@@ -10,7 +11,9 @@ use Rattle.dia_avp.specs.Group.{parts_fault}
 use Rattle.dia_avp.specs.declared.fault.FieldFault.{FieldFault}
 use Rattle.dia_avp.specs.declared.fault.FieldFault.TheVariants as field_faults
 use Rattle.dia_dict.specs.declared.definition.AvpKind.{AvpKind}
-use Rattle.dia_dict.specs.declared.definition.AvpKind.TheVariants.{Unsigned32, Unsigned64, Enumerated, Utf8String, DiameterIdentity, Address, Grouped, Time, OctetString}
+use Rattle.dia_dict.specs.declared.definition.AvpKind.TheVariants.{Unsigned32, Unsigned64, Enumerated, Utf8String}
+use Rattle.dia_dict.specs.declared.definition.AvpKind.TheVariants.{DiameterIdentity, Address, Grouped}
+use Rattle.dia_dict.specs.declared.definition.AvpKind.TheVariants.{Time, OctetString}
 use Rattle.dia_dict.specs.declared.fault.DictFault.{DictFault}
 use Rattle.dia_dict.specs.declared.fault.DictFault.TheVariants.{BadValue, BadLength}
 use Rattle.dia_dict.specs.declared.field.Field.{Field}
@@ -61,7 +64,8 @@ IsValueOf Enumerated octets (fields.Number n) = IsUnsigned32 octets n
 IsValueOf Utf8String octets (fields.Text t) = t.now ≡ octets
 IsValueOf DiameterIdentity octets (fields.Identity name) = name.now ≡ octets
 IsValueOf Address octets (fields.Address a) = IsAddress octets a
-IsValueOf Grouped octets (fields.Group g) = (g.octets.now ≡ octets) × (list : List Avp) × (length list ≤ 128) × Avps octets list
+IsValueOf Grouped octets (fields.Group g) =
+    (g.octets.now ≡ octets) × (list : List Avp) × (length list ≤ 128) × Avps octets list
 IsValueOf Time octets (fields.Number n) = IsUnsigned32 octets n
 IsValueOf OctetString octets (fields.Octets o) = o.now ≡ octets
 IsValueOf kind octets field = ⊥

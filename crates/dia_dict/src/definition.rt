@@ -1,3 +1,4 @@
+//! What the dictionary says of one AVP: its code, its name and the type of its data.
 ghost use Rattle.std.specs.Prelude.{◌≡◌};
 ghost use Rattle.dia_dict.specs.Kind.{least_size};
 
@@ -27,8 +28,8 @@ pub enum AvpKind {
 }
 
 impl AvpKind {
-    /// The size of data of this type where it is fixed, else 0. So many zeros stand for data of a bad length in Failed-AVP
-    /// (RFC 6733 section 7.5).
+    /// The size of data of this type where it is fixed, else 0.
+    /// So many zeros stand for data of a bad length in Failed-AVP (RFC 6733 section 7.5).
     pub fn least_size(self) -> usize
         ensures { result ≡ least_size self }
     {
@@ -44,8 +45,8 @@ impl AvpKind {
     }
 }
 
-/// What the dictionary says of an AVP. `vendor` is its Vendor-ID; the AVPs of the base protocol and of credit control have
-/// none, and 0 counts as none (RFC 6733 section 4.1).
+/// What the dictionary says of an AVP. `vendor` is its Vendor-ID;
+/// the AVPs of the base protocol and of credit control have none, and 0 counts as none (RFC 6733 section 4.1).
 #[derive(Debug)]
 pub struct Definition {
     pub code: u32,

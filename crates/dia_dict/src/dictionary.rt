@@ -14,8 +14,8 @@ use dia_avp::AvpView;
 use std::alloc::{AllocError, Global};
 use std::marker::Model;
 
-/// AVP definitions: those of the base protocol and of credit control, and then those that were added, in order of adding.
-/// A contract sees a dictionary as the list of the added ones; `known` is the list of all.
+/// AVP definitions: those of the base protocol and of credit control, and then those that were added, in order of
+/// adding. A contract sees a dictionary as the list of the added ones; `known` is the list of all.
 pub struct Dictionary {
     table: Table,
 }
@@ -40,7 +40,8 @@ impl Model for Dictionary {
 }
 
 impl Dictionary {
-    ghost use Rattle.dia_dict.specs.Dictionary.{known, definition_of, definition_named, NoneTwice, defined, refusal, fault_of, IsValue};
+    ghost use Rattle.dia_dict.specs.Dictionary.{known, definition_of, definition_named, NoneTwice, defined};
+    ghost use Rattle.dia_dict.specs.Dictionary.{refusal, fault_of, IsValue};
 
     /// The dictionary to which nothing was added.
     pub fn base(alloc: Global) -> Result<Dictionary, AllocError>
@@ -58,8 +59,9 @@ impl Dictionary {
         &self.table
     }
 
-    /// Adds a definition at the end: an AVP Code, a Vendor-ID, of which 0 counts as none, the AVP's name and its type. Refused
-    /// are, in this order, a code and vendor or a name that has a definition, and one more than 256 definitions.
+    /// Adds a definition at the end: an AVP Code, a Vendor-ID, of which 0 counts as none, the AVP's name
+    /// and its type. Refused are, in this order, a code and vendor or a name that has a definition, and one
+    /// more than 256 definitions.
     pub fn add(
         &mut self,
         code: u32,
@@ -91,8 +93,8 @@ impl Dictionary {
         self.all().by_name(name)
     }
 
-    /// The definition at a place, from 0: first those that every dictionary has, by AVP Code. No two have one code and vendor,
-    /// or one name. Takes no memory.
+    /// The definition at a place, from 0: first those that every dictionary has, by AVP Code.
+    /// No two have one code and vendor, or one name. Takes no memory.
     pub fn at(&self, place: usize) -> Option<&Definition>
         ensures place { option_copied result ≡ slice_get (known self.now) place }
         ensures once { NoneTwice (known self.now) }

@@ -1,5 +1,5 @@
-//! The AVP dictionary of the Diameter base protocol and of credit control (RFC 6733 section 4.5, RFC 8506 section 8): which
-//! AVPs there are, and the type of their data.
+//! The AVP dictionary of the Diameter base protocol and of credit control (RFC 6733 section 4.5, RFC 8506 section 8):
+//! which AVPs there are, and the type of their data.
 #![tactic(auto)]
 
 mod base;

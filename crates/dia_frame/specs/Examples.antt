@@ -1,5 +1,5 @@
--- Headers with known answers at a limit of 4,096 octets: wrong definitions of a fault and of the room of a rest don't pass
--- these lines.
+-- Headers with known answers at a limit of 4,096 octets:
+-- wrong definitions of a fault and of the room of a rest don't pass these lines.
 use Rattle.std.specs.Prelude.{◌≡◌, [], ◌∷◌, Some, None, refl}
 use Rattle.dia_frame.specs.declared.fault.FrameFault.TheVariants.{Version, Length}
 use Rattle.dia_frame.specs.Frames.{message_length, fault_of}

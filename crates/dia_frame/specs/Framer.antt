@@ -1,5 +1,6 @@
 -- What a Framer holds, and what a feed does to it.
-use Rattle.std.specs.Prelude.{◌≡◌, ◌<◌, ◌⊎◌, ◌&&◌, not, ℕ, Bool, true, false, List, [], ◌++◌, length, Option, Some, None, is_some, Result, Ok, Err}
+use Rattle.std.specs.Prelude.{◌≡◌, ◌<◌, ◌⊎◌, ◌&&◌, not, ℕ, Bool, true, false, List, [], ◌++◌, length, Option, Some}
+use Rattle.std.specs.Prelude.{None, is_some, Result, Ok, Err}
 use Rattle.dia_frame.specs.declared.fault.FrameFault.{FrameFault}
 use Rattle.dia_frame.specs.declared.fault.FrameFault.TheVariants.{Version, Length, Broken}
 use Rattle.dia_frame.specs.declared.fault.FeedError.{FeedError}
@@ -7,7 +8,8 @@ use Rattle.dia_frame.specs.declared.fault.FeedError.TheVariants.{NoMemory, Fault
 use Rattle.dia_frame.specs.Frames.{Frames, fault_of}
 use Rattle.dia_frame.specs.Whole.{is_part, room_of}
 
--- the longest message's length, the frames that wait, oldest first, the octets behind them, and whether a fault was found
+-- the longest message's length, the frames that wait, oldest first, the octets behind them,
+-- and whether a fault was found
 pub record FramerState : Type 0 where
   pub limit : ℕ
   pub waiting : List (List ℕ)
@@ -19,7 +21,8 @@ abbrev pub kept : Option FrameFault → List ℕ → List ℕ
 kept None left = left
 kept (Some fault) left = []
 
--- A piece was taken: the frames that it completes wait behind the others, and the fault is what is left behind them shows.
+-- A piece was taken: the frames that it completes wait behind the others,
+-- and the fault is what is left behind them shows.
 pub record Takes (old : FramerState) (piece : List ℕ) (new : FramerState) (fault : Option FrameFault) : Type 0 where
   pub came : List (List ℕ)
   pub left : List ℕ
@@ -49,7 +52,8 @@ abbrev pub can_hold : FramerState → List ℕ → Bool
 can_hold state piece = not state.broken && is_part state.limit (state.rest ++ piece)
 
 -- What was handed out and what waits are the stream's messages, and the octets behind them show this fault or none.
-pub record Shows (state : FramerState) (limit : ℕ) (handed : List (List ℕ)) (stream : List ℕ) (fault : Option FrameFault) : Type 0 where
+pub record Shows (state : FramerState) (limit : ℕ) (handed : List (List ℕ)) (stream : List ℕ)
+    (fault : Option FrameFault) : Type 0 where
   pub left : List ℕ
   pub same_limit : state.limit ≡ limit
   pub frames : Frames stream limit (handed ++ state.waiting) left

@@ -1,3 +1,4 @@
+-- The definitions that the contracts of dia_frame speak of.
 pub mod Fault
 pub mod Frames
 pub mod Framer

@@ -1,5 +1,6 @@
 -- The message at the front of octets, the room that a rest is given, and the rest once all whole messages are cut off.
-use Rattle.std.specs.Prelude.{◌≡◌, ◌==◌, ℕ, ◌≤◌, ◌||◌, ◌&&◌, Bool, is_some, is_none, nat_lt, List, ◌++◌, length, drop, Option, Some, None, if◌then◌else◌}
+use Rattle.std.specs.Prelude.{◌≡◌, ◌==◌, ℕ, ◌≤◌, ◌||◌, ◌&&◌, Bool, is_some, is_none, nat_lt, List, ◌++◌, length, drop}
+use Rattle.std.specs.Prelude.{Option, Some, None, if◌then◌else◌}
 use Rattle.dia_frame.specs.Frames.{Frames, message_length, fault_of}
 
 -- the length of the message at the front, where all of it is there
@@ -17,8 +18,8 @@ length_in octets = if nat_lt (length octets) 4 then None else Some (message_leng
 abbrev pub is_part : ℕ → List ℕ → Bool
 is_part limit octets = is_none (fault_of limit octets) && is_none (whole_len limit octets)
 
--- How many octets a rest is given room for: none before the first octet of a message or at a fault, four until the length
--- is known, and then the whole message.
+-- How many octets a rest is given room for: none before the first octet of a message or at a fault,
+-- four until the length is known, and then the whole message.
 abbrev pub room_of : ℕ → List ℕ → ℕ
 room_of limit rest =
     if length rest == 0 || is_some (fault_of limit rest) then 0

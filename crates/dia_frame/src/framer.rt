@@ -1,6 +1,7 @@
 //! The Framer: octets in, frames out.
 
-ghost use Rattle.std.specs.Prelude.{◌≡◌, ◌∷◌, [], ◌++◌, length, take, List, ℕ, MatchOption, IfOk, IfSome, OnErr, IsErrOf};
+ghost use Rattle.std.specs.Prelude.{◌≡◌, ◌∷◌, [], ◌++◌, length, take, List, ℕ, MatchOption, IfOk};
+ghost use Rattle.std.specs.Prelude.{IfSome, OnErr, IsErrOf};
 ghost use Rattle.std.specs.Prelude.{None, true, false, if◌then◌else◌};
 
 use crate::cut::{cut_frames, fault_across, fault_of, is_part, room_of};

@@ -13,6 +13,7 @@ use Rattle.dia_avp.specs.declared.avp.Avp.{Avp}
 use Rattle.dia_avp.specs.Reading.{avps_in}
 use Rattle.dia_avp.specs.Encoding.{length_of, encoded, encoding}
 use Rattle.dia_avp.specs.Writing.{HasNumbers}
+use Rattle.dia_avp.specs.Look.{is_coded, number_in, first_number}
 use Rattle.dia_avp.proofs.Bytes.{IsBytes, IsBytes-drop, big_number_4-lt, big_number_3-lt}
 use Rattle.dia_avp.proofs.PartLaws.{IsShort, HasBytes, avps_in-only, avps_in-numbers, avps_in-not_zero, avps_in-bytes, avps_in-short, avps_in-encoding, avps_in-room, encoding-bytes}
 use Rattle.dia_avp.proofs.Encoded.{length_encoded}
@@ -20,7 +21,7 @@ use Rattle.dia_dict.specs.declared.definition.Definition.{Definition}
 use Rattle.dia_dict.specs.Dictionary.{known, definition_of}
 use Rattle.dia_tree.specs.Kind.{is_grouped}
 use Rattle.dia_tree.specs.declared.fault.MsgFault.{MsgFault}
-use Rattle.dia_tree.specs.Faults.{is_coded, group_faults, missing_fault, IsGood}
+use Rattle.dia_tree.specs.Faults.{group_faults, missing_fault, IsGood}
 use Rattle.dia_tree.specs.Canonical.{canonical, IsCanonical, AreCanonical, AreEach}
 use Rattle.dia_tree.proofs.CanonicalRelation.{IsCanonical-takes, IsCanonical-again, AreCanonical-takes, AreCanonical-again}
 use Rattle.dia_tree.proofs.RelationLaws.{all_are}
@@ -36,7 +37,7 @@ use Rattle.dia_command.specs.declared.format.AvpFormat.{AvpFormat}
 use Rattle.dia_command.specs.declared.typed.TypedAvp.{TypedAvp}
 use Rattle.dia_command.specs.Header.{header_in, header_octets, flags_in, flags_octet}
 use Rattle.dia_command.specs.Format.{kind_coded, application_of, format_of}
-use Rattle.dia_command.specs.Field.{Field, Octets, Numbers, Types, Actions, Groups, avps_by, number_in, IsGroup, IsTypedOf, AreTypedOf, IsFieldOf}
+use Rattle.dia_command.specs.Field.{Field, Octets, Numbers, Types, Actions, Groups, avps_by, IsGroup, IsTypedOf, AreTypedOf, IsFieldOf}
 use Rattle.dia_command.specs.Command.{kind_of, header_of, fields, rest_of, avps_of, with_length}
 use Rattle.dia_write.specs.Encoding.{message_len, encode}
 use Rattle.dia_command.specs.Laws.{IsRead, has_groups, IsReadOf, AreReadOf}
@@ -44,7 +45,7 @@ use Rattle.dia_command.proofs.AgainLaws.{written_again}
 use Rattle.dia_write.proofs.WriteLemmas.{length-encode, encode-whole}
 use Rattle.dia_msg.specs.declared.fault.MsgError.{MsgError}
 use Rattle.dia_msg.specs.Taken.{is_for, taken, groups, untaken, missing}
-use Rattle.dia_msg.specs.Faults.{header_faults, kind_in, is_credit, is_event, first_number, has_failed, is_complete, read_as, kind_read, format_read, has_services, instances, services_faults, HasFaults}
+use Rattle.dia_msg.specs.Faults.{header_faults, kind_in, is_credit, is_event, has_failed, is_complete, read_as, kind_read, format_read, has_services, instances, services_faults, HasFaults}
 use Rattle.dia_msg.specs.Reading.{AreFields, Means, IsReading, IsReadAgain, UnlessNoMemory}
 use Rattle.dia_msg.specs.Walk.{whole_avps, groups_in, later_faults, faults}
 use Rattle.dia_msg.proofs.FaultlessLaws.{SoundHeader, sound_header, SoundLength, sound_length, length-good, header-faultless}
@@ -167,7 +168,7 @@ found_stays d formats list code plain =
     ∙ sym (found (is_coded code) list)
 
 abbrev number_from : Option Avp → Option ℕ
-number_from o = option_and_then (λ a. number_in a.octets) o
+number_from o = option_and_then (λ a. number_in 4 a.octets) o
 
 abbrev event_from : Option Avp → Bool
 event_from o = option_map_or (λ a. (length a.octets == 4) && (big_number 4 a.octets == 4)) o false

@@ -3,8 +3,8 @@ use Rattle.std.proofs.Common.{◌≡◌, ℕ, Bool, true, false, cond, not, List
 use Rattle.std.proofs.lemmas.List.{map-append, length-map}
 use Rattle.std.proofs.lemmas.List.Elements.{All-head, All-tail, filter_passes}
 use Rattle.dia_avp.specs.declared.avp.Avp.{Avp}
+use Rattle.dia_avp.specs.Look.{is_coded}
 use Rattle.dia_command.specs.declared.format.AvpFormat.{AvpFormat}
-use Rattle.dia_tree.specs.Faults.{is_coded}
 use Rattle.dia_msg.specs.Taken.{is_for, taken, left_by, without_first, untaken, is_missing, missing}
 use Rattle.dia_msg.proofs.SpreadLemmas.{spread}
 

@@ -7,13 +7,14 @@ use Rattle.dia_avp.specs.declared.avp.Avp.{Avp}
 use Rattle.dia_avp.specs.Avps.{Avps}
 use Rattle.dia_avp.specs.Reading.{avps_in}
 use Rattle.dia_avp.specs.Encoding.{length_of}
+use Rattle.dia_avp.specs.Look.{is_coded}
 use Rattle.dia_avp.proofs.Bytes.{IsBytes, IsBytes-drop}
 use Rattle.dia_avp.proofs.PartLaws.{avps_in-only, avps_in-all, avps_in-bytes, avps_in-short}
 use Rattle.dia_dict.specs.declared.definition.Definition.{Definition}
 use Rattle.dia_dict.specs.Dictionary.{known}
 use Rattle.dia_tree.specs.declared.fault.MsgFault.{MsgFault}
 use Rattle.base_codes.specs.declared.result_code.ResultCode.TheVariants.{UnableToComply}
-use Rattle.dia_tree.specs.Faults.{fault, is_coded, group_faults, missing_fault, IsGood, HasMessageFaults}
+use Rattle.dia_tree.specs.Faults.{fault, group_faults, missing_fault, IsGood, HasMessageFaults}
 use Rattle.dia_tree.specs.Canonical.{canonical, IsCanonical, AreEach}
 use Rattle.dia_tree.proofs.CanonicalRelation.{IsCanonical-takes, IsCanonical-again}
 use Rattle.dia_tree.proofs.FaultLaws.{each_good, left_none}
@@ -285,8 +286,8 @@ outcome_as added octets h list r e f o = subst (λ (l : List Avp). IsOutcome add
 
 pub outcome_made : (added : List Definition) (header : Header) (list : List Avp) (k : CommandKind) (r : Result Command MsgError) → later_faults (known added) header list ≡ [] → kind_read header list ≡ Some k
     → IfOk r (IsBuilt added (format_read header list) list k header) → IfErr r (λ e. e ≡ msg_errors.NoMemory) → IsOutcome added header list r
-outcome_made added header list k (Ok c) none kind built wanting = (none, k, kind, built)
-outcome_made added header list k (Err e) none kind built wanting = rw wanting (outcome_memory added header list none)
+outcome_made added header list k (Ok c) none kind built no_memory = (none, k, kind, built)
+outcome_made added header list k (Err e) none kind built no_memory = rw no_memory (outcome_memory added header list none)
 
 pub ran_out : (r : Result Command MsgError) → IsErrOf r msg_errors.NoMemory → r ≡ Err msg_errors.NoMemory
 ran_out (Ok c) h = absurd cc

@@ -5,15 +5,16 @@ use Rattle.std.specs.Option.{option_map_or}
 use Rattle.std.proofs.lemmas.List.Elements.{All-nil, All-head, All-tail, All-filter}
 use Rattle.dia_avp.specs.declared.avp.Avp.{Avp}
 use Rattle.dia_avp.specs.Reading.{avps_in}
+use Rattle.dia_avp.specs.Look.{is_coded, first_number}
 use Rattle.dia_avp.proofs.Bytes.{IsBytes, IsBytes-drop}
 use Rattle.dia_avp.proofs.PartLaws.{avps_in-only, avps_in-whole, avps_in-bytes}
 use Rattle.dia_dict.specs.declared.definition.Definition.{Definition}
 use Rattle.dia_tree.specs.declared.fault.MsgFault.{MsgFault}
-use Rattle.dia_tree.specs.Faults.{is_coded, group_faults}
+use Rattle.dia_tree.specs.Faults.{group_faults}
 use Rattle.dia_tree.proofs.RelationLaws.{message_faults, HasMessageFaults-takes, HasMessageFaults-again}
 use Rattle.dia_command.specs.declared.header.Header.{Header}
 use Rattle.dia_command.specs.Header.{header_in}
-use Rattle.dia_msg.specs.Faults.{header_faults, is_credit, is_event, first_number, kind_read, format_read, has_services, instances, IsGroupOf, AreGroups, missing_faults, services_faults, HasFaults}
+use Rattle.dia_msg.specs.Faults.{header_faults, is_credit, is_event, kind_read, format_read, has_services, instances, IsGroupOf, AreGroups, missing_faults, services_faults, HasFaults}
 use Rattle.dia_msg.specs.Reading.{IsReading}
 use Rattle.dia_msg.specs.Walk.{whole_avps, groups_in, faults_by, faults}
 

@@ -7,8 +7,8 @@ use Rattle.std.proofs.lemmas.List.{length-append}
 use Rattle.dia_avp.specs.declared.avp.AvpView.{AvpView}
 use Rattle.dia_avp.specs.Reading.{avps_in}
 use Rattle.dia_avp.specs.View.{seen}
-use Rattle.dia_tree.specs.Faults.{is_coded}
-use Rattle.dia_msg.specs.Faults.{first_number, is_same, has_twice}
+use Rattle.dia_avp.specs.Look.{is_coded, first_number}
+use Rattle.dia_msg.specs.Faults.{is_same, has_twice}
 use Rattle.dia_msg.specs.Sorting.{seen_all}
 use Rattle.dia_msg.specs.Walk.{groups_in}
 use Rattle.dia_msg.proofs.MissingLemmas.{split_at}

@@ -11,9 +11,9 @@ use Rattle.std.proofs.lemmas.List.{map-append, length-map}
 use Rattle.dia_avp.specs.declared.avp.Avp.{Avp}
 use Rattle.dia_avp.specs.declared.avp.AvpView.{AvpView}
 use Rattle.dia_avp.specs.View.{seen}
+use Rattle.dia_avp.specs.Look.{is_coded}
 use Rattle.dia_command.specs.declared.format.AvpFormat.{AvpFormat}
 use Rattle.dia_msg.specs.declared.sorting.Sorted.{Sorted}
-use Rattle.dia_tree.specs.Faults.{is_coded}
 use Rattle.dia_msg.specs.Taken.{is_for, first_of, without_first, left_by, untaken, is_new, is_distinct}
 use Rattle.dia_msg.specs.Sorting.{seen_all, IsEntry, placed, all_placed, Sorts}
 use Rattle.dia_msg.proofs.SpreadLemmas.{Test, apart_codes, stay, fails_from, both_are, leaves}

@@ -17,6 +17,7 @@ use Rattle.dia_avp.specs.declared.fault.FieldFault.{FieldFault}
 use Rattle.dia_avp.specs.declared.fault.FieldFault.TheVariants as fieldfaults
 use Rattle.dia_avp.specs.View.{seen}
 use Rattle.dia_avp.specs.Encoding.{length_of}
+use Rattle.dia_avp.specs.Look.{is_coded}
 use Rattle.dia_avp.proofs.FieldLaws.{not_utf8}
 use Rattle.dia_dict.specs.declared.definition.AvpKind.{AvpKind}
 use Rattle.dia_dict.specs.declared.definition.AvpKind.TheVariants.{Unsigned32, Unsigned64, Enumerated, Utf8String, DiameterIdentity, Address, Grouped, Time, OctetString}
@@ -25,7 +26,7 @@ use Rattle.dia_dict.specs.declared.fault.DictFault.TheVariants.{BadLength, BadVa
 use Rattle.dia_dict.specs.Kind.{least_size}
 use Rattle.dia_dict.specs.Dictionary.{known, definition_of}
 use Rattle.dia_tree.specs.declared.fault.MsgFault.{MsgFault}
-use Rattle.dia_tree.specs.Faults.{fault, is_coded, is_bad_value, least_of, data_faults, own_faults, typed_faults, faults_by, group_faults, IsGood}
+use Rattle.dia_tree.specs.Faults.{fault, is_bad_value, least_of, data_faults, own_faults, typed_faults, faults_by, group_faults, IsGood}
 use Rattle.base_codes.specs.declared.result_code.ResultCode.TheVariants.{InvalidAvpValue}
 use Rattle.dia_command.specs.declared.format.AvpFormat.{AvpFormat}
 use Rattle.dia_command.specs.Value.{type_coded}

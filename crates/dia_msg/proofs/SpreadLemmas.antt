@@ -8,8 +8,8 @@ use Rattle.std.proofs.lemmas.List.Elements.{All-nil, All-cons, All-head, All-tai
 use Rattle.std.proofs.lemmas.List.Filters.{sum_by-filter_both}
 use Rattle.std.proofs.lemmas.List.Sums.{sum_by-append, sum_by-cons}
 use Rattle.dia_avp.specs.declared.avp.Avp.{Avp}
+use Rattle.dia_avp.specs.Look.{is_coded}
 use Rattle.dia_command.specs.declared.format.AvpFormat.{AvpFormat}
-use Rattle.dia_tree.specs.Faults.{is_coded}
 use Rattle.dia_msg.specs.Taken.{is_for, taken, left_by, without_first, groups, untaken, is_new, is_distinct}
 
 abbrev pub Test : Type 0

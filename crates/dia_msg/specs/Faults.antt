@@ -1,14 +1,18 @@
 -- The faults of a message, in the order in which they count.
-use Rattle.std.specs.Prelude.{◌≡◌, ℕ, ◌%◌, ◌/◌, Bool, true, false, not, ◌==◌, ◌&&◌, ◌||◌, nat_lt, if◌then◌else◌, List, [], ◌∷◌, ◌++◌, length, slice_index, drop, map, filter, find, Option, None, Some, is_none}
+use Rattle.std.specs.Prelude.{◌≡◌, ℕ, ◌%◌, ◌/◌, Bool, true, false, not, ◌==◌, ◌&&◌, ◌||◌, nat_lt, if◌then◌else◌}
+use Rattle.std.specs.Prelude.{List, [], ◌∷◌, ◌++◌, length, slice_index, drop, map, filter, Option, None, Some, is_none}
 use Rattle.std.specs.List.{list_any}
-use Rattle.std.specs.Option.{option_map, option_map_or, option_and_then}
+use Rattle.std.specs.Option.{option_map, option_map_or}
 use Rattle.dia_avp.specs.declared.avp.Avp.{Avp}
 use Rattle.dia_avp.specs.Avps.{AvpsThen, IsLeftOver}
+use Rattle.dia_avp.specs.Look.{is_coded, first_number}
 use Rattle.dia_dict.specs.declared.definition.Definition.{Definition}
 use Rattle.dia_tree.specs.declared.fault.MsgFault.{MsgFault}
 use Rattle.base_codes.specs.declared.result_code.ResultCode.{ResultCode}
-use Rattle.base_codes.specs.declared.result_code.ResultCode.TheVariants.{CommandUnsupported, ApplicationUnsupported, UnsupportedVersion, InvalidMessageLength, UnableToComply}
-use Rattle.dia_tree.specs.Faults.{fault, missing_fault, is_coded, has_event_type, HasMessageFaults}
+use Rattle.base_codes.specs.declared.result_code.ResultCode.TheVariants.{CommandUnsupported, ApplicationUnsupported}
+use Rattle.base_codes.specs.declared.result_code.ResultCode.TheVariants.{UnsupportedVersion, InvalidMessageLength}
+use Rattle.base_codes.specs.declared.result_code.ResultCode.TheVariants.{UnableToComply}
+use Rattle.dia_tree.specs.Faults.{fault, missing_fault, has_event_type, HasMessageFaults}
 use Rattle.dia_command.specs.declared.header.Flags.{Flags}
 use Rattle.dia_command.specs.declared.header.Header.{Header}
 use Rattle.dia_command.specs.declared.kind.CommandKind.{CommandKind}
@@ -16,7 +20,6 @@ use Rattle.dia_command.specs.declared.kind.CommandKind.TheVariants as kinds
 use Rattle.dia_command.specs.declared.format.AvpFormat.{AvpFormat}
 use Rattle.dia_command.specs.Header.{header_in}
 use Rattle.dia_command.specs.Format.{kind_coded, application_of, format_of}
-use Rattle.dia_command.specs.Field.{number_in}
 use Rattle.dia_msg.specs.Taken.{missing}
 
 -- the fault where a test says so, and else none
@@ -53,10 +56,6 @@ is_credit header = (header.command == 272) && header.flags.request
 abbrev pub is_event : Header → List Avp → Bool
 is_event header list = is_credit header && has_event_type list
 
--- the number that the first AVP of a code has
-abbrev pub first_number : ℕ → List Avp → Option ℕ
-first_number code list = option_and_then (λ a. number_in a.octets) (find (is_coded code) list)
-
 -- whether the first Result-Code tells no success: it is not 2xxx (RFC 6733 section 7.1)
 abbrev pub has_failed : List Avp → Bool
 has_failed list = option_map_or (λ n. not (n / 1000 == 2)) (first_number 268 list) false
@@ -65,10 +64,11 @@ has_failed list = option_map_or (λ n. not (n / 1000 == 2)) (first_number 268 li
 abbrev pub is_complete : CommandKind → List Avp → Bool
 is_complete kind list = length (missing (format_of kind false) list) == 0
 
--- the kind as which an answer with these AVPs is read: one that has flag E, or that tells no success and lacks an AVP of its
--- command, is an ErrorAnswer (RFC 6733 sections 6.2 and 7.2)
+-- the kind as which an answer with these AVPs is read: one that has flag E, or that tells no success and lacks an AVP
+-- of its command, is an ErrorAnswer (RFC 6733 sections 6.2 and 7.2)
 abbrev pub answer_as : CommandKind → Bool → List Avp → CommandKind
-answer_as kind error list = if error || (has_failed list && not (is_complete kind list)) then kinds.ErrorAnswer else kind
+answer_as kind error list =
+    if error || (has_failed list && not (is_complete kind list)) then kinds.ErrorAnswer else kind
 
 -- the kind as which a message is read
 abbrev pub read_as : CommandKind → Flags → List Avp → CommandKind
@@ -76,7 +76,8 @@ read_as kind flags list = if flags.request then kind else answer_as kind flags.e
 
 -- the kind as which a message is read, where its command is known
 abbrev pub kind_read : Header → List Avp → Option CommandKind
-kind_read header list = option_map (λ kind. read_as kind header.flags list) (kind_coded header.command header.flags.request)
+kind_read header list =
+    option_map (λ kind. read_as kind header.flags list) (kind_coded header.command header.flags.request)
 
 -- the format by which a message is read
 abbrev pub format_read : Header → List Avp → List AvpFormat
@@ -88,18 +89,24 @@ has_services kinds.CreditControlRequest = true
 has_services kinds.CreditControlAnswer = true
 has_services kind = false
 
--- the instances of Multiple-Services-Credit-Control that are looked at: those of a request or an answer, at its top level
+-- the instances of Multiple-Services-Credit-Control that are looked at: those of a request or an answer, at its top
+-- level
 abbrev pub instances : Header → List Avp → List Avp
-instances header list = if option_map_or has_services (kind_read header list) false then filter (is_coded 456) list else []
+instances header list =
+    if option_map_or has_services (kind_read header list) false then filter (is_coded 456) list else []
 
 -- the group of an instance: the first Rating-Group among its AVPs, or none
 abbrev pub IsGroupOf : Avp → Option ℕ → Type 0
-IsGroupOf a group = (list : List Avp) × (left : List ℕ) × AvpsThen a.octets list left × IsLeftOver left × (group ≡ first_number 432 list)
+IsGroupOf a group =
+    (list : List Avp) × (left : List ℕ)
+    × AvpsThen a.octets list left × IsLeftOver left × (group ≡ first_number 432 list)
 
 -- the groups of instances, in order
 abbrev pub AreGroups : List Avp → List (Option ℕ) → Type 0
 AreGroups [] groups = groups ≡ []
-AreGroups (a ∷ list) groups = (group : Option ℕ) × (later : List (Option ℕ)) × IsGroupOf a group × AreGroups list later × (groups ≡ group ∷ later)
+AreGroups (a ∷ list) groups =
+    (group : Option ℕ) × (later : List (Option ℕ))
+    × IsGroupOf a group × AreGroups list later × (groups ≡ group ∷ later)
 
 -- whether two groups are one; no Rating-Group is a group too
 abbrev pub is_same : Option ℕ → Option ℕ → Bool
@@ -114,7 +121,8 @@ has_twice (group ∷ later) = list_any (is_same group) later || has_twice later
 
 -- the fault of services: there are more than four, any at all in an EVENT request, or two of one group
 abbrev pub services_faults : Bool → List (Option ℕ) → List MsgFault
-services_faults event groups = fault_if (nat_lt (if event then 0 else 4) (length groups) || has_twice groups) UnableToComply
+services_faults event groups =
+    fault_if (nat_lt (if event then 0 else 4) (length groups) || has_twice groups) UnableToComply
 
 -- the faults of the AVPs that are missing, in the order of the format
 abbrev pub missing_faults : List Definition → List AvpFormat → List Avp → List MsgFault

@@ -1,3 +1,4 @@
+-- The definitions that the contracts of dia_msg speak of.
 pub mod Taken
 pub mod Sorting
 pub mod Faults

@@ -19,11 +19,12 @@ use Rattle.dia_msg.specs.Faults.{kind_read, format_read, HasFaults}
 -- fields are those of AVPs, each of what its entry of the format takes
 abbrev pub AreFields : List Definition → List Field → List (List Avp) → Type 0
 AreFields definitions [] [] = Unit {0}
-AreFields definitions (field ∷ fields) (group ∷ groups) = IsFieldOf definitions field group × AreFields definitions fields groups
+AreFields definitions (field ∷ fields) (group ∷ groups) =
+    IsFieldOf definitions field group × AreFields definitions fields groups
 AreFields definitions fields groups = ⊥
 
--- a message means a command: its kind, its header, its fields by what the format takes of the AVPs, and as rest those that no
--- entry takes, each in its canonical encoding
+-- a message means a command: its kind, its header, its fields by what the format takes of the AVPs, and as rest those
+-- that no entry takes, each in its canonical encoding
 pub record Means (definitions : List Definition) (octets : List ℕ) (command : Command) : Type 0 where
   pub avps : List Avp
   pub whole : Avps (drop 20 octets) avps
@@ -39,11 +40,13 @@ IsReading definitions octets (Err f) = (later : List MsgFault) × HasFaults defi
 
 -- they are read as nothing else
 abbrev pub IsOnlyReading : List Definition → List ℕ → Result Command MsgFault → Type 0
-IsOnlyReading definitions octets answer = (other : Result Command MsgFault) → IsReading definitions octets other → other ≡ answer
+IsOnlyReading definitions octets answer =
+    (other : Result Command MsgFault) → IsReading definitions octets other → other ≡ answer
 
 -- the command's encoding is read as this command, but for the length field, which is the encoding's length
 abbrev pub IsReadAgain : List Definition → Command → Type 0
-IsReadAgain definitions command = IsReading definitions (encode command) (Ok (with_length (length (encode command)) command))
+IsReadAgain definitions command =
+    IsReading definitions (encode command) (Ok (with_length (length (encode command)) command))
 
 -- what a call answered has this property, unless memory ran out
 abbrev pub UnlessNoMemory : Result Command MsgError → (Result Command MsgFault → Type 0) → Type 0
@@ -51,6 +54,7 @@ UnlessNoMemory (Ok command) P = P (Ok command)
 UnlessNoMemory (Err msg_errors.NoMemory) P = Unit {0}
 UnlessNoMemory (Err (msg_errors.Fault f)) P = P (Err f)
 
--- memory may run out only over octets that have no fault, or whose first fault has a failed AVP with more than 32 octets of data
+-- memory may run out only over octets that have no fault, or whose first fault has a failed AVP with more than 32
+-- octets of data
 abbrev pub MayNeedMemory : List Definition → List ℕ → Type 0
 MayNeedMemory definitions octets = (f : MsgFault) → IsReading definitions octets (Err f) → HasLongData f.failed

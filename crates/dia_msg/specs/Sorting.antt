@@ -27,8 +27,10 @@ all_placed list places = flat_map (λ p. option_to_list (slice_get list p)) plac
 
 -- the AVPs in front are sorted: at the place of each entry its first AVP, and in order those that no entry takes
 pub record Sorts (formats : List AvpFormat) (list : List Avp) (front : List Avp) (s : Sorted) : Type 0 where
-  pub firsts : (k : ℕ) (f : AvpFormat) → slice_get formats k ≡ Some f → placed list (get_or s.firsts k None) ≡ first_of f.code front
-  pub there : (k : ℕ) (f : AvpFormat) → slice_get formats k ≡ Some f → is_some (get_or s.firsts k None) ≡ is_some (first_of f.code front)
+  pub firsts : (k : ℕ) (f : AvpFormat)
+      → slice_get formats k ≡ Some f → placed list (get_or s.firsts k None) ≡ first_of f.code front
+  pub there : (k : ℕ) (f : AvpFormat)
+      → slice_get formats k ≡ Some f → is_some (get_or s.firsts k None) ≡ is_some (first_of f.code front)
   pub rest : all_placed list s.rest.items ≡ untaken formats front
   pub few : length s.rest.items ≤ length front
 

@@ -1,5 +1,6 @@
 -- The AVPs of a message as the values of its command's fields are made of them.
-use Rattle.std.specs.Prelude.{◌≡◌, ◌<◌, ◌^◌, ℕ, Bool, true, false, List, [], length, map, get_or, All, None, Some, is_some}
+use Rattle.std.specs.Prelude.{◌≡◌, ◌<◌, ◌^◌, ℕ, Bool, true, false, List, [], length, map, get_or, All, None, Some}
+use Rattle.std.specs.Prelude.{is_some}
 use Rattle.std.specs.Option.{option_map}
 use Rattle.std.specs.Str.{is_utf8}
 use Rattle.dia_avp.specs.declared.avp.Avp.{Avp}
@@ -37,7 +38,9 @@ pub record IsReady (added : List Definition) (formats : List AvpFormat) (list : 
 
 -- at a place is an entry of one AVP that must be there, of one that may be, of any number
 abbrev pub IsOne : List AvpFormat → ℕ → Type 0
-IsOne formats place = (place < length formats) × ((entry_at formats place).required ≡ true) × ((entry_at formats place).several ≡ false)
+IsOne formats place =
+    (place < length formats) × ((entry_at formats place).required ≡ true)
+    × ((entry_at formats place).several ≡ false)
 
 abbrev pub IsPerhaps : List AvpFormat → ℕ → Type 0
 IsPerhaps formats place = (place < length formats) × ((entry_at formats place).several ≡ false)
@@ -59,7 +62,9 @@ pub record IsSound (added : List Definition) (code : ℕ) (a : Avp) : Type 0 whe
   pub request_type : code ≡ 416 → is_some (type_in a.octets) ≡ true
 
 -- a command of a kind and a header that is made of the AVPs
-pub record IsBuilt (added : List Definition) (formats : List AvpFormat) (list : List Avp) (kind : CommandKind) (header : Header) (c : Command) : Type 0 where
+pub record IsBuilt
+    (added : List Definition) (formats : List AvpFormat) (list : List Avp) (kind : CommandKind) (header : Header)
+    (c : Command) : Type 0 where
   pub kind_is : kind_of c ≡ kind
   pub header_is : header_of c ≡ header
   pub fields_are : AreFields (known added) (fields c) (groups formats list)

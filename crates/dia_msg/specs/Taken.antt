@@ -1,8 +1,9 @@
 -- Which AVPs the entries of a command's format take (RFC 6733 section 3.2).
-use Rattle.std.specs.Prelude.{ℕ, Bool, true, not, ◌==◌, ◌&&◌, if◌then◌else◌, List, [], ◌∷◌, length, map, take, filter, slice_get, Option}
+use Rattle.std.specs.Prelude.{ℕ, Bool, true, not, ◌==◌, ◌&&◌, if◌then◌else◌, List, [], ◌∷◌, length, map, take, filter}
+use Rattle.std.specs.Prelude.{slice_get, Option}
 use Rattle.std.specs.List.{list_all}
 use Rattle.dia_avp.specs.declared.avp.Avp.{Avp}
-use Rattle.dia_tree.specs.Faults.{is_coded}
+use Rattle.dia_avp.specs.Look.{is_coded}
 use Rattle.dia_command.specs.declared.format.AvpFormat.{AvpFormat}
 
 -- whether an AVP is one for an entry

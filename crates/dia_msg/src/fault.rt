@@ -1,3 +1,4 @@
+//! Why octets are not read.
 ghost use Rattle.std.specs.Prelude.{◌≡◌};
 ghost use Rattle.dia_tree.specs.View.{seen_fault};
 ghost use Rattle.dia_msg.specs.Walk.{IsErrorOf};

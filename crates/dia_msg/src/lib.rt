@@ -1,5 +1,5 @@
-//! Messages of Diameter (RFC 6733 sections 3 and 6): octets to commands. Commands themselves are those of `dia_command`, and how
-//! they are written is `dia_write`'s; this crate hands both on.
+//! Messages of Diameter (RFC 6733 sections 3 and 6): octets to commands. Commands themselves are those of
+//! `dia_command`, and how they are written is `dia_write`'s; this crate hands both on.
 //!
 //! | File | What it does |
 //! |---|---|

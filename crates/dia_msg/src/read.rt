@@ -1,6 +1,7 @@
 //! The command that octets mean.
 
-ghost use Rattle.std.specs.Prelude.{◌≡◌, ◌≤◌, ◌<◌, ◌^◌, [], All, List, length, drop, slice_get, false, Some, None, IfOk, IfErr, OnOk, IsErrOf};
+ghost use Rattle.std.specs.Prelude.{◌≡◌, ◌≤◌, ◌<◌, ◌^◌, [], All, List, length, drop, slice_get, false, Some, None};
+ghost use Rattle.std.specs.Prelude.{IfOk, IfErr, OnOk, IsErrOf};
 ghost use Rattle.std.specs.Option.{option_map};
 ghost use Rattle.dia_avp.specs.Avps.{Avps};
 ghost use Rattle.dia_avp.specs.Encoding.{length_of};
@@ -11,19 +12,20 @@ ghost use Rattle.dia_tree.specs.declared.fault.MsgFault.{MsgFault as Fault};
 ghost use Rattle.dia_tree.specs.Faults.{fault, IsGood, HasMessageFaults};
 ghost use Rattle.dia_command.specs.Header.{header_in};
 ghost use Rattle.dia_command.specs.Format.{kind_coded, format_of as format_by};
-ghost use Rattle.dia_msg.specs.Faults.{header_faults, kind_in, is_credit as is_credit_by, is_event as is_event_by, has_failed as has_failed_by, answer_as, read_as};
+ghost use Rattle.dia_msg.specs.Faults.{header_faults, kind_in, is_credit as is_credit_by, is_event as is_event_by};
+ghost use Rattle.dia_msg.specs.Faults.{has_failed as has_failed_by, answer_as, read_as};
 ghost use Rattle.dia_msg.specs.Sorting.{seen_all, IsSorted};
 ghost use Rattle.dia_msg.specs.Reading.{IsReading, IsOnlyReading, IsReadAgain, UnlessNoMemory, MayNeedMemory};
 ghost use Rattle.dia_msg.specs.Walk.{IsErrorOf, IsDecided, IsOutcome};
 
 use crate::check::{checked_header, is_credit};
 use crate::fault::{MsgError, error_of};
-use crate::services::{are_faulty, first_number, has_services};
+use crate::services::{are_faulty, has_services};
 use crate::sorting::{Sorted, sort};
 use crate::source::Source;
 use base_codes::{HEADER_LEN, ResultCode, avp_code};
 use base_list::FixedList;
-use dia_avp::{AvpView, MAX_AVPS};
+use dia_avp::{AvpView, MAX_AVPS, first_number_among};
 use dia_command::{Command, CommandKind, Header, RequestType, format_of, header_of};
 use dia_dict::Dictionary;
 use dia_tree::{FaultView, MsgFault, NoRoom, missing_fault, survey};
@@ -37,14 +39,14 @@ fn is_event(header: &Header, avps: &[AvpView<'_>]) -> bool
     ensures { result ≡ is_event_by header.now (seen_all avps.now) }
 {
     is_credit(header)
-        && first_number(avps, avp_code::CC_REQUEST_TYPE) == Some(RequestType::Event.number())
+        && first_number_among(avps, avp_code::CC_REQUEST_TYPE) == Some(RequestType::Event.number())
 }
 
 // Whether the first Result-Code tells no success.
 fn has_failed(avps: &[AvpView<'_>]) -> bool
     ensures { result ≡ has_failed_by (seen_all avps.now) }
 {
-    match first_number(avps, avp_code::RESULT_CODE) {
+    match first_number_among(avps, avp_code::RESULT_CODE) {
         Some(number) => number / 1000 != 2,
         None => false,
     }
@@ -103,8 +105,8 @@ fn sort_as(
     sort_answer(command, header.flags.error, avps, sorted)
 }
 
-// The kind as which AVPs are read where the header and they have no fault, or the first of the other faults; the AVPs are
-// sorted by its format.
+// The kind as which AVPs are read where the header and they have no fault, or the first of the other faults; the AVPs
+// are sorted by its format.
 fn kind_of(
     alloc: Global,
     dictionary: &Dictionary,
@@ -141,8 +143,8 @@ fn without_fault(alloc: Global, first: &Option<FaultView<'_>>) -> Result<(), Msg
     }
 }
 
-// What is made of a message whose header has no fault: the error for the first fault of its AVPs, where they have one, and
-// else what is made of them. It stands in its caller, so that a command is copied once less.
+// What is made of a message whose header has no fault: the error for the first fault of its AVPs, where they have one,
+// and else what is made of them. It stands in its caller, so that a command is copied once less.
 #[inline(always)]
 fn concluded(
     alloc: Global,
@@ -155,7 +157,9 @@ fn concluded(
     requires whole { 20 ≤ length octets.now }
     requires header { header_faults octets.now ≡ [] }
     requires known { kind_in octets.now ≡ Some command }
-    requires first { (faults : List Fault) × HasMessageFaults (known dictionary.now) (is_credit_by (header_in octets.now)) (drop 20 octets.now) faults × (option_map seen_fault first.now ≡ slice_get faults 0) }
+    requires first { (faults : List Fault)
+        × HasMessageFaults (known dictionary.now) (is_credit_by (header_in octets.now)) (drop 20 octets.now) faults
+        × (option_map seen_fault first.now ≡ slice_get faults 0) }
     requires avps { first.now ≡ None → Avps (drop 20 octets.now) (seen_all avps.now) }
     requires few { length avps.now ≤ 128 }
     ensures reading { UnlessNoMemory result (IsReading (known dictionary.now) octets.now) }
@@ -181,9 +185,9 @@ fn concluded(
         avps,
         sorted: &sorted,
     };
-    let mut wanting = false;
-    let command = source.command(kind, event, header, &mut wanting);
-    if wanting {
+    let mut no_memory = false;
+    let command = source.command(kind, event, header, &mut no_memory);
+    if no_memory {
         return Err(MsgError::NoMemory);
     }
     Ok(command)

@@ -1,68 +1,26 @@
 //! The instances of Multiple-Services-Credit-Control of a message (RFC 8506 section 5.1.2), without memory.
 
-ghost use Rattle.std.specs.Prelude.{◌≡◌, ◌||◌, filter, find, nat_lt, length, if◌then◌else◌};
+ghost use Rattle.std.specs.Prelude.{◌≡◌, ◌||◌, filter, nat_lt, length, if◌then◌else◌};
 ghost use Rattle.std.specs.List.{list_any};
-ghost use Rattle.std.specs.Option.{option_map};
-ghost use Rattle.dia_avp.specs.View.{seen};
 ghost use Rattle.dia_avp.specs.Reading.{avps_in};
-ghost use Rattle.dia_tree.specs.Faults.{is_coded, has_event_type};
-ghost use Rattle.dia_command.specs.Field.{number_in};
-ghost use Rattle.dia_msg.specs.Faults.{first_number, is_same, has_twice, has_services};
+ghost use Rattle.dia_avp.specs.Look.{is_coded, first_number};
+ghost use Rattle.dia_msg.specs.Faults.{is_same, has_twice, has_services};
 ghost use Rattle.dia_msg.specs.Sorting.{seen_all};
 ghost use Rattle.dia_msg.specs.Walk.{groups_in};
 
 use base_codes::avp_code;
 use base_list::FixedList;
-use dia_avp::{AvpView, first_avp};
+use dia_avp::{AvpView, first_number_in, is_coded};
 use dia_command::CommandKind;
 
 /// As many instances as a message may have.
 const MAX_SERVICES: usize = 4;
 
-/// Whether an AVP has this code, and no vendor.
-pub(crate) fn is_coded(avp: &AvpView<'_>, code: u32) -> bool
-    ensures { result ≡ is_coded code (seen avp.now) }
-{
-    avp.code == code && avp.vendor.is_none()
-}
-
-/// The number that an AVP's data is.
-pub(crate) fn number_of(avp: &AvpView<'_>) -> Option<u32>
-    ensures { result ≡ number_in avp.now.octets.now }
-{
-    avp.as_u32().ok()
-}
-
-fn first<'a>(avps: &[AvpView<'a>], code: u32) -> Option<AvpView<'a>>
-    ensures { option_map seen result ≡ find (is_coded code) (seen_all avps.now) }
-{
-    for avp in avps {
-        if is_coded(avp, code) {
-            return Some(*avp);
-        }
-    }
-    None
-}
-
-/// The number that the first AVP of a code has.
-pub(crate) fn first_number(avps: &[AvpView<'_>], code: u32) -> Option<u32>
-    ensures { result ≡ first_number code (seen_all avps.now) }
-{
-    number_of(&first(avps, code)?)
-}
-
 // The Rating-Group of an instance.
 fn group_of(avp: &AvpView<'_>) -> Option<u32>
     ensures { result ≡ first_number 432 (avps_in avp.now.octets.now).0 }
 {
-    let mut rest = avp.octets;
-    while let Ok((inner, after)) = first_avp(rest) {
-        if is_coded(&inner, avp_code::RATING_GROUP) {
-            return number_of(&inner);
-        }
-        rest = after;
-    }
-    None
+    first_number_in(avp.octets, avp_code::RATING_GROUP)
 }
 
 fn is_same(a: Option<u32>, b: Option<u32>) -> bool

@@ -1,6 +1,7 @@
 //! The AVPs of a message sorted by a command's format, in one pass and without memory.
 
-ghost use Rattle.std.specs.Prelude.{◌≡◌, ◌≤◌, ◌<◌, All, IfSome, None, Some, length, true, false, slice_get, get_or, replicate, [], List};
+ghost use Rattle.std.specs.Prelude.{◌≡◌, ◌≤◌, ◌<◌, All, IfSome, None, Some, length, true, false, slice_get, get_or};
+ghost use Rattle.std.specs.Prelude.{replicate, [], List};
 ghost use Rattle.std.specs.Option.{option_map};
 ghost use Rattle.dia_avp.specs.View.{seen};
 ghost use Rattle.dia_avp.specs.declared.avp.Avp.{Avp};
@@ -106,7 +107,8 @@ impl Sorted {
     /// The first entry of a format whose AVP must be there and is missing.
     pub fn missing(&self, format: &[AvpFormat]) -> Option<AvpFormat>
         requires { length format.now ≤ 16 }
-        ensures { (list : List Avp) → IsSorted format.now list self.now → result ≡ slice_get (missing format.now list) 0 }
+        ensures { (list : List Avp) → IsSorted format.now list self.now
+            → result ≡ slice_get (missing format.now list) 0 }
     {
         for (place, entry) in format.iter().enumerate() {
             if entry.required && self.firsts[place].is_none() {

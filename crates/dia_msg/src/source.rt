@@ -1,6 +1,6 @@
-//! The values of a command's fields, and its rest, of AVPs that are sorted by its format. Each call takes the place of a
-//! field in the format. Where memory is wanting a call sets `wanting`, and what it gives then is empty: the command is
-//! thrown away as a whole.
+//! The values of a command's fields, and its rest, of AVPs that are sorted by its format. Each call takes the place of
+//! a field in the format. Where memory is short a call sets `no_memory`, and what it gives then is empty: the command
+//! is thrown away as a whole.
 
 ghost use Rattle.std.specs.Prelude.{◌≡◌, [], ◌∷◌, ℕ, List, IfOk, false, map};
 ghost use Rattle.std.specs.Option.{option_to_list};
@@ -11,11 +11,11 @@ ghost use Rattle.dia_tree.specs.Canonical.{canonical};
 ghost use Rattle.dia_command.specs.Field.{IsOctets, IsNumber, IsType, IsAction, IsGroup, IsTypedOf, AreTypedOf};
 ghost use Rattle.dia_msg.specs.Taken.{untaken};
 ghost use Rattle.dia_msg.specs.Sorting.{seen_all};
-ghost use Rattle.dia_msg.specs.Source.{IsReady, IsOne, IsPerhaps, IsSeveral, AreNumbers, AreTexts, IsSound, entry_at, takes};
+ghost use Rattle.dia_msg.specs.Source.{IsReady, IsOne, IsPerhaps, IsSeveral, AreNumbers, AreTexts, IsSound, entry_at};
+ghost use Rattle.dia_msg.specs.Source.{takes};
 
-use crate::services::{is_coded, number_of};
 use crate::sorting::Sorted;
-use dia_avp::{AvpList, AvpView, Octets};
+use dia_avp::{AvpList, AvpView, Octets, is_coded, number_32};
 use dia_command::{AvpFormat, RequestType, RequestedAction, Text, TypedAvp, TypedAvps};
 use dia_dict::Dictionary;
 use dia_tree::{canonical_avp, group_list};
@@ -46,7 +46,7 @@ pub(crate) trait FromAvp: Drop {
         requires { (code : ℕ) × has_kind dictionary.now code × IsSound dictionary.now code (seen avp.now) }
         ensures { IfOk result (is_value (known dictionary.now) avp.now.octets.now) };
 
-    // What stands for a value where memory was wanting. Takes none.
+    // What stands for a value where memory was short. Takes none.
     fn empty(alloc: Global) -> Self;
 }
 
@@ -84,7 +84,7 @@ impl FromAvp for u32 {
     ghost has_kind = { AreNumbers };
 
     fn from_avp(_: Global, _: &Dictionary, avp: &AvpView<'_>) -> Result<u32, AllocError> {
-        Ok(number_of(avp).unwrap())
+        Ok(number_32(avp).unwrap())
     }
 
     fn empty(_: Global) -> u32 {
@@ -128,7 +128,7 @@ impl FromNumber for u32 {
     ghost has_kind = { AreNumbers };
 
     fn from_number(avp: &AvpView<'_>) -> u32 {
-        number_of(avp).unwrap()
+        number_32(avp).unwrap()
     }
 }
 
@@ -138,7 +138,7 @@ impl FromNumber for RequestType {
     ghost has_kind = { λ d code. code ≡ 416 };
 
     fn from_number(avp: &AvpView<'_>) -> RequestType {
-        number_of(avp).and_then(RequestType::coded).unwrap()
+        number_32(avp).and_then(RequestType::coded).unwrap()
     }
 }
 
@@ -148,20 +148,22 @@ impl FromNumber for RequestedAction {
     ghost has_kind = { AreNumbers };
 
     fn from_number(avp: &AvpView<'_>) -> RequestedAction {
-        RequestedAction::coded(number_of(avp).unwrap())
+        RequestedAction::coded(number_32(avp).unwrap())
     }
 }
 
 impl Source<'_> {
     // The value of an AVP, with its flags.
-    fn value<T: FromAvp>(&self, avp: &AvpView<'_>, wanting: &mut bool) -> TypedAvp<T>
-        requires { (code : ℕ) × T.has_kind self.now.dictionary.now code × IsSound self.now.dictionary.now code (seen avp.now) }
-        ensures { wanting.new ≡ false → (wanting.old ≡ false) × IsTypedOf (T.is_value (known self.now.dictionary.now)) result (seen avp.now) }
+    fn value<T: FromAvp>(&self, avp: &AvpView<'_>, no_memory: &mut bool) -> TypedAvp<T>
+        requires { (code : ℕ) × T.has_kind self.now.dictionary.now code
+            × IsSound self.now.dictionary.now code (seen avp.now) }
+        ensures { no_memory.new ≡ false → (no_memory.old ≡ false)
+            × IsTypedOf (T.is_value (known self.now.dictionary.now)) result (seen avp.now) }
     {
         let value = match T::from_avp(self.alloc, self.dictionary, avp) {
             Ok(value) => value,
             Err(_) => {
-                *wanting = true;
+                *no_memory = true;
                 T::empty(self.alloc)
             }
         };
@@ -173,32 +175,39 @@ impl Source<'_> {
     }
 
     /// The value of an entry whose AVP may be there.
-    pub fn perhaps<T: FromAvp>(&self, place: usize, wanting: &mut bool) -> Option<TypedAvp<T>>
-        requires ready { IsReady self.now.dictionary.now self.now.format.now (seen_all self.now.avps.now) self.now.sorted.now }
+    pub fn perhaps<T: FromAvp>(&self, place: usize, no_memory: &mut bool) -> Option<TypedAvp<T>>
+        requires ready { IsReady self.now.dictionary.now self.now.format.now (seen_all self.now.avps.now)
+            self.now.sorted.now }
         requires held { IsPerhaps self.now.format.now place }
         requires kind { T.has_kind self.now.dictionary.now (entry_at self.now.format.now place).code }
-        ensures { wanting.new ≡ false → (wanting.old ≡ false) × AreTypedOf (T.is_value (known self.now.dictionary.now)) (option_to_list result) (takes self.now.format.now (seen_all self.now.avps.now) place) }
+        ensures { no_memory.new ≡ false → (no_memory.old ≡ false)
+            × AreTypedOf (T.is_value (known self.now.dictionary.now)) (option_to_list result)
+            (takes self.now.format.now (seen_all self.now.avps.now) place) }
     {
         match self.sorted.first(place, self.avps) {
-            Some(avp) => Some(self.value(&avp, wanting)),
+            Some(avp) => Some(self.value(&avp, no_memory)),
             None => None,
         }
     }
 
     /// The value of an entry whose AVP must be there.
-    pub fn one<T: FromAvp>(&self, place: usize, wanting: &mut bool) -> TypedAvp<T>
-        requires ready { IsReady self.now.dictionary.now self.now.format.now (seen_all self.now.avps.now) self.now.sorted.now }
+    pub fn one<T: FromAvp>(&self, place: usize, no_memory: &mut bool) -> TypedAvp<T>
+        requires ready { IsReady self.now.dictionary.now self.now.format.now (seen_all self.now.avps.now)
+            self.now.sorted.now }
         requires held { IsOne self.now.format.now place }
         requires kind { T.has_kind self.now.dictionary.now (entry_at self.now.format.now place).code }
-        ensures { wanting.new ≡ false → (wanting.old ≡ false) × AreTypedOf (T.is_value (known self.now.dictionary.now)) (result ∷ []) (takes self.now.format.now (seen_all self.now.avps.now) place) }
+        ensures { no_memory.new ≡ false → (no_memory.old ≡ false)
+            × AreTypedOf (T.is_value (known self.now.dictionary.now)) (result ∷ [])
+            (takes self.now.format.now (seen_all self.now.avps.now) place) }
     {
         let avp = self.sorted.first(place, self.avps).unwrap();
-        self.value(&avp, wanting)
+        self.value(&avp, no_memory)
     }
 
     // The number that an AVP is, with its flags.
     fn number_value<T: FromNumber>(&self, avp: &AvpView<'_>) -> TypedAvp<T>
-        requires { (code : ℕ) × T.has_kind self.now.dictionary.now code × IsSound self.now.dictionary.now code (seen avp.now) }
+        requires { (code : ℕ) × T.has_kind self.now.dictionary.now code
+            × IsSound self.now.dictionary.now code (seen avp.now) }
         ensures { IsTypedOf (T.is_value (known self.now.dictionary.now)) result (seen avp.now) }
     {
         TypedAvp {
@@ -210,10 +219,12 @@ impl Source<'_> {
 
     /// The number of an entry whose AVP may be there. Takes no memory.
     pub fn perhaps_number<T: FromNumber>(&self, place: usize) -> Option<TypedAvp<T>>
-        requires ready { IsReady self.now.dictionary.now self.now.format.now (seen_all self.now.avps.now) self.now.sorted.now }
+        requires ready { IsReady self.now.dictionary.now self.now.format.now (seen_all self.now.avps.now)
+            self.now.sorted.now }
         requires held { IsPerhaps self.now.format.now place }
         requires kind { T.has_kind self.now.dictionary.now (entry_at self.now.format.now place).code }
-        ensures { AreTypedOf (T.is_value (known self.now.dictionary.now)) (option_to_list result) (takes self.now.format.now (seen_all self.now.avps.now) place) }
+        ensures { AreTypedOf (T.is_value (known self.now.dictionary.now)) (option_to_list result)
+            (takes self.now.format.now (seen_all self.now.avps.now) place) }
     {
         match self.sorted.first(place, self.avps) {
             Some(avp) => Some(self.number_value(&avp)),
@@ -223,28 +234,33 @@ impl Source<'_> {
 
     /// The number of an entry whose AVP must be there. Takes no memory.
     pub fn number<T: FromNumber>(&self, place: usize) -> TypedAvp<T>
-        requires ready { IsReady self.now.dictionary.now self.now.format.now (seen_all self.now.avps.now) self.now.sorted.now }
+        requires ready { IsReady self.now.dictionary.now self.now.format.now (seen_all self.now.avps.now)
+            self.now.sorted.now }
         requires held { IsOne self.now.format.now place }
         requires kind { T.has_kind self.now.dictionary.now (entry_at self.now.format.now place).code }
-        ensures { AreTypedOf (T.is_value (known self.now.dictionary.now)) (result ∷ []) (takes self.now.format.now (seen_all self.now.avps.now) place) }
+        ensures { AreTypedOf (T.is_value (known self.now.dictionary.now)) (result ∷ [])
+            (takes self.now.format.now (seen_all self.now.avps.now) place) }
     {
         self.perhaps_number(place).unwrap()
     }
 
     // The values of an entry of any number of AVPs, each AVP looked at.
-    fn every<T: FromAvp>(&self, place: usize, wanting: &mut bool) -> TypedAvps<T>
-        requires ready { IsReady self.now.dictionary.now self.now.format.now (seen_all self.now.avps.now) self.now.sorted.now }
+    fn every<T: FromAvp>(&self, place: usize, no_memory: &mut bool) -> TypedAvps<T>
+        requires ready { IsReady self.now.dictionary.now self.now.format.now (seen_all self.now.avps.now)
+            self.now.sorted.now }
         requires held { IsSeveral self.now.format.now place }
         requires kind { T.has_kind self.now.dictionary.now (entry_at self.now.format.now place).code }
-        ensures { wanting.new ≡ false → (wanting.old ≡ false) × AreTypedOf (T.is_value (known self.now.dictionary.now)) result (takes self.now.format.now (seen_all self.now.avps.now) place) }
+        ensures { no_memory.new ≡ false → (no_memory.old ≡ false)
+            × AreTypedOf (T.is_value (known self.now.dictionary.now)) result
+            (takes self.now.format.now (seen_all self.now.avps.now) place) }
     {
         let code = self.format[place].code;
         let mut values = TypedAvps::new(self.alloc);
         for avp in self.avps {
             if is_coded(avp, code) {
-                let value = self.value(avp, wanting);
+                let value = self.value(avp, no_memory);
                 if values.push(value).is_err() {
-                    *wanting = true;
+                    *no_memory = true;
                 }
             }
         }
@@ -252,22 +268,27 @@ impl Source<'_> {
     }
 
     /// The values of an entry of any number of AVPs.
-    pub fn all<T: FromAvp>(&self, place: usize, wanting: &mut bool) -> TypedAvps<T>
-        requires ready { IsReady self.now.dictionary.now self.now.format.now (seen_all self.now.avps.now) self.now.sorted.now }
+    pub fn all<T: FromAvp>(&self, place: usize, no_memory: &mut bool) -> TypedAvps<T>
+        requires ready { IsReady self.now.dictionary.now self.now.format.now (seen_all self.now.avps.now)
+            self.now.sorted.now }
         requires held { IsSeveral self.now.format.now place }
         requires kind { T.has_kind self.now.dictionary.now (entry_at self.now.format.now place).code }
-        ensures { wanting.new ≡ false → (wanting.old ≡ false) × AreTypedOf (T.is_value (known self.now.dictionary.now)) result (takes self.now.format.now (seen_all self.now.avps.now) place) }
+        ensures { no_memory.new ≡ false → (no_memory.old ≡ false)
+            × AreTypedOf (T.is_value (known self.now.dictionary.now)) result
+            (takes self.now.format.now (seen_all self.now.avps.now) place) }
     {
         match self.sorted.first(place, self.avps) {
             None => TypedAvps::new(self.alloc),
-            Some(_) => self.every(place, wanting),
+            Some(_) => self.every(place, no_memory),
         }
     }
 
     // The AVPs that no entry takes, each in its canonical encoding.
     fn left(&self) -> Result<AvpList, AllocError>
-        requires ready { IsReady self.now.dictionary.now self.now.format.now (seen_all self.now.avps.now) self.now.sorted.now }
-        ensures { IfOk result (λ list. list ≡ map (canonical (known self.now.dictionary.now) 4) (untaken self.now.format.now (seen_all self.now.avps.now))) }
+        requires ready { IsReady self.now.dictionary.now self.now.format.now (seen_all self.now.avps.now)
+            self.now.sorted.now }
+        ensures { IfOk result (λ list. list ≡ map (canonical (known self.now.dictionary.now) 4)
+            (untaken self.now.format.now (seen_all self.now.avps.now))) }
     {
         let mut rest = AvpList::with_capacity(self.alloc, self.sorted.rest.len())?;
         for place in self.sorted.rest.as_slice() {
@@ -280,14 +301,17 @@ impl Source<'_> {
     }
 
     /// The AVPs that no entry takes, each in its canonical encoding.
-    pub fn rest(&self, wanting: &mut bool) -> AvpList
-        requires ready { IsReady self.now.dictionary.now self.now.format.now (seen_all self.now.avps.now) self.now.sorted.now }
-        ensures { wanting.new ≡ false → (wanting.old ≡ false) × (result ≡ map (canonical (known self.now.dictionary.now) 4) (untaken self.now.format.now (seen_all self.now.avps.now))) }
+    pub fn rest(&self, no_memory: &mut bool) -> AvpList
+        requires ready { IsReady self.now.dictionary.now self.now.format.now (seen_all self.now.avps.now)
+            self.now.sorted.now }
+        ensures { no_memory.new ≡ false → (no_memory.old ≡ false)
+            × (result ≡ map (canonical (known self.now.dictionary.now) 4)
+            (untaken self.now.format.now (seen_all self.now.avps.now))) }
     {
         match self.left() {
             Ok(list) => list,
             Err(_) => {
-                *wanting = true;
+                *no_memory = true;
                 AvpList::new(self.alloc)
             }
         }

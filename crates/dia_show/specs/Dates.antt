@@ -1,10 +1,11 @@
 -- Time as a date and a time of day in UTC (RFC 6733 section 4.3.1).
-use Rattle.std.specs.Prelude.{ℕ, ◌+◌, ◌*◌, ◌-◌, ◌/◌, ◌%◌, ◌^◌, nat_le, nat_lt, List, [], ◌∷◌, ◌++◌, min, codes, decimal, if◌then◌else◌}
+use Rattle.std.specs.Prelude.{ℕ, ◌+◌, ◌*◌, ◌-◌, ◌/◌, ◌%◌, ◌^◌, nat_le, nat_lt, List, [], ◌∷◌, ◌++◌, min}
+use Rattle.std.specs.Prelude.{codes, decimal, if◌then◌else◌}
 use Rattle.std.specs.Option.{option_map_or}
 use Rattle.std.specs.List.{find}
 
--- seconds since 1 January 1900, 0 h: a number without the high bit is counted from 7 February 2036, 06:28:16, when 32 bits begin
--- anew (RFC 5905 section 6), so that numbers are times from 1968 to 2104
+-- seconds since 1 January 1900, 0 h: a number without the high bit is counted from 7 February 2036, 06:28:16, when 32
+-- bits begin anew (RFC 5905 section 6), so that numbers are times from 1968 to 2104
 abbrev pub seconds_of : ℕ → ℕ
 seconds_of number = if nat_lt number (2 ^ 31) then number + 2 ^ 32 else number
 
@@ -35,7 +36,8 @@ day_of_year days = leap_day (year_of_four days) (day_of_four days - year_of_four
 -- the months with the day of a leap year, from 0, on which each begins, the last first
 abbrev pub months : List (ℕ × ℕ)
 months =
-    (12, 335) ∷ (11, 305) ∷ (10, 274) ∷ (9, 244) ∷ (8, 213) ∷ (7, 182) ∷ (6, 152) ∷ (5, 121) ∷ (4, 91) ∷ (3, 60) ∷ (2, 31) ∷ []
+    (12, 335) ∷ (11, 305) ∷ (10, 274) ∷ (9, 244)
+    ∷ (8, 213) ∷ (7, 182) ∷ (6, 152) ∷ (5, 121) ∷ (4, 91) ∷ (3, 60) ∷ (2, 31) ∷ []
 
 -- the last month that has begun by a day of a leap year, and the day on which it began
 unfoldable pub month_at : ℕ → ℕ × ℕ

@@ -1,4 +1,5 @@
--- What messages are read and printed by: the definitions that were added to the dictionary, and names for the numbers of their data.
+-- What messages are read and printed by: the definitions that were added to the dictionary,
+-- and names for the numbers of their data.
 use Rattle.std.specs.Prelude.{ℕ, ◌==◌, ◌&&◌, Bool, List, [], Option, Some, None}
 use Rattle.std.specs.List.{find}
 use Rattle.std.specs.Option.{option_map_or}

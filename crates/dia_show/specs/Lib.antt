@@ -1,3 +1,4 @@
+-- The definitions that the contracts of dia_show speak of.
 pub mod Names
 pub mod Dates
 pub mod Parts

@@ -4,7 +4,8 @@ use Rattle.std.specs.Option.{option_map_or}
 use Rattle.std.specs.List.{find}
 use Rattle.base_codes.specs.CommandCodes.{coded, name_of}
 use Rattle.base_codes.specs.declared.command_code.CommandCode.{CommandCode}
-use Rattle.base_codes.specs.declared.command_code.CommandCode.TheVariants.{CapabilitiesExchange, ReAuth, CreditControl, DeviceWatchdog, DisconnectPeer}
+use Rattle.base_codes.specs.declared.command_code.CommandCode.TheVariants.{CapabilitiesExchange, ReAuth, CreditControl}
+use Rattle.base_codes.specs.declared.command_code.CommandCode.TheVariants.{DeviceWatchdog, DisconnectPeer}
 
 -- what a table has for a number, the empty list where it has nothing
 unfoldable pub entry_in : {X : Type 0} → List (ℕ × List X) → ℕ → List X
@@ -41,7 +42,8 @@ command_letters number = option_map_or letters_of (coded number) (entry_in other
 -- `CCR Credit-Control-Request`
 abbrev pub named_text : List ℕ → List ℕ → Bool → List ℕ
 named_text letters name request =
-    letters ++ (if request then codes "R " else codes "A ") ++ name ++ (if request then codes "-Request" else codes "-Answer")
+    letters ++ (if request then codes "R " else codes "A ")
+    ++ name ++ (if request then codes "-Request" else codes "-Answer")
 
 -- a command's abbreviation and name, by its Command Code and flag R
 abbrev pub command_text : ℕ → Bool → List ℕ

@@ -1,12 +1,15 @@
 -- What an AVP's data says, by its type (RFC 6733 sections 4.2 and 4.3.1).
-use Rattle.std.specs.Prelude.{ℕ, ◌==◌, List, [], ◌∷◌, ◌++◌, length, drop, codes, decimal, Option, None, Some, unwrap_or, if◌then◌else◌}
+use Rattle.std.specs.Prelude.{ℕ, ◌==◌, List, [], ◌∷◌, ◌++◌, length, drop, codes, decimal, Option, None}
+use Rattle.std.specs.Prelude.{Some, unwrap_or, if◌then◌else◌}
 use Rattle.byteorder.specs.Endian.{big_number}
 use Rattle.base_codes.specs.ResultNames.{result_name}
 use Rattle.dia_avp.specs.Field.{is_address}
 use Rattle.std.specs.Net.Text.{ipv4_text, ipv6_text}
 use Rattle.std.specs.Net.Addr.{segments_of}
 use Rattle.dia_dict.specs.declared.definition.AvpKind.{AvpKind}
-use Rattle.dia_dict.specs.declared.definition.AvpKind.TheVariants.{Unsigned32, Unsigned64, Enumerated, Utf8String, DiameterIdentity, Address, Grouped, Time, OctetString}
+use Rattle.dia_dict.specs.declared.definition.AvpKind.TheVariants.{Unsigned32, Unsigned64, Enumerated, Utf8String}
+use Rattle.dia_dict.specs.declared.definition.AvpKind.TheVariants.{DiameterIdentity, Address, Grouped}
+use Rattle.dia_dict.specs.declared.definition.AvpKind.TheVariants.{Time, OctetString}
 use Rattle.dia_dict.specs.declared.definition.Definition.{Definition}
 use Rattle.dia_show.specs.Glossary.{Naming, added_name}
 use Rattle.dia_show.specs.Names.{enumerated_name}
@@ -29,7 +32,8 @@ number_name code number = if code == 268 then result_name number else []
 -- a number of 4 octets in decimal, and its name where it has one
 abbrev pub named_text : (ℕ → List ℕ) → List ℕ → List ℕ
 named_text name octets =
-    if length octets == 4 then decimal (big_number 4 octets) ++ name_behind (name (big_number 4 octets)) else ill_sized octets
+    if length octets == 4 then decimal (big_number 4 octets) ++ name_behind (name (big_number 4 octets))
+    else ill_sized octets
 
 -- an Unsigned64 in decimal
 abbrev pub long_text : List ℕ → List ℕ

@@ -1,6 +1,7 @@
 //! Names of commands.
 ghost use Rattle.std.specs.Prelude.{◌≡◌, ◌++◌, OnOk};
-ghost use Rattle.dia_show.specs.Names.{entry_in, letters_of, other_commands, other_letters, command_name, command_letters, named_text, command_text};
+ghost use Rattle.dia_show.specs.Names.{entry_in, letters_of, other_commands, other_letters, command_name};
+ghost use Rattle.dia_show.specs.Names.{command_letters, named_text, command_text};
 
 use base_codes::CommandCode;
 use std::alloc::AllocError;

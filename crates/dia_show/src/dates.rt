@@ -1,6 +1,7 @@
 //! Time as a date and a time of day.
 ghost use Rattle.std.specs.Prelude.{◌≡◌, ◌<◌, ◌≤◌, ◌+◌, ◌^◌, ◌++◌, OnOk};
-ghost use Rattle.dia_show.specs.Dates.{seconds_of, even_days, year_of_four, year_of, leap_day, day_of_year, month_at, two_digits, date_text, clock_text, utc_text, time_text};
+ghost use Rattle.dia_show.specs.Dates.{seconds_of, even_days, year_of_four, year_of, leap_day, day_of_year, month_at};
+ghost use Rattle.dia_show.specs.Dates.{two_digits, date_text, clock_text, utc_text, time_text};
 
 use base_text::put_number;
 use std::alloc::AllocError;
@@ -113,8 +114,8 @@ fn put_clock(out: &mut Vec<u8>, seconds: u32) -> Result<(), AllocError>
     out.extend_from_slice(b"Z")
 }
 
-/// Puts the date and the time of day in UTC that a Time's number is (RFC 6733 section 4.3.1). A number below 2^31 is one after
-/// 7 February 2036, 06:28:16, up to 2104.
+/// Puts the date and the time of day in UTC that a Time's number is (RFC 6733 section 4.3.1).
+/// A number below 2^31 is one after 7 February 2036, 06:28:16, up to 2104.
 pub fn put_utc(out: &mut Vec<u8>, number: u32) -> Result<(), AllocError>
     ensures { OnOk result (out.new.items ≡ out.old.items ++ utc_text number) }
 {

@@ -1,6 +1,10 @@
 //! Names of the values of Enumerated AVPs (RFC 6733 section 4.3.1).
 ghost use Rattle.std.specs.Prelude.{◌≡◌};
-ghost use Rattle.dia_show.specs.Names.{entry_in, enumerated_name, disconnect_causes, re_auth_request_types, termination_causes, request_types, session_failovers, balance_results, failure_handlings, debiting_failure_handlings, requested_actions, final_unit_actions, subscription_id_types, service_indicators, equipment_info_types};
+ghost use Rattle.dia_show.specs.Names.{entry_in, enumerated_name, disconnect_causes, re_auth_request_types};
+ghost use Rattle.dia_show.specs.Names.{termination_causes, request_types, session_failovers, balance_results};
+ghost use Rattle.dia_show.specs.Names.{failure_handlings, debiting_failure_handlings, requested_actions};
+ghost use Rattle.dia_show.specs.Names.{final_unit_actions, subscription_id_types, service_indicators};
+ghost use Rattle.dia_show.specs.Names.{equipment_info_types};
 
 // RFC 6733 section 5.4.3.
 #[tactic(auto, unfolding(crate::specs::Names::entry_in))]

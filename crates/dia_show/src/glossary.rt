@@ -74,8 +74,8 @@ impl Enumeration {
     }
 }
 
-/// AVP definitions, and names for the numbers of their data. A contract sees a glossary as what was added to the definitions that
-/// every dictionary has.
+/// AVP definitions, and names for the numbers of their data.
+/// A contract sees a glossary as what was added to the definitions that every dictionary has.
 pub struct Glossary {
     definitions: Dictionary,
     enumerations: Vec<Enumeration>,
@@ -110,8 +110,9 @@ impl Glossary {
         })
     }
 
-    /// Adds a definition at the end: an AVP Code, a Vendor-ID, of which 0 counts as none, the AVP's name and its type. Refused
-    /// are, in this order, a code and vendor or a name that has a definition, and one more than 256 definitions.
+    /// Adds a definition at the end: an AVP Code, a Vendor-ID, of which 0 counts as none, the AVP's name
+    /// and its type. Refused are, in this order, a code and vendor or a name that has a definition, and one
+    /// more than 256 definitions.
     pub fn define(
         &mut self,
         code: u32,
@@ -119,7 +120,8 @@ impl Glossary {
         name: &str,
         kind: AvpKind,
     ) -> Result<(), AddError>
-        ensures ok { OnOk result (self.new ≡ record self.old { definitions = self.old.definitions ++ defined code vendor name.now kind ∷ [] }) }
+        ensures ok { OnOk result (self.new
+            ≡ record self.old { definitions = self.old.definitions ++ defined code vendor name.now kind ∷ [] }) }
         ensures free { OnOk result (refusal (known self.old.definitions) code vendor name.now ≡ None) }
         ensures fault { IfErr result (λ e. e ≡ error_of (refusal (known self.old.definitions) code vendor name.now)) }
         ensures err { OnErr result (self.new ≡ self.old) }

@@ -34,8 +34,8 @@ fn put_all_escaped(out: &mut Vec<u8>, octets: &[u8]) -> Result<(), AllocError>
     Ok(())
 }
 
-/// Puts a text in quotes. Quotes and `\` in it stand behind `\`, and an octet that isn't a printable character of ASCII is `\x` and
-/// two digits.
+/// Puts a text in quotes. Quotes and `\` in it stand behind `\`,
+/// and an octet that isn't a printable character of ASCII is `\x` and two digits.
 pub fn put_quoted(out: &mut Vec<u8>, octets: &[u8]) -> Result<(), AllocError>
     ensures { OnOk result (out.new.items ≡ out.old.items ++ quoted octets.now) }
 {
@@ -67,8 +67,8 @@ fn put_ipv6(out: &mut Vec<u8>, address: [u8; 16]) -> Result<(), AllocError>
     out.extend_from_slice(text.as_bytes())
 }
 
-/// Puts an address (RFC 6733 section 4.3.1): IPv4 with dots, IPv6 as RFC 5952 has it, and another family with its number and in
-/// hexadecimal.
+/// Puts an address (RFC 6733 section 4.3.1): IPv4 with dots, IPv6 as RFC 5952 has it,
+/// and another family with its number and in hexadecimal.
 pub fn put_address(out: &mut Vec<u8>, address: &Address<'_>) -> Result<(), AllocError>
     ensures { OnOk result (out.new.items ≡ out.old.items ++ seen_address_text address.now) }
 {

@@ -1,7 +1,8 @@
 //! What an AVP's data says, by its type.
 ghost use Rattle.std.specs.Prelude.{◌≡◌, ◌++◌, ◌<◌, ◌^◌, OnOk};
 ghost use Rattle.std.specs.Option.{option_copied};
-ghost use Rattle.dia_show.specs.Values.{name_behind, ill_sized, number_name, named_text, long_text, moment_text, address_text, typed_text, names_code, standard_name, value_name, value_text};
+ghost use Rattle.dia_show.specs.Values.{name_behind, ill_sized, number_name, named_text, long_text, moment_text};
+ghost use Rattle.dia_show.specs.Values.{address_text, typed_text, names_code, standard_name, value_name, value_text};
 
 use crate::dates::put_time;
 use crate::enumerations::enumerated_name;
@@ -93,8 +94,8 @@ fn standard_name(definition: &Definition, number: u32) -> &'static str
     }
 }
 
-/// The name of a number in the AVP of this definition: that of the standards, or else the one that the glossary has, empty where it
-/// has none.
+/// The name of a number in the AVP of this definition:
+/// that of the standards, or else the one that the glossary has, empty where it has none.
 pub fn value_name<'a>(glossary: &'a Glossary, definition: &Definition, number: u32) -> &'a [u8]
     ensures { result.now ≡ value_name glossary.now.namings definition.now number }
 {
@@ -110,7 +111,8 @@ fn put_named(
     definition: &Definition,
     octets: &[u8],
 ) -> Result<(), AllocError>
-    ensures { OnOk result (out.new.items ≡ out.old.items ++ named_text (value_name glossary.now.namings definition.now) octets.now) }
+    ensures { OnOk result (out.new.items
+        ≡ out.old.items ++ named_text (value_name glossary.now.namings definition.now) octets.now) }
 {
     if octets.len() != 4 {
         return put_ill_sized(out, octets);
@@ -126,7 +128,8 @@ fn put_typed(
     definition: &Definition,
     octets: &[u8],
 ) -> Result<(), AllocError>
-    ensures { OnOk result (out.new.items ≡ out.old.items ++ typed_text (value_name glossary.now.namings definition.now) definition.now.kind octets.now) }
+    ensures { OnOk result (out.new.items
+        ≡ out.old.items ++ typed_text (value_name glossary.now.namings definition.now) definition.now.kind octets.now) }
 {
     match definition.kind {
         AvpKind::Unsigned32 | AvpKind::Enumerated => put_named(out, glossary, definition, octets),
@@ -138,15 +141,17 @@ fn put_typed(
     }
 }
 
-/// Puts what an AVP's data says by its definition: text in quotes, numbers in decimal and with their name where the standards or the
-/// glossary have one, an Address in its usual notation, a Time with its date, and all else, also without a definition, in hexadecimal.
+/// Puts what an AVP's data says by its definition: text in quotes, numbers in decimal and with their name where the
+/// standards or the glossary have one, an Address in its usual notation, a Time with its date, and all else, also
+/// without a definition, in hexadecimal.
 pub fn put_value(
     out: &mut Vec<u8>,
     glossary: &Glossary,
     definition: Option<&Definition>,
     octets: &[u8],
 ) -> Result<(), AllocError>
-    ensures { OnOk result (out.new.items ≡ out.old.items ++ value_text glossary.now.namings (option_copied definition.entry) octets.now) }
+    ensures { OnOk result (out.new.items
+        ≡ out.old.items ++ value_text glossary.now.namings (option_copied definition.entry) octets.now) }
 {
     match definition {
         None => put_octets(out, octets),

@@ -24,17 +24,20 @@ AreEach Is (a ∷ from) list = (b : Avp) × (later : List Avp) × Is a b × AreE
 
 -- the whole AVPs of a group's octets; `Is` says what each is in its canonical encoding
 abbrev pub AreReencoded : (Is : Avp → Avp → Type 0) → List ℕ → List Avp → Type 0
-AreReencoded Is octets list = (from : List Avp) × (left : List ℕ) × AvpsThen octets from left × IsLeftOver left × AreEach Is from list
+AreReencoded Is octets list =
+    (from : List Avp) × (left : List ℕ) × AvpsThen octets from left × IsLeftOver left × AreEach Is from list
 
 -- b is a with the encoding of its AVPs as data where it is a group, and else a itself
 abbrev pub IsCanonicalBy : (Is : Avp → Avp → Type 0) → Bool → Avp → Avp → Type 0
-IsCanonicalBy Is true a b = (list : List Avp) × AreReencoded Is a.octets list × (b ≡ record a { octets = encoding list })
+IsCanonicalBy Is true a b =
+    (list : List Avp) × AreReencoded Is a.octets list × (b ≡ record a { octets = encoding list })
 IsCanonicalBy Is false a b = b ≡ a
 
 -- b is the AVP a with so many levels of groups in their canonical encoding (RFC 6733 section 4.1)
 unfoldable pub IsCanonical : List Definition → ℕ → Avp → Avp → Type 0
 IsCanonical definitions zero a b = b ≡ a
-IsCanonical definitions (suc n) a b = IsCanonicalBy (IsCanonical definitions n) (is_grouped (definition_of definitions a.code a.vendor)) a b
+IsCanonical definitions (suc n) a b =
+    IsCanonicalBy (IsCanonical definitions n) (is_grouped (definition_of definitions a.code a.vendor)) a b
 
 -- the AVPs of a group's octets, each with so many levels of groups in their canonical encoding
 abbrev pub AreCanonical : List Definition → ℕ → List ℕ → List Avp → Type 0

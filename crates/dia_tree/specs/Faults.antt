@@ -1,10 +1,13 @@
--- The faults of AVPs with all that their groups hold, in order of place: `HasMessageFaults` says them of a message's octets.
--- The functions above it are what reading code is proved against.
-use Rattle.std.specs.Prelude.{◌≡◌, ℕ, zero, suc, ◌+◌, Bool, true, false, ◌==◌, ◌&&◌, ◌||◌, nat_lt, nat_le, is_none, if◌then◌else◌, List, [], ◌∷◌, ◌++◌, length, find, slice_index, drop, replicate, Option, None, Some}
+-- The faults of AVPs with all that their groups hold, in order of place: `HasMessageFaults` says them of a message's
+-- octets. The functions above it are what reading code is proved against.
+use Rattle.std.specs.Prelude.{◌≡◌, ℕ, zero, suc, ◌+◌, Bool, true, false, ◌==◌, ◌&&◌, ◌||◌, nat_lt, nat_le, is_none}
+use Rattle.std.specs.Prelude.{if◌then◌else◌, List, [], ◌∷◌, ◌++◌, length, find, slice_index, drop, replicate}
+use Rattle.std.specs.Prelude.{Option, None, Some}
 use Rattle.std.specs.Option.{option_map_or}
 use Rattle.byteorder.specs.Endian.{big_number}
 use Rattle.dia_avp.specs.declared.avp.Avp.{Avp}
 use Rattle.dia_avp.specs.Avps.{has_flag, vendor_of, AvpsThen, IsLeftOver}
+use Rattle.dia_avp.specs.Look.{is_coded}
 use Rattle.dia_avp.specs.Reading.{avps_in}
 use Rattle.dia_dict.specs.declared.definition.AvpKind.{AvpKind}
 use Rattle.dia_dict.specs.declared.definition.Definition.{Definition}
@@ -15,7 +18,8 @@ use Rattle.dia_dict.specs.Dictionary.{definition_of}
 use Rattle.dia_tree.specs.Kind.{is_group, is_grouped}
 use Rattle.dia_tree.specs.declared.fault.MsgFault.{MsgFault}
 use Rattle.base_codes.specs.declared.result_code.ResultCode.{ResultCode}
-use Rattle.base_codes.specs.declared.result_code.ResultCode.TheVariants.{AvpUnsupported, InvalidAvpValue, MissingAvp, UnableToComply, InvalidAvpLength}
+use Rattle.base_codes.specs.declared.result_code.ResultCode.TheVariants.{AvpUnsupported, InvalidAvpValue, MissingAvp}
+use Rattle.base_codes.specs.declared.result_code.ResultCode.TheVariants.{UnableToComply, InvalidAvpLength}
 
 -- a fault of a code, with its failed AVP
 abbrev pub fault : ResultCode → Option Avp → MsgFault
@@ -68,7 +72,8 @@ is_bad_value event code octets =
 
 -- the fault of a value that credit control does not know
 abbrev pub own_faults : Bool → Avp → List MsgFault
-own_faults event a = if is_none a.vendor && is_bad_value event a.code a.octets then fault InvalidAvpValue (Some a) ∷ [] else []
+own_faults event a =
+    if is_none a.vendor && is_bad_value event a.code a.octets then fault InvalidAvpValue (Some a) ∷ [] else []
 
 -- what a fault of the data means for the message; where the type has none, the value counts
 abbrev pub data_faults : Option DictFault → ℕ → Bool → Avp → List MsgFault
@@ -111,11 +116,13 @@ list_faults inside definitions event before (a ∷ list) =
 unfoldable pub group_faults : List Definition → Bool → ℕ → List ℕ → List MsgFault
 group_faults definitions event zero octets = fault UnableToComply None ∷ []
 group_faults definitions event (suc room) octets =
-    list_faults (group_faults definitions event room) definitions event 0 (avps_in octets).0 ++ left_faults definitions (avps_in octets).1
+    list_faults (group_faults definitions event room) definitions event 0 (avps_in octets).0
+    ++ left_faults definitions (avps_in octets).1
 
--- the faults of AVPs at one level, in order of place, where so many stand before them; `Inside` is what faults the octets of a
--- group have
-abbrev pub AreFaults : (Inside : List ℕ → List MsgFault → Type 0) → List Definition → Bool → ℕ → List Avp → List MsgFault → Type 0
+-- the faults of AVPs at one level, in order of place, where so many stand before them; `Inside` is what faults the
+-- octets of a group have
+abbrev pub AreFaults : (Inside : List ℕ → List MsgFault → Type 0)
+    → List Definition → Bool → ℕ → List Avp → List MsgFault → Type 0
 AreFaults Inside definitions event before [] faults = faults ≡ []
 AreFaults Inside definitions event before (a ∷ list) faults =
     (inner : List MsgFault) × (later : List MsgFault)
@@ -123,8 +130,8 @@ AreFaults Inside definitions event before (a ∷ list) faults =
     × AreFaults Inside definitions event (before + 1) list later
     × (faults ≡ place_faults (λ _. inner) definitions event before a ++ later)
 
--- the faults of octets with so many levels open to them: those of their whole AVPs, those inside a group at the group's place,
--- and of what is left; octets in one group too many have that fault alone
+-- the faults of octets with so many levels open to them: those of their whole AVPs, those inside a group at the
+-- group's place, and of what is left; octets in one group too many have that fault alone
 unfoldable pub HasFaults : List Definition → Bool → ℕ → List ℕ → List MsgFault → Type 0
 HasFaults definitions event zero octets faults = faults ≡ fault UnableToComply None ∷ []
 HasFaults definitions event (suc room) octets faults =
@@ -133,21 +140,21 @@ HasFaults definitions event (suc room) octets faults =
     × AreFaults (HasFaults definitions event room) definitions event 0 list own
     × (faults ≡ own ++ left_faults definitions left)
 
--- whether an AVP is of a code of the base protocol or of credit control
-abbrev pub is_coded : ℕ → Avp → Bool
-is_coded code a = (a.code == code) && is_none a.vendor
-
 -- whether the first CC-Request-Type among a message's AVPs is EVENT_REQUEST (RFC 8506 section 8.3)
 abbrev pub has_event_type : List Avp → Bool
-has_event_type list = option_map_or (λ a. (length a.octets == 4) && (big_number 4 a.octets == 4)) (find (is_coded 416) list) false
+has_event_type list =
+    option_map_or (λ a. (length a.octets == 4) && (big_number 4 a.octets == 4)) (find (is_coded 416) list) false
 
 -- whether a message is an EVENT request; `credit` says whether it is a Credit-Control-Request, its AVPs are octets
 abbrev pub IsEvent : Bool → List ℕ → Bool → Type 0
-IsEvent credit octets event = (list : List Avp) × (left : List ℕ) × AvpsThen octets list left × IsLeftOver left × (event ≡ (credit && has_event_type list))
+IsEvent credit octets event =
+    (list : List Avp) × (left : List ℕ)
+    × AvpsThen octets list left × IsLeftOver left × (event ≡ (credit && has_event_type list))
 
 -- the faults of a message's AVPs: five levels are open to them, their own and four levels of groups
 abbrev pub HasMessageFaults : List Definition → Bool → List ℕ → List MsgFault → Type 0
-HasMessageFaults definitions credit octets faults = (event : Bool) × IsEvent credit octets event × HasFaults definitions event 5 octets faults
+HasMessageFaults definitions credit octets faults =
+    (event : Bool) × IsEvent credit octets event × HasFaults definitions event 5 octets faults
 
 -- an AVP that has no fault, with so many levels open to what it holds
 abbrev pub IsGood : List Definition → Bool → ℕ → Avp → Type 0

@@ -2,7 +2,9 @@
 use Rattle.std.specs.Prelude.{Bool, true, false, Option}
 use Rattle.std.specs.Option.{option_map_or}
 use Rattle.dia_dict.specs.declared.definition.AvpKind.{AvpKind}
-use Rattle.dia_dict.specs.declared.definition.AvpKind.TheVariants.{Unsigned32, Unsigned64, Enumerated, Utf8String, DiameterIdentity, Address, Grouped, Time, OctetString}
+use Rattle.dia_dict.specs.declared.definition.AvpKind.TheVariants.{Unsigned32, Unsigned64, Enumerated, Utf8String}
+use Rattle.dia_dict.specs.declared.definition.AvpKind.TheVariants.{DiameterIdentity, Address, Grouped, Time}
+use Rattle.dia_dict.specs.declared.definition.AvpKind.TheVariants.{OctetString}
 use Rattle.dia_dict.specs.declared.definition.Definition.{Definition}
 
 -- whether a type is that of groups

@@ -21,7 +21,8 @@ fn with_octets<'a>(avp: &AvpView<'a>, octets: &'a [u8]) -> AvpView<'a>
 
 // Whether an AVP is a group with levels of groups left for it. Without, it is in its canonical encoding as it is.
 fn is_open(dictionary: &Dictionary, room: u8, avp: &AvpView<'_>) -> bool
-    ensures open { IsTrue result → (0 < room) × (is_grouped_by (definition_of (known dictionary.now) avp.now.code avp.now.vendor) ≡ true) }
+    ensures open { IsTrue result → (0 < room)
+        × (is_grouped_by (definition_of (known dictionary.now) avp.now.code avp.now.vendor) ≡ true) }
     ensures shut { result ≡ false → canonical_form (known dictionary.now) room (seen avp.now) ≡ seen avp.now }
 {
     room > 0 && is_grouped(dictionary, avp)
@@ -35,7 +36,8 @@ fn group_octets(
     octets: &[u8],
 ) -> Result<Octets, AllocError>
     requires { length octets.now + 8 < 2 ^ 24 }
-    ensures { IfOk result (λ o. o ≡ encoding (map (canonical_form (known dictionary.now) room) (avps_in octets.now).0)) }
+    ensures { IfOk result (λ o. o
+        ≡ encoding (map (canonical_form (known dictionary.now) room) (avps_in octets.now).0)) }
 {
     let mut out = Vec::with_capacity(alloc, octets.len().div_ceil(4) * 4)?;
     let mut rest = octets;

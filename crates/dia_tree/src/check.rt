@@ -10,14 +10,15 @@ ghost use Rattle.dia_dict.specs.Dictionary.{known};
 ghost use Rattle.dia_dict.specs.Kind.{least_size, data_fault as fault_of_data};
 ghost use Rattle.dia_tree.specs.declared.fault.MsgFault.{MsgFault as Fault};
 ghost use Rattle.dia_tree.specs.View.{seen_fault, is_event};
-ghost use Rattle.dia_tree.specs.Faults.{fault, is_bad_value as has_bad_value, unknown_faults, own_faults, data_faults, avp_faults, group_faults, HasMessageFaults};
+ghost use Rattle.dia_tree.specs.Faults.{fault, is_bad_value as has_bad_value, unknown_faults, own_faults, data_faults};
+ghost use Rattle.dia_tree.specs.Faults.{avp_faults, group_faults, HasMessageFaults};
 
 use crate::cut::number_at;
 use crate::event::Event;
 use crate::fault::FaultView;
 use crate::kind::is_group;
 use crate::zeros::{broken_fault, zeros};
-use base_codes::ResultCode;
+use base_codes::{ResultCode, avp_code};
 use base_list::FixedList;
 use dia_avp::{AvpView, FieldFault, MAX_AVPS, first_avp};
 use dia_dict::{AvpKind, Dictionary};
@@ -36,9 +37,9 @@ fn is_bad_value(event: &Event<'_>, code: u32, octets: &[u8]) -> bool
     ensures { result ≡ has_bad_value (is_event event.now) code octets.now }
 {
     match code {
-        263 => octets.is_empty() || octets.len() > 255,
-        416 => number_at(octets, 0) == 0 || number_at(octets, 0) > 4,
-        436 => number_at(octets, 0) > 3 && event.is_event(),
+        avp_code::SESSION_ID => octets.is_empty() || octets.len() > 255,
+        avp_code::CC_REQUEST_TYPE => number_at(octets, 0) == 0 || number_at(octets, 0) > 4,
+        avp_code::REQUESTED_ACTION => number_at(octets, 0) > 3 && event.is_event(),
         _ => false,
     }
 }
@@ -55,7 +56,8 @@ fn own_fault<'a>(event: &Event<'_>, avp: &AvpView<'a>) -> Option<FaultView<'a>>
 // What is wrong with the data of an AVP by its type, and then by its value.
 fn data_fault<'a>(kind: AvpKind, event: &Event<'_>, avp: &AvpView<'a>) -> Option<FaultView<'a>>
     ensures { let a = seen avp.now in
-        option_map seen_fault result ≡ slice_get (data_faults (fault_of_data kind a.octets) (least_size kind) (is_event event.now) a) 0 }
+        option_map seen_fault result
+        ≡ slice_get (data_faults (fault_of_data kind a.octets) (least_size kind) (is_event event.now) a) 0 }
 {
     match kind.typed(avp) {
         Ok(_) => own_fault(event, avp),
@@ -85,7 +87,8 @@ fn avp_fault<'a>(
     avp: &AvpView<'a>,
 ) -> Option<FaultView<'a>>
     ensures { let d = known dictionary.now in
-        option_map seen_fault result ≡ slice_get (avp_faults (group_faults d (is_event event.now) room) d (is_event event.now) (seen avp.now)) 0 }
+        option_map seen_fault result
+        ≡ slice_get (avp_faults (group_faults d (is_event event.now) room) d (is_event event.now) (seen avp.now)) 0 }
 {
     match dictionary.find(avp.code, avp.vendor) {
         None => unknown_fault(avp),
@@ -104,7 +107,8 @@ fn fault_in<'a>(
     room: u8,
     octets: &'a [u8],
 ) -> Option<FaultView<'a>>
-    ensures { option_map seen_fault result ≡ slice_get (group_faults (known dictionary.now) (is_event event.now) room octets.now) 0 }
+    ensures { option_map seen_fault result
+        ≡ slice_get (group_faults (known dictionary.now) (is_event event.now) room octets.now) 0 }
 {
     if room == 0 {
         return Some(TOO_MUCH);
@@ -140,7 +144,8 @@ fn listed<'a, const N: usize>(
     avps: &mut FixedList<AvpView<'a>, N>,
 ) -> Result<Option<FaultView<'a>>, NoRoom>
     requires { avps.old ≡ [] }
-    ensures fault { IfOk result (λ found. option_map seen_fault found ≡ slice_get (group_faults (known dictionary.now) (is_event event.now) 5 octets.now) 0) }
+    ensures fault { IfOk result (λ found. option_map seen_fault found
+        ≡ slice_get (group_faults (known dictionary.now) (is_event event.now) 5 octets.now) 0) }
     ensures avps { IfOk result (λ found. found ≡ None → avps_in octets.now ≡ (map seen avps.new, [])) }
     ensures room { OnErr result ((N < 128) × (N < length (avps_in octets.now).0)) }
 {
@@ -166,10 +171,10 @@ fn listed<'a, const N: usize>(
 }
 
 /// The first fault of the AVPs of a message, in order of place, those inside a group before the next AVP's (RFC 6733
-/// section 7.1.5). Where there is none, `avps`, which comes empty, has each of them where it lies; else it has some of them.
-/// `NoRoom` where more AVPs than `N`, of at most 128, were to be listed. `credit` says whether the message is a
-/// Credit-Control-Request: only in one whose first CC-Request-Type is EVENT_REQUEST is Requested-Action looked at (RFC 8506
-/// section 8.41). Takes no memory.
+/// section 7.1.5). Where there is none, `avps`, which comes empty, has each of them where it lies; else it has some of
+/// them. `NoRoom` where more AVPs than `N`, of at most 128, were to be listed. `credit` says whether the message is a
+/// Credit-Control-Request: only in one whose first CC-Request-Type is EVENT_REQUEST is Requested-Action looked at (RFC
+/// 8506 section 8.41). Takes no memory.
 pub fn survey<'a, const N: usize>(
     dictionary: &Dictionary,
     credit: bool,
@@ -177,9 +182,12 @@ pub fn survey<'a, const N: usize>(
     avps: &mut FixedList<AvpView<'a>, N>,
 ) -> Result<Option<FaultView<'a>>, NoRoom>
     requires { avps.old ≡ [] }
-    ensures fault { IfOk result (λ found. (faults : List Fault) × HasMessageFaults (known dictionary.now) credit octets.now faults × (option_map seen_fault found ≡ slice_get faults 0)) }
+    ensures fault { IfOk result (λ found. (faults : List Fault)
+        × HasMessageFaults (known dictionary.now) credit octets.now faults
+        × (option_map seen_fault found ≡ slice_get faults 0)) }
     ensures avps { IfOk result (λ found. found ≡ None → Avps octets.now (map seen avps.new)) }
-    ensures room { OnErr result ((N < 128) × (list : List Avp) × (rest : List ℕ) × AvpsThen octets.now list rest × (N < length list)) }
+    ensures room { OnErr result ((N < 128)
+        × (list : List Avp) × (rest : List ℕ) × AvpsThen octets.now list rest × (N < length list)) }
 {
     listed(dictionary, &Event { credit, octets }, octets, avps)
 }

@@ -7,7 +7,7 @@ ghost use Rattle.dia_tree.specs.Faults.{has_event_type as has_type_4};
 
 use crate::cut::number_at;
 use base_codes::avp_code;
-use dia_avp::first_avp;
+use dia_avp::first_in;
 
 /// The CC-Request-Type of a request that opens no session.
 const EVENT_REQUEST: u32 = 4;
@@ -22,14 +22,10 @@ pub(crate) struct Event<'a> {
 fn has_event_type(octets: &[u8]) -> bool
     ensures { result ≡ has_type_4 (avps_in octets.now).0 }
 {
-    let mut rest = octets;
-    while let Ok((avp, after)) = first_avp(rest) {
-        if avp.code == avp_code::CC_REQUEST_TYPE && avp.vendor.is_none() {
-            return avp.octets.len() == 4 && number_at(avp.octets, 0) == EVENT_REQUEST;
-        }
-        rest = after;
+    match first_in(octets, avp_code::CC_REQUEST_TYPE) {
+        Some(avp) => avp.octets.len() == 4 && number_at(avp.octets, 0) == EVENT_REQUEST,
+        None => false,
     }
-    false
 }
 
 impl Event<'_> {

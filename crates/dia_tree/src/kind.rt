@@ -1,3 +1,4 @@
+//! Which AVPs are groups.
 ghost use Rattle.std.specs.Prelude.{◌≡◌};
 ghost use Rattle.dia_avp.specs.View.{seen};
 ghost use Rattle.dia_dict.specs.Dictionary.{known, definition_of};

@@ -4,7 +4,8 @@ ghost use Rattle.std.specs.Prelude.{◌≡◌, ◌≤◌};
 ghost use Rattle.dia_avp.specs.View.{seen};
 ghost use Rattle.dia_dict.specs.Dictionary.{known};
 ghost use Rattle.dia_tree.specs.View.{seen_fault};
-ghost use Rattle.dia_tree.specs.Faults.{zeros as with_zeros, zeroed as with_least_zeros, broken_fault as fault_of_broken, missing_fault as fault_of_missing};
+ghost use Rattle.dia_tree.specs.Faults.{zeros as with_zeros, zeroed as with_least_zeros};
+ghost use Rattle.dia_tree.specs.Faults.{broken_fault as fault_of_broken, missing_fault as fault_of_missing};
 
 use crate::cut::cut_avp;
 use crate::fault::FaultView;

@@ -18,7 +18,8 @@ made value = record { mandatory = true; protected = false; value = value }
 abbrev pub answer_header : Header → ℕ → Header
 answer_header request code = record {
   length = 0;
-  flags = record { request = false; proxiable = request.flags.proxiable; error = code / 1000 == 3; retransmitted = false };
+  flags =
+      record { request = false; proxiable = request.flags.proxiable; error = code / 1000 == 3; retransmitted = false };
   command = request.command;
   application = request.application;
   hop_by_hop = request.hop_by_hop;
@@ -29,7 +30,8 @@ answer_header request code = record {
 abbrev pub HasLongNames : Identity → Option (List ℕ) → Type 0
 HasLongNames identity session = IsSome session ⊎ (32 < length identity.host) ⊎ (32 < length identity.realm)
 
--- the answer of a node to a request with this header, of this session, for this fault; Failed-AVP holds the AVP's encoding
+-- the answer of a node to a request with this header, of this session, for this fault;
+-- Failed-AVP holds the AVP's encoding
 abbrev pub answer_to : Identity → Header → Option (List ℕ) → MsgFault → Command
 answer_to identity request session fault = ErrorAnswer (record {
   header = answer_header request (number_of fault.result);

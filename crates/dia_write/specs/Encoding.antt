@@ -20,10 +20,11 @@ encode command = header_octets (header_of command) (message_len command) ++ enco
 abbrev pub IsTooLong : Command → Type 0
 IsTooLong command = 2 ^ 24 ≤ message_len command
 
--- What a call answers that appends a command's encoding to octets, `len` of them in so much room: it is appended, or refused
--- where it is too long, or memory is wanting where there is no room for it; an error leaves the octets, and the room
--- stays. What was appended is one message, and the first frame of itself.
-pub record Writes (command : Command) (answer : Result (Unit {0}) WriteError) (old new : List ℕ) (len room room_after : ℕ) : Type 0 where
+-- What a call answers that appends a command's encoding to octets, `len` of them in so much room: it is appended, or
+-- refused where it is too long, or memory is wanting where there is no room for it; an error leaves the octets, and the
+-- room stays. What was appended is one message, and the first frame of itself.
+pub record Writes (command : Command) (answer : Result (Unit {0}) WriteError) (old new : List ℕ)
+    (len room room_after : ℕ) : Type 0 where
   pub ok : OnOk answer (new ≡ old ++ encode command)
   pub too_long : IsErrOf answer LengthOver24Bits ↔ IsTooLong command
   pub err : OnErr answer (new ≡ old)

@@ -24,4 +24,5 @@ values_avps format list = avps_by format (map field_of list)
 
 -- the AVP without vendor of a code and flags that has this data
 abbrev pub avp_with : ℕ → Bool → Bool → List ℕ → Avp
-avp_with code mandatory protected octets = record { code = code; vendor = None; mandatory = mandatory; protected = protected; octets = octets }
+avp_with code mandatory protected octets =
+    record { code = code; vendor = None; mandatory = mandatory; protected = protected; octets = octets }

@@ -82,7 +82,8 @@ fn named(
     identity: &Identity,
     session: Option<&str>,
 ) -> Result<(Option<TypedAvp<Text>>, TypedAvp<Octets>, TypedAvp<Octets>), AllocError>
-    ensures value { IfOk result (λ n. n ≡ (option_map made (option_copied session.entry), made identity.now.host, made identity.now.realm)) }
+    ensures value { IfOk result (λ n. n
+        ≡ (option_map made (option_copied session.entry), made identity.now.host, made identity.now.realm)) }
     ensures memory { OnErr result (HasLongNames identity.now (option_copied session.entry)) }
 {
     let session_id = session_field(alloc, session)?;
@@ -105,7 +106,8 @@ pub fn error_answer(
     ensures answer { IfOk result (λ c. c ≡ answer_to identity.now header.now (option_copied session.entry) fault.now) }
 
     // A failed AVP too long for 24 bits is refused, whatever the memory.
-    ensures too_long { IsErrOf result WriteError.LengthOver24Bits ↔ IsSomeAnd fault.now.failed (λ a. 2 ^ 24 ≤ length_of a) }
+    ensures too_long { IsErrOf result WriteError.LengthOver24Bits
+        ↔ IsSomeAnd fault.now.failed (λ a. 2 ^ 24 ≤ length_of a) }
 
     // No memory is needed without a session and a failed AVP, where the node's names have at most 32 octets each.
     ensures memory { OnErr result (IsSome fault.now.failed ⊎ HasLongNames identity.now (option_copied session.entry)) }

@@ -2,7 +2,8 @@
 
 ghost use Rattle.std.specs.Prelude.{◌≡◌, ◌+◌, ◌<◌, ◌≤◌, ◌^◌, ◌++◌, List, ℕ, length};
 ghost use Rattle.dia_avp.specs.View.{seen};
-ghost use Rattle.dia_avp.specs.Encoding.{length_of, encoded, encoding, header, flags_of, has_vendor, vendor_id, group_avp};
+ghost use Rattle.dia_avp.specs.Encoding.{length_of, encoded, encoding, header, flags_of};
+ghost use Rattle.dia_avp.specs.Encoding.{has_vendor, vendor_id, group_avp};
 ghost use Rattle.dia_write.specs.Filling.{IsFilled};
 
 use base_codes::{AVP_HEADER_LEN, AVP_VENDOR_HEADER_LEN};
@@ -38,7 +39,8 @@ fn header_of(code: u32, flags: u8, len: u32) -> [u8; AVP_HEADER_LEN]
 #[inline(always)]
 pub(crate) fn put(room: &mut [u8], at: usize, octets: &[u8])
     requires { at + length octets.now ≤ length room.old }
-    ensures filled { (front : List ℕ) → IsFilled room.old front at → IsFilled room.new (front ++ octets.now) (at + length octets.now) }
+    ensures filled { (front : List ℕ) → IsFilled room.old front at
+        → IsFilled room.new (front ++ octets.now) (at + length octets.now) }
     ensures len { length room.new ≡ length room.old }
 {
     room[at..at + octets.len()].copy_from_slice(octets);
@@ -48,7 +50,8 @@ pub(crate) fn put(room: &mut [u8], at: usize, octets: &[u8])
 #[inline(always)]
 fn put_vendor(room: &mut [u8], at: usize, vendor: Option<u32>) -> usize
     requires { at + length (vendor_id vendor) ≤ length room.old }
-    ensures filled { (front : List ℕ) → IsFilled room.old front at → IsFilled room.new (front ++ vendor_id vendor) result }
+    ensures filled { (front : List ℕ) → IsFilled room.old front at
+        → IsFilled room.new (front ++ vendor_id vendor) result }
     ensures end { result ≡ at + length (vendor_id vendor) }
     ensures len { length room.new ≡ length room.old }
 {
@@ -82,7 +85,8 @@ fn length_of(avp: &AvpView<'_>) -> usize
 pub(crate) fn put_avp(avp: &AvpView<'_>, room: &mut [u8], at: usize) -> usize
     requires short { length_of (seen avp.now) < 2 ^ 24 }
     requires fits { at + length (encoded (seen avp.now)) ≤ length room.old }
-    ensures filled { (front : List ℕ) → IsFilled room.old front at → IsFilled room.new (front ++ encoded (seen avp.now)) result }
+    ensures filled { (front : List ℕ) → IsFilled room.old front at
+        → IsFilled room.new (front ++ encoded (seen avp.now)) result }
     ensures end { result ≡ at + length (encoded (seen avp.now)) }
     ensures len { length room.new ≡ length room.old }
 {
@@ -98,7 +102,8 @@ pub(crate) fn put_avp(avp: &AvpView<'_>, room: &mut [u8], at: usize) -> usize
 pub(crate) fn put_avps(avps: &[Avp], room: &mut [u8], at: usize) -> usize
     requires short { length (encoding avps.now) < 2 ^ 24 }
     requires fits { at + length (encoding avps.now) ≤ length room.old }
-    ensures filled { (front : List ℕ) → IsFilled room.old front at → IsFilled room.new (front ++ encoding avps.now) result }
+    ensures filled { (front : List ℕ) → IsFilled room.old front at
+        → IsFilled room.new (front ++ encoding avps.now) result }
     ensures end { result ≡ at + length (encoding avps.now) }
     ensures len { length room.new ≡ length room.old }
 {
@@ -120,8 +125,8 @@ fn group_len(list: &AvpList) -> usize
     }
 }
 
-/// Puts the AVP without vendor whose data is AVPs (RFC 6733 section 4.4) at a place, and says where it ends: the AVPs are put, and
-/// then the header in front of them, which has their length.
+/// Puts the AVP without vendor whose data is AVPs (RFC 6733 section 4.4) at a place, and says where it ends:
+/// the AVPs are put, and then the header in front of them, which has their length.
 pub(crate) fn put_group(
     code: u32,
     mandatory: bool,
@@ -132,7 +137,8 @@ pub(crate) fn put_group(
 ) -> usize
     requires short { length_of (group_avp code mandatory protected list.now) < 2 ^ 24 }
     requires fits { at + length (encoded (group_avp code mandatory protected list.now)) ≤ length room.old }
-    ensures filled { (front : List ℕ) → IsFilled room.old front at → IsFilled room.new (front ++ encoded (group_avp code mandatory protected list.now)) result }
+    ensures filled { (front : List ℕ) → IsFilled room.old front at
+        → IsFilled room.new (front ++ encoded (group_avp code mandatory protected list.now)) result }
     ensures end { result ≡ at + length (encoded (group_avp code mandatory protected list.now)) }
     ensures len { length room.new ≡ length room.old }
 {

@@ -1,4 +1,5 @@
-//! What stands at one place of a command, as values that lie in it, and how the AVPs that they are are measured and written.
+//! What stands at one place of a command, as values that lie in it,
+//! and how the AVPs that they are are measured and written.
 
 ghost use Rattle.std.specs.Prelude.{◌≡◌, ◌+◌, ◌<◌, ◌≤◌, ◌^◌, ◌++◌, ℕ, List, length};
 ghost use Rattle.std.specs.Option.{SomeIff};
@@ -62,7 +63,8 @@ fn put_number(
 ) -> usize
     requires short { length_of (avp_with code mandatory protected (big_bytes 4 number)) < 2 ^ 24 }
     requires fits { at + length (encoded (avp_with code mandatory protected (big_bytes 4 number))) ≤ length room.old }
-    ensures filled { (front : List ℕ) → IsFilled room.old front at → IsFilled room.new (front ++ encoded (avp_with code mandatory protected (big_bytes 4 number))) result }
+    ensures filled { (front : List ℕ) → IsFilled room.old front at
+        → IsFilled room.new (front ++ encoded (avp_with code mandatory protected (big_bytes 4 number))) result }
     ensures end { result ≡ at + length (encoded (avp_with code mandatory protected (big_bytes 4 number))) }
     ensures len { length room.new ≡ length room.old }
 {
@@ -84,7 +86,8 @@ pub(crate) trait Content {
     fn put(&self, code: u32, mandatory: bool, protected: bool, room: &mut [u8], at: usize) -> usize
         requires short { length_of (avp_with code mandatory protected (data_of self.now)) < 2 ^ 24 }
         requires fits { at + length (encoded (avp_with code mandatory protected (data_of self.now))) ≤ length room.old }
-        ensures filled { (front : List ℕ) → IsFilled room.old front at → IsFilled room.new (front ++ encoded (avp_with code mandatory protected (data_of self.now))) result }
+        ensures filled { (front : List ℕ) → IsFilled room.old front at
+            → IsFilled room.new (front ++ encoded (avp_with code mandatory protected (data_of self.now))) result }
         ensures end { result ≡ at + length (encoded (avp_with code mandatory protected (data_of self.now))) }
         ensures len { length room.new ≡ length room.old };
 }

@@ -1,6 +1,7 @@
 //! The encoding of a command: how long it is, and its octets.
 
-ghost use Rattle.std.specs.Prelude.{◌≡◌, ◌+◌, ◌<◌, ◌≤◌, ◌^◌, ◌↔◌, ◌++◌, List, ℕ, length, map, replicate, vec_len, vec_capacity, OnOk, OnErr, IsErrOf};
+ghost use Rattle.std.specs.Prelude.{◌≡◌, ◌+◌, ◌<◌, ◌≤◌, ◌^◌, ◌↔◌, ◌++◌, List, ℕ, length, map, replicate, vec_len};
+ghost use Rattle.std.specs.Prelude.{vec_capacity, OnOk, OnErr, IsErrOf};
 ghost use Rattle.std.specs.Option.{SomeIff};
 ghost use Rattle.dia_avp.specs.Encoding.{encoded, encoding};
 ghost use Rattle.dia_command.specs.Header.{header_octets};
@@ -36,7 +37,8 @@ fn with_value<T: Content>(start: usize, code: u32, avp: &TypedAvp<T>) -> Option<
 // A length and the octets of the AVPs of values of one type, where 24 bits hold their sum.
 fn with_each<T: Content>(start: usize, code: u32, list: &[TypedAvp<T>]) -> Option<usize>
     requires { start < 2 ^ 24 }
-    ensures { let len = start + length (encoding (map (avp_of T.data_of code) list.now)) in SomeIff result (len < 2 ^ 24) len }
+    ensures { let len = start + length (encoding (map (avp_of T.data_of code) list.now)) in
+        SomeIff result (len < 2 ^ 24) len }
 {
     let mut len = start;
     for avp in list {
@@ -63,7 +65,8 @@ fn with_values(start: usize, code: u32, values: &Values<'_>) -> Option<usize>
 // A length and the octets of fields, where 24 bits hold their sum.
 fn with_fields(start: usize, format: &[AvpFormat], fields: &[Values<'_>]) -> Option<usize>
     requires { start < 2 ^ 24 }
-    ensures { let len = start + length (encoding (values_avps format.now fields.now)) in SomeIff result (len < 2 ^ 24) len }
+    ensures { let len = start + length (encoding (values_avps format.now fields.now)) in
+        SomeIff result (len < 2 ^ 24) len }
 {
     let mut len = start;
     let mut format = format;
@@ -78,7 +81,8 @@ fn with_fields(start: usize, format: &[AvpFormat], fields: &[Values<'_>]) -> Opt
 
 // How many octets a message of these fields and this rest has, where 24 bits hold the number.
 fn length_of(format: &[AvpFormat], fields: &[Values<'_>], rest: &AvpList) -> Option<usize>
-    ensures { let len = 20 + length (encoding (values_avps format.now fields.now ++ rest.now)) in SomeIff result (len < 2 ^ 24) len }
+    ensures { let len = 20 + length (encoding (values_avps format.now fields.now ++ rest.now)) in
+        SomeIff result (len < 2 ^ 24) len }
 {
     let len = with_fields(HEADER_LEN, format, fields)?;
     total(len, rest.encoded_len()?)
@@ -88,7 +92,8 @@ fn length_of(format: &[AvpFormat], fields: &[Values<'_>], rest: &AvpList) -> Opt
 fn put_each<T: Content>(code: u32, list: &[TypedAvp<T>], room: &mut [u8], at: usize) -> usize
     requires short { length (encoding (map (avp_of T.data_of code) list.now)) < 2 ^ 24 }
     requires fits { at + length (encoding (map (avp_of T.data_of code) list.now)) ≤ length room.old }
-    ensures filled { (front : List ℕ) → IsFilled room.old front at → IsFilled room.new (front ++ encoding (map (avp_of T.data_of code) list.now)) result }
+    ensures filled { (front : List ℕ) → IsFilled room.old front at
+        → IsFilled room.new (front ++ encoding (map (avp_of T.data_of code) list.now)) result }
     ensures end { result ≡ at + length (encoding (map (avp_of T.data_of code) list.now)) }
     ensures len { length room.new ≡ length room.old }
 {
@@ -103,7 +108,8 @@ fn put_each<T: Content>(code: u32, list: &[TypedAvp<T>], room: &mut [u8], at: us
 fn put_values(code: u32, values: &Values<'_>, room: &mut [u8], at: usize) -> usize
     requires short { length (encoding (value_avps code values.now)) < 2 ^ 24 }
     requires fits { at + length (encoding (value_avps code values.now)) ≤ length room.old }
-    ensures filled { (front : List ℕ) → IsFilled room.old front at → IsFilled room.new (front ++ encoding (value_avps code values.now)) result }
+    ensures filled { (front : List ℕ) → IsFilled room.old front at
+        → IsFilled room.new (front ++ encoding (value_avps code values.now)) result }
     ensures end { result ≡ at + length (encoding (value_avps code values.now)) }
     ensures len { length room.new ≡ length room.old }
 {
@@ -121,7 +127,8 @@ fn put_values(code: u32, values: &Values<'_>, room: &mut [u8], at: usize) -> usi
 fn put_fields(format: &[AvpFormat], fields: &[Values<'_>], room: &mut [u8], at: usize) -> usize
     requires short { length (encoding (values_avps format.now fields.now)) < 2 ^ 24 }
     requires fits { at + length (encoding (values_avps format.now fields.now)) ≤ length room.old }
-    ensures filled { (front : List ℕ) → IsFilled room.old front at → IsFilled room.new (front ++ encoding (values_avps format.now fields.now)) result }
+    ensures filled { (front : List ℕ) → IsFilled room.old front at
+        → IsFilled room.new (front ++ encoding (values_avps format.now fields.now)) result }
     ensures end { result ≡ at + length (encoding (values_avps format.now fields.now)) }
     ensures len { length room.new ≡ length room.old }
 {
@@ -145,7 +152,8 @@ fn put_all(
     requires short { length room.old < 2 ^ 24 }
     requires len { length room.old ≡ 20 + length (encoding (values_avps format.now fields.now ++ rest.now)) }
     requires zeros { room.old ≡ replicate (length room.old) 0 }
-    ensures { room.new ≡ header_octets header.now (length room.old) ++ encoding (values_avps format.now fields.now ++ rest.now) }
+    ensures { room.new ≡ header_octets header.now (length room.old)
+        ++ encoding (values_avps format.now fields.now ++ rest.now) }
 {
     let len = room.len();
     put(room, 0, &header.octets(len as u32));
@@ -160,7 +168,8 @@ fn write_fields(
     out: &mut Vec<u8>,
 ) -> Result<(), WriteError>
     requires { map field_of values.now ≡ fields command.now }
-    ensures { Writes command.now result out.old.items out.new.items (vec_len out.old) (vec_capacity out.old) (vec_capacity out.new) }
+    ensures { Writes command.now result out.old.items out.new.items (vec_len out.old) (vec_capacity out.old)
+        (vec_capacity out.new) }
 {
     let format = format_of(command.kind(), false);
     let Some(len) = length_of(format, values, command.rest()) else {
@@ -283,8 +292,8 @@ fn error_answer_fields(c: &ErrorAnswer) -> [Values<'_>; 5]
     ]
 }
 
-// A command of each kind, written by a function of its own: the room of a list of values is made, and cleared, only where it is
-// used.
+// A command of each kind, written by a function of its own:
+// the room of a list of values is made, and cleared, only where it is used.
 #[inline(never)]
 fn write_capabilities_exchange_request(
     command: &Command,
@@ -292,7 +301,8 @@ fn write_capabilities_exchange_request(
     out: &mut Vec<u8>,
 ) -> Result<(), WriteError>
     requires { command.now ≡ Command.Cer c.now }
-    ensures { Writes command.now result out.old.items out.new.items (vec_len out.old) (vec_capacity out.old) (vec_capacity out.new) }
+    ensures { Writes command.now result out.old.items out.new.items (vec_len out.old) (vec_capacity out.old)
+        (vec_capacity out.new) }
 {
     write_fields(command, &capabilities_exchange_request_fields(c), out)
 }
@@ -304,7 +314,8 @@ fn write_capabilities_exchange_answer(
     out: &mut Vec<u8>,
 ) -> Result<(), WriteError>
     requires { command.now ≡ Command.Cea c.now }
-    ensures { Writes command.now result out.old.items out.new.items (vec_len out.old) (vec_capacity out.old) (vec_capacity out.new) }
+    ensures { Writes command.now result out.old.items out.new.items (vec_len out.old) (vec_capacity out.old)
+        (vec_capacity out.new) }
 {
     write_fields(command, &capabilities_exchange_answer_fields(c), out)
 }
@@ -316,7 +327,8 @@ fn write_device_watchdog_request(
     out: &mut Vec<u8>,
 ) -> Result<(), WriteError>
     requires { command.now ≡ Command.Dwr c.now }
-    ensures { Writes command.now result out.old.items out.new.items (vec_len out.old) (vec_capacity out.old) (vec_capacity out.new) }
+    ensures { Writes command.now result out.old.items out.new.items (vec_len out.old) (vec_capacity out.old)
+        (vec_capacity out.new) }
 {
     write_fields(command, &device_watchdog_request_fields(c), out)
 }
@@ -328,7 +340,8 @@ fn write_device_watchdog_answer(
     out: &mut Vec<u8>,
 ) -> Result<(), WriteError>
     requires { command.now ≡ Command.Dwa c.now }
-    ensures { Writes command.now result out.old.items out.new.items (vec_len out.old) (vec_capacity out.old) (vec_capacity out.new) }
+    ensures { Writes command.now result out.old.items out.new.items (vec_len out.old) (vec_capacity out.old)
+        (vec_capacity out.new) }
 {
     write_fields(command, &device_watchdog_answer_fields(c), out)
 }
@@ -340,7 +353,8 @@ fn write_disconnect_peer_request(
     out: &mut Vec<u8>,
 ) -> Result<(), WriteError>
     requires { command.now ≡ Command.Dpr c.now }
-    ensures { Writes command.now result out.old.items out.new.items (vec_len out.old) (vec_capacity out.old) (vec_capacity out.new) }
+    ensures { Writes command.now result out.old.items out.new.items (vec_len out.old) (vec_capacity out.old)
+        (vec_capacity out.new) }
 {
     write_fields(command, &disconnect_peer_request_fields(c), out)
 }
@@ -352,7 +366,8 @@ fn write_disconnect_peer_answer(
     out: &mut Vec<u8>,
 ) -> Result<(), WriteError>
     requires { command.now ≡ Command.Dpa c.now }
-    ensures { Writes command.now result out.old.items out.new.items (vec_len out.old) (vec_capacity out.old) (vec_capacity out.new) }
+    ensures { Writes command.now result out.old.items out.new.items (vec_len out.old) (vec_capacity out.old)
+        (vec_capacity out.new) }
 {
     write_fields(command, &disconnect_peer_answer_fields(c), out)
 }
@@ -364,7 +379,8 @@ fn write_re_auth_request(
     out: &mut Vec<u8>,
 ) -> Result<(), WriteError>
     requires { command.now ≡ Command.Rar c.now }
-    ensures { Writes command.now result out.old.items out.new.items (vec_len out.old) (vec_capacity out.old) (vec_capacity out.new) }
+    ensures { Writes command.now result out.old.items out.new.items (vec_len out.old) (vec_capacity out.old)
+        (vec_capacity out.new) }
 {
     write_fields(command, &re_auth_request_fields(c), out)
 }
@@ -376,7 +392,8 @@ fn write_re_auth_answer(
     out: &mut Vec<u8>,
 ) -> Result<(), WriteError>
     requires { command.now ≡ Command.Raa c.now }
-    ensures { Writes command.now result out.old.items out.new.items (vec_len out.old) (vec_capacity out.old) (vec_capacity out.new) }
+    ensures { Writes command.now result out.old.items out.new.items (vec_len out.old) (vec_capacity out.old)
+        (vec_capacity out.new) }
 {
     write_fields(command, &re_auth_answer_fields(c), out)
 }
@@ -388,7 +405,8 @@ fn write_credit_control_request(
     out: &mut Vec<u8>,
 ) -> Result<(), WriteError>
     requires { command.now ≡ Command.Ccr c.now }
-    ensures { Writes command.now result out.old.items out.new.items (vec_len out.old) (vec_capacity out.old) (vec_capacity out.new) }
+    ensures { Writes command.now result out.old.items out.new.items (vec_len out.old) (vec_capacity out.old)
+        (vec_capacity out.new) }
 {
     write_fields(command, &credit_control_request_fields(c), out)
 }
@@ -400,7 +418,8 @@ fn write_credit_control_answer(
     out: &mut Vec<u8>,
 ) -> Result<(), WriteError>
     requires { command.now ≡ Command.Cca c.now }
-    ensures { Writes command.now result out.old.items out.new.items (vec_len out.old) (vec_capacity out.old) (vec_capacity out.new) }
+    ensures { Writes command.now result out.old.items out.new.items (vec_len out.old) (vec_capacity out.old)
+        (vec_capacity out.new) }
 {
     write_fields(command, &credit_control_answer_fields(c), out)
 }
@@ -412,14 +431,16 @@ fn write_error_answer(
     out: &mut Vec<u8>,
 ) -> Result<(), WriteError>
     requires { command.now ≡ Command.ErrorAnswer c.now }
-    ensures { Writes command.now result out.old.items out.new.items (vec_len out.old) (vec_capacity out.old) (vec_capacity out.new) }
+    ensures { Writes command.now result out.old.items out.new.items (vec_len out.old) (vec_capacity out.old)
+        (vec_capacity out.new) }
 {
     write_fields(command, &error_answer_fields(c), out)
 }
 
 // Appends a command, its fields in the order of its format.
 fn write_command(command: &Command, out: &mut Vec<u8>) -> Result<(), WriteError>
-    ensures { Writes command.now result out.old.items out.new.items (vec_len out.old) (vec_capacity out.old) (vec_capacity out.new) }
+    ensures { Writes command.now result out.old.items out.new.items (vec_len out.old) (vec_capacity out.old)
+        (vec_capacity out.new) }
 {
     match command {
         Command::Cer(c) => write_capabilities_exchange_request(command, c, out),
@@ -436,8 +457,9 @@ fn write_command(command: &Command, out: &mut Vec<u8>) -> Result<(), WriteError>
     }
 }
 
-/// Appends the canonical encoding of a command (RFC 6733 sections 3 and 4): the AVPs of its fields in the order of its format,
-/// then `rest`. Reserved bits and padding are zero, and the length is computed. `out` grows by its own allocator, once.
+/// Appends the canonical encoding of a command (RFC 6733 sections 3 and 4): the AVPs of its fields in the
+/// order of its format, then `rest`. Reserved bits and padding are zero, and the length is computed. `out`
+/// grows by its own allocator, once.
 pub fn write_message(command: &Command, out: &mut Vec<u8>) -> Result<(), WriteError>
     ensures ok { OnOk result (out.new.items ≡ out.old.items ++ encode command.now) }
 
@@ -446,7 +468,8 @@ pub fn write_message(command: &Command, out: &mut Vec<u8>) -> Result<(), WriteEr
     ensures err { OnErr result (out.new.items ≡ out.old.items) }
 
     // Memory is wanting only where there is no room for it, and the room stays.
-    ensures memory { IsErrOf result WriteError.NoMemory → vec_capacity out.old < vec_len out.old + message_len command.now }
+    ensures memory { IsErrOf result WriteError.NoMemory
+        → vec_capacity out.old < vec_len out.old + message_len command.now }
     ensures room { vec_capacity out.old ≤ vec_capacity out.new }
 
     // What was written is one message by its own header.

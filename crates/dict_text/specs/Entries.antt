@@ -1,5 +1,6 @@
 -- What a line of a dictionary says: `CODE[/VENDOR] NAME KIND [VALUE=NAME ..]`, a `#` and all behind it left out.
-use Rattle.std.specs.Prelude.{ℕ, ◌&&◌, not, Bool, false, List, [], ◌∷◌, ◌++◌, Option, Some, None, Result, Ok, Err, if◌then◌else◌}
+use Rattle.std.specs.Prelude.{ℕ, ◌&&◌, not, Bool, false, List, [], ◌∷◌, ◌++◌, Option, Some, None, Result}
+use Rattle.std.specs.Prelude.{Ok, Err, if◌then◌else◌}
 use Rattle.std.specs.Str.{is_utf8}
 use Rattle.text_parts.specs.Lines.{is_plain}
 use Rattle.dia_dict.specs.declared.definition.AvpKind.{AvpKind}
@@ -24,9 +25,11 @@ abbrev pub is_name : List ℕ → Bool
 is_name word = is_plain word && is_utf8 word
 
 -- of a code and vendor and a name: the type, and then the names
-abbrev pub with_kind : ℕ × Option ℕ → List ℕ → Option AvpKind → List ℕ → List (List ℕ) → Result (Head × List (List ℕ)) Wrong
+abbrev pub with_kind : ℕ × Option ℕ → List ℕ
+    → Option AvpKind → List ℕ → List (List ℕ) → Result (Head × List (List ℕ)) Wrong
 with_kind code name None word rest = Err (record { want = wants.Kind; word = word })
-with_kind code name (Some kind) word rest = Ok (record { code = code.0; vendor = code.1; name = name; kind = kind }, rest)
+with_kind code name (Some kind) word rest =
+    Ok (record { code = code.0; vendor = code.1; name = name; kind = kind }, rest)
 
 abbrev pub kind_next : ℕ × Option ℕ → List ℕ → List (List ℕ) → Result (Head × List (List ℕ)) Wrong
 kind_next code name [] = Err (record { want = wants.Kind; word = [] })
@@ -35,7 +38,8 @@ kind_next code name (word ∷ rest) = with_kind code name (kind_named word) word
 -- of a code and vendor: the name
 abbrev pub name_next : ℕ × Option ℕ → List (List ℕ) → Result (Head × List (List ℕ)) Wrong
 name_next code [] = Err (record { want = wants.Name; word = [] })
-name_next code (word ∷ rest) = if is_name word then kind_next code word rest else Err (record { want = wants.Name; word = word })
+name_next code (word ∷ rest) =
+    if is_name word then kind_next code word rest else Err (record { want = wants.Name; word = word })
 
 abbrev pub code_first : Option (ℕ × Option ℕ) → List ℕ → List (List ℕ) → Result (Head × List (List ℕ)) Wrong
 code_first None word rest = Err (record { want = wants.Code; word = word })
@@ -58,7 +62,8 @@ one_more before (Some named) = before ++ named ∷ []
 abbrev pub names_behind : List (ℕ × List ℕ) → List (List ℕ) → Result (List (ℕ × List ℕ)) Wrong
 names_behind before [] = Ok before
 names_behind before (word ∷ words) =
-    if is_new before (name_in word) then names_behind (one_more before (name_in word)) words else Err (record { want = wants.Value; word = word })
+    if is_new before (name_in word) then names_behind (one_more before (name_in word)) words
+    else Err (record { want = wants.Value; word = word })
 
 -- the names of a type's numbers: of a type without names no word is one
 abbrev pub no_names : List (List ℕ) → Result (List (ℕ × List ℕ)) Wrong

@@ -1,3 +1,4 @@
+-- The definitions that the contracts of dict_text speak of.
 pub mod Words
 pub mod Wrong
 pub mod Entries

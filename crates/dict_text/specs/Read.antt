@@ -29,7 +29,8 @@ with_namings g h (named ∷ names) = record g { namings = g.namings ++ naming h 
 
 -- what was wanted where an AVP may not be added to a glossary
 abbrev pub refused_want : Meanings → Head → AddFault → Want
-refused_want g h Taken = if is_some (definition_of (known g.definitions) h.code h.vendor) then wants.NewCode else wants.NewName
+refused_want g h Taken =
+    if is_some (definition_of (known g.definitions) h.code h.vendor) then wants.NewCode else wants.NewName
 refused_want g h Full = wants.Room
 
 -- a glossary with one AVP more and the names of its numbers, unless it may not be added

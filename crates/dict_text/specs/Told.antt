@@ -22,4 +22,5 @@ word_text (c ∷ word) = codes ": " ++ quoted (take 40 (c ∷ word))
 
 -- `dictionary line N`, the word that is wrong, and what was wanted in its place
 unfoldable pub wrong_text : WrongAt → List ℕ
-wrong_text w = codes "dictionary line " ++ decimal w.number ++ word_text w.word ++ codes "\n  wanted: " ++ wanted_of w.want ++ codes "\n"
+wrong_text w = codes "dictionary line " ++ decimal w.number
+    ++ word_text w.word ++ codes "\n  wanted: " ++ wanted_of w.want ++ codes "\n"

@@ -1,12 +1,15 @@
 -- What the words of a line of a dictionary are.
-use Rattle.std.specs.Prelude.{ℕ, ◌^◌, ◌==◌, nat_lt, Bool, true, false, List, [], ◌∷◌, Option, Some, None, codes, option_map, if◌then◌else◌}
+use Rattle.std.specs.Prelude.{ℕ, ◌^◌, ◌==◌, nat_lt, Bool, true, false, List, [], ◌∷◌, Option, Some, None}
+use Rattle.std.specs.Prelude.{codes, option_map, if◌then◌else◌}
 use Rattle.std.specs.List.{slice_split, list_any}
 use Rattle.std.specs.Str.{bytes_eq}
 use Rattle.base_text.specs.Numbers.{number_of}
 use Rattle.text_parts.specs.Lines.{is_comment, is_plain}
 use Rattle.text_parts.specs.Words.{Word}
 use Rattle.dia_dict.specs.declared.definition.AvpKind.{AvpKind}
-use Rattle.dia_dict.specs.declared.definition.AvpKind.TheVariants.{Unsigned32, Unsigned64, Enumerated, Utf8String, DiameterIdentity, Address, Grouped, Time, OctetString}
+use Rattle.dia_dict.specs.declared.definition.AvpKind.TheVariants.{Unsigned32, Unsigned64, Enumerated, Utf8String}
+use Rattle.dia_dict.specs.declared.definition.AvpKind.TheVariants.{DiameterIdentity, Address, Grouped}
+use Rattle.dia_dict.specs.declared.definition.AvpKind.TheVariants.{Time, OctetString}
 
 -- the words in front of a comment, which begins with the first word that begins with `#`
 abbrev pub said : List Word → List (List ℕ)

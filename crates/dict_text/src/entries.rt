@@ -1,7 +1,8 @@
 //! What a line says, or the first of its words that is wrong.
 ghost use Rattle.std.specs.Prelude.{◌≡◌, ◌∷◌, ◌++◌, [], ℕ, List, Ok, false, true, MatchOption, IfOk, IfErr, OnOk};
 ghost use Rattle.text_parts.specs.Pieces.{words_left};
-ghost use Rattle.dict_text.specs.Entries.{entry_of, head_of, is_name, kind_next, name_next, names_behind, names_of, no_names};
+ghost use Rattle.dict_text.specs.Entries.{entry_of, head_of, is_name, kind_next, name_next};
+ghost use Rattle.dict_text.specs.Entries.{names_behind, names_of, no_names};
 ghost use Rattle.dict_text.specs.Seen.{seen_entry, seen_read};
 ghost use Rattle.dict_text.specs.Words.{said};
 ghost use Rattle.dict_text.specs.Wrong.{IsWrong};
@@ -31,7 +32,8 @@ pub(crate) struct Entry<'a> {
 
 /// A name is text of printable characters.
 fn text_of(word: &[u8]) -> Option<&str>
-    ensures { MatchOption result (is_name word.now ≡ false) (λ text. (text.now ≡ word.now) × (is_name word.now ≡ true)) }
+    ensures { MatchOption result (is_name word.now ≡ false) (λ text. (text.now ≡ word.now)
+        × (is_name word.now ≡ true)) }
 {
     if !is_plain(word) {
         return None;

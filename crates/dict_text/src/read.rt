@@ -1,6 +1,7 @@
 //! The glossary of a text, or its first wrong line.
 ghost use Rattle.std.specs.Prelude.{◌≡◌, [], Ok, IfOk, IfErr, OnOk, OnErr};
-ghost use Rattle.dict_text.specs.Read.{IsRefused, added, glossary_of, line_added, refusal_of, refused_want, with_namings};
+ghost use Rattle.dict_text.specs.Read.{IsRefused, added, glossary_of, line_added};
+ghost use Rattle.dict_text.specs.Read.{refusal_of, refused_want, with_namings};
 ghost use Rattle.dict_text.specs.Seen.{seen_entry, seen_head};
 ghost use Rattle.dict_text.specs.Wrong.{IsWrong};
 
@@ -64,8 +65,10 @@ fn refused_want(glossary: &Glossary, head: &Head<'_>, fault: AddFault) -> Want
 }
 
 fn add_entry<'a>(glossary: &mut Glossary, entry: Entry<'a>) -> Result<(), LineError<'a>>
-    ensures ok { OnOk result (added glossary.old (seen_entry entry.entry) (refusal_of glossary.old (seen_entry entry.entry)) ≡ Ok glossary.new) }
-    ensures err { IfErr result (IsWrong (added glossary.old (seen_entry entry.entry) (refusal_of glossary.old (seen_entry entry.entry)))) }
+    ensures ok { OnOk result (added glossary.old (seen_entry entry.entry)
+        (refusal_of glossary.old (seen_entry entry.entry)) ≡ Ok glossary.new) }
+    ensures err { IfErr result
+        (IsWrong (added glossary.old (seen_entry entry.entry) (refusal_of glossary.old (seen_entry entry.entry)))) }
 {
     let Entry { head, names } = entry;
     match glossary.define(head.code, head.vendor, head.name, head.kind) {
@@ -96,8 +99,8 @@ fn add_line<'a>(alloc: Global, glossary: &mut Glossary, line: &'a [u8]) -> Resul
     }
 }
 
-/// The glossary of a text whose lines are `CODE[/VENDOR] NAME KIND [VALUE=NAME ..]`, or its first wrong line. A word that begins with
-/// `#` begins a comment, and a line without words adds nothing.
+/// The glossary of a text whose lines are `CODE[/VENDOR] NAME KIND [VALUE=NAME ..]`, or its first wrong line.
+/// A word that begins with `#` begins a comment, and a line without words adds nothing.
 pub fn read_dictionary<'a>(alloc: Global, text: &'a [u8]) -> Result<Glossary, DictError<'a>>
     ensures read { IfOk result (λ glossary. glossary_of text.now ≡ Ok glossary) }
     ensures err { IfErr result (IsRefused (glossary_of text.now)) }

@@ -22,7 +22,8 @@ fn wanted(want: Want) -> &'static [u8]
         }
         Want::Name => b"a NAME behind the code, of printable characters",
         Want::Kind => {
-            b"a KIND behind the name: Unsigned32, Unsigned64, Enumerated, UTF8String, DiameterIdentity, Address, Grouped, Time or OctetString"
+            b"a KIND behind the name: Unsigned32, Unsigned64, Enumerated, UTF8String, DiameterIdentity, Address, \
+                Grouped, Time or OctetString"
         }
         Want::Value => {
             b"VALUE=NAME, each VALUE once and below 2^32, behind Enumerated and Unsigned32 alone"

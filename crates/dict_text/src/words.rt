@@ -3,7 +3,8 @@ ghost use Rattle.std.specs.Prelude.{◌≡◌, ◌==◌, ◌∷◌, [], None, Ma
 ghost use Rattle.std.specs.List.{slice_split};
 ghost use Rattle.text_parts.specs.Lines.{is_comment};
 ghost use Rattle.text_parts.specs.Pieces.{words_left};
-ghost use Rattle.dict_text.specs.Words.{code_of, has_names, is_named, kind_named, name_between, name_in, said, small_number};
+ghost use Rattle.dict_text.specs.Words.{code_of, has_names, is_named, kind_named, name_between};
+ghost use Rattle.dict_text.specs.Words.{name_in, said, small_number};
 
 use base_list::Octets;
 use base_text::number_of;
@@ -21,7 +22,8 @@ fn is_comment(word: &[u8]) -> bool
 
 /// The next word, none where a comment begins.
 pub(crate) fn next_word<'a>(words: &mut Words<'a>) -> Option<&'a [u8]>
-    ensures { MatchOption result (said (words_left words.old) ≡ []) (λ word. said (words_left words.old) ≡ word.now ∷ said (words_left words.new)) }
+    ensures { MatchOption result (said (words_left words.old) ≡ []) (λ word. said (words_left words.old)
+        ≡ word.now ∷ said (words_left words.new)) }
 {
     let word = words.next()?;
     if is_comment(word.octets) {

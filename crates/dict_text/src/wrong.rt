@@ -30,7 +30,8 @@ pub(crate) struct Mistake<'a> {
     pub word: &'a [u8],
 }
 
-/// A line that is wrong: its number, from 1, what was wanted, and the word that stands there, empty where it is none by itself.
+/// A line that is wrong: its number, from 1, what was wanted, and the word that stands there,
+/// empty where it is none by itself.
 #[derive(Clone, Copy)]
 pub struct WrongLine<'a> {
     pub number: usize,

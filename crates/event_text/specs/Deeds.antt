@@ -1,5 +1,6 @@
 -- What is printed of a deed.
-use Rattle.std.specs.Prelude.{ℕ, ◌==◌, List, [], ◌∷◌, ◌++◌, Option, Some, None, codes, decimal, option_map, if◌then◌else◌}
+use Rattle.std.specs.Prelude.{ℕ, ◌==◌, List, [], ◌∷◌, ◌++◌, Option, Some, None, codes}
+use Rattle.std.specs.Prelude.{decimal, option_map, if◌then◌else◌}
 use Rattle.std.specs.List.{flat_map, list_all}
 use Rattle.base_codes.specs.DeedCodes.{coded, name_of}
 use Rattle.tab_law.specs.declared.scene.Deed.{Deed}
@@ -21,7 +22,8 @@ without_last_zeros (value ∷ values) =
 
 -- `Service 2`: a deed's name or code, and its arguments up to the last that isn't 0
 abbrev pub deed_words : Deed → List ℕ
-deed_words deed = name_or (deed_name deed.code) deed.code ++ flat_map (λ value. codes " " ++ decimal value) (without_last_zeros deed.a)
+deed_words deed = name_or (deed_name deed.code) deed.code
+    ++ flat_map (λ value. codes " " ++ decimal value) (without_last_zeros deed.a)
 
 -- the same on a line of its own, behind two blanks
 abbrev pub deed_line : Deed → List ℕ

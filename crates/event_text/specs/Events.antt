@@ -1,5 +1,6 @@
 -- Which events a text lists: a line each, `KIND N=V ..`, a kind by its name and then facts by number.
-use Rattle.std.specs.Prelude.{◌≡◌, ℕ, ◌==◌, ◌&&◌, not, nat_lt, Bool, true, List, [], ◌∷◌, filter, map, Option, Some, None, is_none, is_some, option_map, unwrap_or, if◌then◌else◌}
+use Rattle.std.specs.Prelude.{◌≡◌, ℕ, ◌==◌, ◌&&◌, not, nat_lt, Bool, true, List, [], ◌∷◌, filter, map, Option, Some}
+use Rattle.std.specs.Prelude.{None, is_none, is_some, option_map, unwrap_or, if◌then◌else◌}
 use Rattle.std.specs.List.{filter_map, find, list_all, list_any, range_with_len, slice_split}
 use Rattle.base_text.specs.Numbers.{number_of}
 use Rattle.tab_law.specs.Books.{Laws}
@@ -46,7 +47,8 @@ are_different (number ∷ others) = not (list_any (λ other. other == number) ot
 -- each word is a fact, and no two have one number
 abbrev pub are_facts : Option ℕ → List Word → Bool
 are_facts letter all =
-    list_all (λ word. is_some (labelled letter word.octets)) all && are_different (map (λ fact. fact.0) (facts_in letter all))
+    list_all (λ word. is_some (labelled letter word.octets)) all
+    && are_different (map (λ fact. fact.0) (facts_in letter all))
 
 -- the value that is written for a number, or 0
 abbrev pub value_of : List (ℕ × ℕ) → ℕ → ℕ

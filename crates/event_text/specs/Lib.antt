@@ -1,3 +1,4 @@
+-- The definitions that the contracts of event_text speak of.
 pub mod Deeds
 pub mod Events
 pub mod Left

@@ -26,7 +26,8 @@ pub fn put_name(
     name: Option<&[u8]>,
     number: u64,
 ) -> Result<(), AllocError>
-    ensures { OnOk result (out.new.items ≡ out.old.items ++ label.now ++ name_or (option_map (λ name. name.now) name.entry) number) }
+    ensures { OnOk result (out.new.items
+        ≡ out.old.items ++ label.now ++ name_or (option_map (λ name. name.now) name.entry) number) }
 {
     match name {
         Some(name) => {

@@ -2,7 +2,8 @@
 ghost use Rattle.std.specs.Prelude.{◌≡◌, ◌==◌, ◌<◌, ◌∷◌, [], None, IfNone, IfSome, MatchOption};
 ghost use Rattle.std.specs.List.{slice_split};
 ghost use Rattle.std.specs.Option.{option_map};
-ghost use Rattle.event_text.specs.Events.{bad_line, event_of, events_of, fact_between, fact_of, facts_by, facts_of, is_skipped, labelled, registers_of};
+ghost use Rattle.event_text.specs.Events.{bad_line, event_of, events_of, fact_between, fact_of, facts_by, facts_of};
+ghost use Rattle.event_text.specs.Events.{is_skipped, labelled, registers_of};
 ghost use Rattle.text_parts.specs.Left.{line_of};
 ghost use Rattle.text_parts.specs.Pieces.{words_left};
 
@@ -144,8 +145,8 @@ pub fn is_skipped(line: &[u8]) -> bool
 }
 
 /// The first line of a text that is no event, if there is one. Empty lines, and lines that begin with a blank, are
-/// skipped. A line is no event whose kind isn't in the book, or one of whose facts has a number that is too large or stands
-/// twice.
+/// skipped. A line is no event whose kind isn't in the book,
+/// or one of whose facts has a number that is too large or stands twice.
 pub fn first_bad<'a>(book: &LawBook, text: &'a [u8]) -> Option<TextLine<'a>>
     ensures { option_map line_of result ≡ bad_line book.now text.now }
 {

@@ -28,8 +28,8 @@ fn no_fact<'a>(words: &mut Words<'a>) -> Option<&'a [u8]>
     None
 }
 
-/// Which word of a line that is no event is wrong: the first, where it is no kind of the book, or else the first behind it
-/// that is no fact. None where all are facts, of which two have one number.
+/// Which word of a line that is no event is wrong: the first, where it is no kind of the book, or else the first behind
+/// it that is no fact. None where all are facts, of which two have one number.
 #[tactic(auto, unfolding(crate::specs::Wrong::wrong_of))]
 pub fn wrong_word<'a>(book: &LawBook, line: &'a [u8]) -> Option<WrongWord<'a>>
     ensures { option_map (λ word. (word.is_kind, word.octets.now)) result ≡ wrong_of book.now line.now }

@@ -10,7 +10,8 @@ use Rattle.fault_text.specs.Words.{shown}
 use Rattle.fault_text.specs.declared.spots.RowPlace.{RowPlace}
 use Rattle.tab_text.specs.Codes.{number_of}
 use Rattle.tab_text.specs.declared.fault.TextCode.{TextCode}
-use Rattle.tab_text.specs.declared.fault.TextCode.TheVariants.{NoHeader, BadByte, EmptyCell, NoRowToContinue, BadName, TooManyRows, TooManyNames, TooManyInRow, TooLong}
+use Rattle.tab_text.specs.declared.fault.TextCode.TheVariants.{NoHeader, BadByte, EmptyCell, NoRowToContinue, BadName}
+use Rattle.tab_text.specs.declared.fault.TextCode.TheVariants.{TooManyRows, TooManyNames, TooManyInRow, TooLong}
 use Rattle.tab_text.specs.declared.fault.TextFault.{TextFault}
 
 -- what was wanted where a table's text has a fault

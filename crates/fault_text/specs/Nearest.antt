@@ -1,5 +1,6 @@
 -- The name that is near a word.
-use Rattle.std.specs.Prelude.{ℕ, ◌&&◌, Bool, List, [], ◌++◌, Option, None, codes, length, nat_eq, nat_le, option_map, if◌then◌else◌}
+use Rattle.std.specs.Prelude.{ℕ, ◌&&◌, Bool, List, [], ◌++◌, Option, None, codes, length, nat_eq}
+use Rattle.std.specs.Prelude.{nat_le, option_map, if◌then◌else◌}
 use Rattle.std.specs.List.{find}
 use Rattle.std.specs.Option.{option_map_or, option_or}
 use Rattle.base_list.specs.declared.named.Named.{Named}
@@ -17,8 +18,8 @@ is_near limit word entry = nat_le (distance word entry.name) limit
 abbrev pub first_near : {T : Type 0} → ℕ → List ℕ → List (Named T) → Option (List ℕ)
 first_near limit word entries = option_map (λ entry. entry.name) (find (is_near limit word) entries)
 
--- the first name that is one off, or else two, where the word is long; words of other lengths than those of names have none,
--- nor have short ones
+-- the first name that is one off, or else two, where the word is long;
+-- words of other lengths than those of names have none, nor have short ones
 unfoldable pub nearest : {T : Type 0} → List ℕ → List (Named T) → Option (List ℕ)
 nearest word entries =
     if nat_le 4 (length word) && nat_le (length word) 40

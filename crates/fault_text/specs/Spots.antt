@@ -1,5 +1,6 @@
 -- What stands where a table's text has its first fault, and in which row a name stands that isn't registered.
-use Rattle.std.specs.Prelude.{ℕ, ◌==◌, ◌&&◌, ◌||◌, not, Bool, false, List, [], ◌∷◌, ◌++◌, Option, Some, None, codes, decimal, drop, take}
+use Rattle.std.specs.Prelude.{ℕ, ◌==◌, ◌&&◌, ◌||◌, not, Bool, false, List, [], ◌∷◌, ◌++◌, Option, Some, None, codes}
+use Rattle.std.specs.Prelude.{decimal, drop, take}
 use Rattle.std.specs.Prelude.{is_some, nat_le, option_map, position, if◌then◌else◌}
 use Rattle.std.specs.List.{find, list_all, slice_get}
 use Rattle.std.specs.Option.{option_map_or, option_or}
@@ -62,8 +63,8 @@ bad_byte octets =
     option_map_or (λ at. codes "byte " ++ decimal at ++ codes " of the line, counted from 0") (position is_bad octets)
     (shown_line octets)
 
--- what is wrong at a line, by the lines behind it: a byte; of a row that isn't made of names the first word that is none, where one
--- is; or else the line
+-- what is wrong at a line, by the lines behind it: a byte;
+-- of a row that isn't made of names the first word that is none, where one is; or else the line
 abbrev pub wrong_part : TextCode → Line → List Line → List ℕ
 wrong_part BadByte line behind = bad_byte line.octets
 wrong_part BadName line behind = option_map_or shown (odd_in_row line behind) (shown_line line.octets)

@@ -3,7 +3,8 @@
 
 ghost use Rattle.std.specs.Prelude.{◌≡◌, ◌++◌, IfOk, OnOk, codes};
 ghost use Rattle.event_text.specs.Wrong.{wrong_of};
-ghost use Rattle.fault_text.specs.Faults.{bad_text, event_form, known_fault, near_names, near_odd, table_fault, unbound_text, wanted_of, wrong_text};
+ghost use Rattle.fault_text.specs.Faults.{bad_text, event_form, known_fault, near_names, near_odd, table_fault};
+ghost use Rattle.fault_text.specs.Faults.{unbound_text, wanted_of, wrong_text};
 ghost use Rattle.fault_text.specs.Spots.{from_line};
 ghost use Rattle.text_parts.specs.Left.{line_of};
 ghost use Rattle.text_parts.specs.Lines.{lines};
@@ -38,7 +39,8 @@ pub fn wanted(code: TextCode) -> &'static [u8]
         }
         TextCode::NoRowToContinue => b"a row before a line that continues one",
         TextCode::BadName => {
-            b"names (a letter, then letters, digits, -, / and _, at most 40 bytes); an Event as `Kind` or `Kind when guard and guard`; commas between actions"
+            b"names (a letter, then letters, digits, -, / and _, at most 40 bytes); \
+                an Event as `Kind` or `Kind when guard and guard`; commas between actions"
         }
         TextCode::TooManyRows => b"at most 4096 rows",
         TextCode::TooManyNames => b"at most 64 states, 128 kinds, 64 guards and 64 actions",
@@ -106,7 +108,8 @@ fn put_near_odd(
     text: &[u8],
     fault: &TextFault,
 ) -> Result<(), AllocError>
-    ensures { OnOk result (out.new.items ≡ out.old.items ++ near_odd book.now fault.now.code (from_line fault.now.line (lines text.now))) }
+    ensures { OnOk result (out.new.items
+        ≡ out.old.items ++ near_odd book.now fault.now.code (from_line fault.now.line (lines text.now))) }
 {
     match odd_at(text, fault) {
         None => Ok(()),
@@ -173,8 +176,8 @@ fn put_wrong(
     }
 }
 
-/// `bad line N`: the first line of events that is none, what a line is, and the word of it that is wrong, with the kind that
-/// is near it.
+/// `bad line N`: the first line of events that is none, what a line is, and the word of it that is wrong,
+/// with the kind that is near it.
 pub fn bad_line(alloc: Global, book: &LawBook, line: &TextLine<'_>) -> Result<Vec<u8>, AllocError>
     ensures { IfOk result (λ text. text.items ≡ bad_text book.now (line_of line.now)) }
 {

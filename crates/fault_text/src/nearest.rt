@@ -30,7 +30,8 @@ fn first_near<'a, T: Drop>(
     Ok(None)
 }
 
-/// The first name that is one off, or else two, where the word has 8 octets or more. Words of 4 to 40 octets alone have one.
+/// The first name that is one off, or else two, where the word has 8 octets or more.
+/// Words of 4 to 40 octets alone have one.
 #[tactic(auto, unfolding(crate::specs::Nearest::nearest))]
 fn nearest<'a, T: Drop>(
     alloc: Global,

@@ -3,7 +3,9 @@ ghost use Rattle.std.specs.Prelude.{◌≡◌, ◌++◌, [], ◌∷◌, OnOk, co
 ghost use Rattle.std.specs.List.{find, list_all};
 ghost use Rattle.std.specs.Option.{option_map_or};
 ghost use Rattle.fault_text.specs.Faults.{table_fault};
-ghost use Rattle.fault_text.specs.Spots.{bad_byte, from_line, is_bad, is_bound, is_odd, is_registered, line_part, odd_among, odd_at, odd_behind, odd_in_row, odd_word, place_line, shown_line, unbound_place, unbound_row, wrong_line, wrong_part};
+ghost use Rattle.fault_text.specs.Spots.{bad_byte, from_line, is_bad, is_bound, is_odd, is_registered, line_part};
+ghost use Rattle.fault_text.specs.Spots.{odd_among, odd_at, odd_behind, odd_in_row, odd_word, place_line, shown_line};
+ghost use Rattle.fault_text.specs.Spots.{unbound_place, unbound_row, wrong_line, wrong_part};
 ghost use Rattle.fault_text.specs.Words.{shown};
 ghost use Rattle.text_parts.specs.Left.{line_of, lines_left, lines_more};
 ghost use Rattle.text_parts.specs.Lines.{lines};
@@ -156,7 +158,8 @@ fn put_bad_byte(out: &mut Vec<u8>, octets: &[u8]) -> Result<(), AllocError>
 /// Puts the first word of a row that is no name, or the line on which it begins.
 fn put_odd(out: &mut Vec<u8>, line: &TextLine<'_>, behind: Lines<'_>) -> Result<(), AllocError>
     ensures { OnOk result (out.new.items
-        ≡ out.old.items ++ option_map_or shown (odd_in_row (line_of line.now) (lines_left behind.entry)) (shown_line line.now.octets.now)) }
+        ≡ out.old.items ++ option_map_or shown (odd_in_row (line_of line.now) (lines_left behind.entry))
+        (shown_line line.now.octets.now)) }
 {
     match odd_in_row(line, behind) {
         None => put_shown_line(out, line.octets),
@@ -171,7 +174,8 @@ fn put_wrong_part(
     line: &TextLine<'_>,
     behind: Lines<'_>,
 ) -> Result<(), AllocError>
-    ensures { OnOk result (out.new.items ≡ out.old.items ++ wrong_part code (line_of line.now) (lines_left behind.entry)) }
+    ensures { OnOk result (out.new.items
+        ≡ out.old.items ++ wrong_part code (line_of line.now) (lines_left behind.entry)) }
 {
     match code {
         TextCode::BadByte => put_bad_byte(out, line.octets),

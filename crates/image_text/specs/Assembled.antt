@@ -4,6 +4,7 @@ use Rattle.std.specs.List.{slice_get}
 use Rattle.std.specs.Option.{option_or}
 use Rattle.hex.specs.Hex.{encode_lower}
 use Rattle.base_device.specs.Devices.{Tells}
+use Rattle.base_device.specs.Tellings.{told_status}
 use Rattle.base_device.specs.declared.status.Status.{Status}
 use Rattle.base_device.specs.declared.status.Status.TheVariants as statuses
 use Rattle.fault_text.specs.Faults.{known_fault, unbound_text}
@@ -16,7 +17,6 @@ use Rattle.tab_step.specs.Bind.{missing}
 use Rattle.tab_text.specs.Contents.{Contents}
 use Rattle.tab_text.specs.Faults.{first_fault}
 use Rattle.tab_text.specs.Rows.{table_of}
-use Rattle.image_text.specs.Told.{told_status}
 
 -- an image in hexadecimal digits, and a newline
 abbrev pub image_text : Contents → List ℕ

@@ -7,7 +7,8 @@ use Rattle.tab_law.specs.Books.{Laws}
 use Rattle.tab_load.specs.Faults.{number_of}
 use Rattle.tab_load.specs.Loading.{HasFault, IsLoaded, IsReadFrom, Loaded}
 use Rattle.tab_load.specs.declared.fault.ImageFault.{ImageFault}
-use Rattle.tab_load.specs.declared.fault.ImageFault.TheVariants.{Magic, Cut, Count, Name, Unbound, Offset, BackJump, OpCode, NoEnd, Trailing}
+use Rattle.tab_load.specs.declared.fault.ImageFault.TheVariants.{Magic, Cut, Count, Name, Unbound, Offset, BackJump}
+use Rattle.tab_load.specs.declared.fault.ImageFault.TheVariants.{OpCode, NoEnd, Trailing}
 use Rattle.tab_load.specs.declared.fault.LoadFault.{LoadFault}
 use Rattle.image_text.specs.declared.reading.ImageError.{ImageError}
 use Rattle.image_text.specs.declared.reading.ImageError.TheVariants.{NoMemory, BadHex, Refused}
@@ -63,5 +64,6 @@ fault_text fault =
 -- what is told of a text that gives no program, if memory wasn't what lacked
 abbrev pub refusal_text : ImageError → Option (List ℕ)
 refusal_text NoMemory = None
-refusal_text BadHex = Some (codes "bad hex\n  wanted: hexadecimal digits, two for each octet; blanks between them don't count\n")
+refusal_text BadHex = Some
+    (codes "bad hex\n  wanted: hexadecimal digits, two for each octet; blanks between them don't count\n")
 refusal_text (Refused fault) = Some (fault_text fault)

@@ -1,4 +1,4 @@
-pub mod Told
+-- The definitions that the contracts of image_text speak of.
 pub mod Assembled
 pub mod Images
 pub mod Listings

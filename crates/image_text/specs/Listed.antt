@@ -1,6 +1,7 @@
 -- What is told where an image's text is listed.
 use Rattle.std.specs.Prelude.{◌≡◌, ◌⊎◌, ℕ, Bool, true, false, List, Option, Some, codes}
 use Rattle.base_device.specs.Devices.{Tells}
+use Rattle.base_device.specs.Tellings.{told_status}
 use Rattle.base_device.specs.declared.status.Status.{Status}
 use Rattle.base_device.specs.declared.status.Status.TheVariants as statuses
 use Rattle.tab_law.specs.Books.{Laws}
@@ -8,7 +9,6 @@ use Rattle.tab_load.specs.Loading.{Loaded}
 use Rattle.image_text.specs.Images.{IsImageOf, IsNoImage, refusal_text}
 use Rattle.image_text.specs.Listings.{IsListing}
 use Rattle.image_text.specs.declared.reading.ImageError.{ImageError}
-use Rattle.image_text.specs.Told.{told_status}
 
 -- what is told, and whether it is a refusal: why the text gives no program, or the listing of the program that it gives
 abbrev pub IsTold : Laws → (text told : List ℕ) → Bool → Type 0

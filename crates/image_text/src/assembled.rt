@@ -4,8 +4,7 @@ ghost use Rattle.std.specs.List.{slice_get};
 ghost use Rattle.base_device.specs.Devices.{HasWriteCause};
 ghost use Rattle.image_text.specs.Assembled.{IsAssembledOn, IsTold, image_text};
 
-use crate::told::{Told, told_status};
-use base_device::{ByteSink, MAX_IDLE_WRITES, Status, tell};
+use base_device::{ByteSink, MAX_IDLE_WRITES, Status, Told, tell};
 use base_text::put_hex;
 use fault_text::{known_fault, unbound_place, unbound_text};
 use std::alloc::{AllocError, Global};
@@ -73,7 +72,7 @@ pub fn assemble_on<O: ByteSink>(alloc: Global, table: &[u8], book: &LawBook, sin
     ensures row { O.most_idle sink.new ≤ max (O.most_idle sink.old) MAX_IDLE_WRITES }
 {
     match text_of(alloc, table, book) {
-        Ok(told) => tell(sink, &told.text, told_status(told.refused)),
+        Ok(told) => tell(sink, &told.text, told.status()),
         Err(AllocError) => tell(sink, b"no memory\n", Status::NoMemory),
     }
 }

@@ -6,14 +6,12 @@
 //! | `assembled` | a table's image in hexadecimal |
 //! | `reading` | an image read from hexadecimal |
 //! | `listing`, `listed` | a program in words; an image's text listed |
-//! | `told` | what is printed of a text, and with which status |
 #![tactic(auto)]
 
 mod assembled;
 mod listed;
 mod listing;
 mod reading;
-mod told;
 
 pub use assembled::assemble_on;
 pub use listed::list_on;

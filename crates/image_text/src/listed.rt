@@ -6,8 +6,7 @@ ghost use Rattle.image_text.specs.Listed.{IsListedOn, IsTold};
 
 use crate::listing::listing;
 use crate::reading::{ImageError, read_image, refusal_text};
-use crate::told::{Told, told_status};
-use base_device::{ByteSink, MAX_IDLE_WRITES, Status, tell};
+use base_device::{ByteSink, MAX_IDLE_WRITES, Status, Told, tell};
 use std::alloc::{AllocError, Global};
 use tab_law::LawBook;
 
@@ -47,7 +46,7 @@ pub fn list_on<O: ByteSink>(alloc: Global, text: &[u8], book: &LawBook, sink: &m
     ensures row { O.most_idle sink.new ≤ max (O.most_idle sink.old) MAX_IDLE_WRITES }
 {
     match text_of(alloc, text, book) {
-        Ok(told) => tell(sink, &told.text, told_status(told.refused)),
+        Ok(told) => tell(sink, &told.text, told.status()),
         Err(AllocError) => tell(sink, b"no memory\n", Status::NoMemory),
     }
 }

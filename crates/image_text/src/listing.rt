@@ -11,7 +11,7 @@ use base_list::Octets;
 use base_text::put_number;
 use std::alloc::{AllocError, Global};
 use tab_law::LawBook;
-use tab_load::{Program, Step, size_of_step, step_in};
+use tab_load::{CodeInstruction, Program, size_of_step, step_in};
 
 /// Puts a label and the name of that number.
 fn put_named(
@@ -62,12 +62,12 @@ fn put_entries(out: &mut Vec<u8>, program: &Program, book: &LawBook) -> Result<(
 }
 
 /// Puts an instruction: its operation, and its operands by name or number.
-fn put_step(out: &mut Vec<u8>, program: &Program, step: Step) -> Result<(), AllocError>
+fn put_step(out: &mut Vec<u8>, program: &Program, step: CodeInstruction) -> Result<(), AllocError>
     ensures { OnOk result (out.new.items ≡ out.old.items ++ instruction_text program.now.image (instruction_of step)) }
 {
     match step {
-        Step::Begin(row) => put_number(out, b"ROW ", u64::from(row)),
-        Step::Test(guard, otherwise) => {
+        CodeInstruction::Begin(row) => put_number(out, b"ROW ", u64::from(row)),
+        CodeInstruction::Test(guard, otherwise) => {
             put_named(
                 out,
                 b"GUARD ",
@@ -76,24 +76,29 @@ fn put_step(out: &mut Vec<u8>, program: &Program, step: Step) -> Result<(), Allo
             )?;
             put_number(out, b" ", u64::from(otherwise))
         }
-        Step::Act(action) => put_named(
+        CodeInstruction::Act(action) => put_named(
             out,
             b"ACT ",
             program.names().actions.names.as_slice(),
             action as usize,
         ),
-        Step::Go(state) => put_named(
+        CodeInstruction::Go(state) => put_named(
             out,
             b"GOTO ",
             program.names().states.names.as_slice(),
             state as usize,
         ),
-        Step::End => out.extend_from_slice(b"NONE"),
+        CodeInstruction::End => out.extend_from_slice(b"NONE"),
     }
 }
 
 /// Puts the line of an instruction at that offset.
-fn put_line(out: &mut Vec<u8>, program: &Program, at: usize, step: Step) -> Result<(), AllocError>
+fn put_line(
+    out: &mut Vec<u8>,
+    program: &Program,
+    at: usize,
+    step: CodeInstruction,
+) -> Result<(), AllocError>
     ensures { OnOk result (out.new.items ≡ out.old.items ++ line_text program.now.image at (instruction_of step)) }
 {
     put_number(out, b"", at as u64)?;

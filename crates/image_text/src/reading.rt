@@ -1,6 +1,7 @@
 //! An image read from its text, or why it isn't.
 ghost use Rattle.std.specs.Prelude.{◌≡◌, Some, IfOk, IfErr, codes};
-ghost use Rattle.image_text.specs.Images.{IsImageOf, IsNoImage, IsNoText, Spells, fault_text, is_whole, refusal_text, wrong_of};
+ghost use Rattle.image_text.specs.Images.{IsImageOf, IsNoImage, IsNoText, Spells, fault_text, is_whole, refusal_text};
+ghost use Rattle.image_text.specs.Images.{wrong_of};
 ghost use Rattle.image_text.specs.declared.reading.ImageError.TheVariants.{NoMemory};
 
 use base_text::{Decoded, Stop, decode, one_meaning, put_number};
@@ -105,7 +106,8 @@ fn fault_text(alloc: Global, fault: LoadFault) -> Result<Vec<u8>, AllocError>
 
 /// `bad hex`: the text isn't digits.
 fn bad_hex_text(alloc: Global) -> Result<Vec<u8>, AllocError>
-    ensures { IfOk result (λ text. text.items ≡ codes "bad hex\n  wanted: hexadecimal digits, two for each octet; blanks between them don't count\n") }
+    ensures { IfOk result (λ text. text.items
+        ≡ codes "bad hex\n  wanted: hexadecimal digits, two for each octet; blanks between them don't count\n") }
 {
     let mut text = Vec::new(alloc);
     text.extend_from_slice(

@@ -10,7 +10,8 @@ use tab_law::{ActLaw, Change, GuardLaw, LawBook, Test};
 
 /// Puts the tests of a guard.
 fn put_tests(out: &mut Vec<u8>, tests: &[Test]) -> Result<(), AllocError>
-    ensures { OnOk result (out.new.items ≡ out.old.items ++ listed (codes "always") (codes " and ") test_text tests.now) }
+    ensures { OnOk result (out.new.items
+        ≡ out.old.items ++ listed (codes "always") (codes " and ") test_text tests.now) }
 {
     let [first, others @ ..] = tests else {
         return out.extend_from_slice(b"always");
@@ -25,7 +26,8 @@ fn put_tests(out: &mut Vec<u8>, tests: &[Test]) -> Result<(), AllocError>
 
 /// Puts the changes of an action.
 fn put_changes(out: &mut Vec<u8>, changes: &[Change]) -> Result<(), AllocError>
-    ensures { OnOk result (out.new.items ≡ out.old.items ++ listed (codes "nothing") (codes "; ") change_text changes.now) }
+    ensures { OnOk result (out.new.items
+        ≡ out.old.items ++ listed (codes "nothing") (codes "; ") change_text changes.now) }
 {
     let [first, others @ ..] = changes else {
         return out.extend_from_slice(b"nothing");

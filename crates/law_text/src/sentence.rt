@@ -95,7 +95,8 @@ fn put_emit(out: &mut Vec<u8>, code: u16, terms: &[Term]) -> Result<(), AllocErr
 
 /// Puts a register and what it becomes.
 fn put_set(out: &mut Vec<u8>, register: u8, term: &Term) -> Result<(), AllocError>
-    ensures { OnOk result (out.new.items ≡ out.old.items ++ place_text (codes "r") register ++ codes " := " ++ term_text Before term.now) }
+    ensures { OnOk result (out.new.items
+        ≡ out.old.items ++ place_text (codes "r") register ++ codes " := " ++ term_text Before term.now) }
 {
     put_place(out, b"r", register)?;
     out.extend_from_slice(b" := ")?;

@@ -44,7 +44,8 @@ fn put_two(
     words: (&[u8], &[u8]),
     atoms: (Atom, Atom),
 ) -> Result<(), AllocError>
-    ensures { OnOk result (out.new.items ≡ out.old.items ++ words.entry.0.now ++ atom_text reads atoms.0 ++ words.entry.1.now ++ atom_text reads atoms.1) }
+    ensures { OnOk result (out.new.items ≡ out.old.items
+        ++ words.entry.0.now ++ atom_text reads atoms.0 ++ words.entry.1.now ++ atom_text reads atoms.1) }
 {
     out.extend_from_slice(words.0)?;
     put_atom(out, reads, atoms.0)?;

@@ -12,10 +12,10 @@ use Rattle.dia_avp.specs.declared.avp.Avp.{Avp}
 use Rattle.dia_avp.specs.declared.avp.AvpView.{AvpView}
 use Rattle.dia_avp.specs.declared.fault.WriteError.{WriteError}
 use Rattle.dia_avp.specs.declared.fault.WriteError.TheVariants.{LengthOver24Bits}
+use Rattle.dia_avp.specs.Look.{is_coded}
 use Rattle.dia_command.specs.Header.{header_in}
 use Rattle.dia_command.specs.declared.command.Command.{Command}
 use Rattle.dia_msg.specs.Walk.{whole_avps}
-use Rattle.dia_tree.specs.Faults.{is_coded}
 use Rattle.dia_tree.specs.declared.fault.MsgFault.{MsgFault}
 use Rattle.dia_write.specs.Answer.{answer_to}
 use Rattle.dia_write.specs.declared.answer.Identity.{Identity}

@@ -5,9 +5,9 @@ use Rattle.std.specs.Option.{option_and_then, option_map_or}
 use Rattle.std.specs.Str.{is_utf8}
 use Rattle.base_codes.specs.declared.avp_code.TheConstants.{SESSION_ID}
 use Rattle.dia_avp.specs.Encoding.{length_of}
+use Rattle.dia_avp.specs.Look.{is_coded}
 use Rattle.dia_command.specs.Header.{header_in}
 use Rattle.dia_msg.specs.Walk.{whole_avps}
-use Rattle.dia_tree.specs.Faults.{is_coded}
 use Rattle.dia_tree.specs.declared.fault.MsgFault.{MsgFault}
 use Rattle.dia_write.specs.Answer.{answer_to}
 use Rattle.dia_write.specs.declared.answer.Identity.{Identity}

@@ -22,12 +22,12 @@ use Rattle.charge_facts.specs.Places.{places_of}
 use Rattle.charge_facts.specs.Requests.{facts_of_request}
 use Rattle.dia_avp.specs.declared.avp.Avp.{Avp}
 use Rattle.dia_avp.specs.Reading.{avps_in}
+use Rattle.dia_avp.specs.Look.{number_in, is_coded}
 use Rattle.dia_command.specs.declared.command.CapabilitiesExchangeRequest.{CapabilitiesExchangeRequest}
 use Rattle.dia_command.specs.declared.command.Command.{Command}
 use Rattle.dia_command.specs.declared.command.Command.TheVariants.{Cer, Cea, Rar, Ccr, Cca, ErrorAnswer}
-use Rattle.dia_command.specs.Field.{number_in}
 use Rattle.dia_command.specs.Header.{header_in}
-use Rattle.dia_tree.specs.Faults.{fault, is_coded}
+use Rattle.dia_tree.specs.Faults.{fault}
 use Rattle.dia_tree.specs.declared.fault.MsgFault.{MsgFault}
 use Rattle.msg_meaning.specs.Meaning.{meaning}
 use Rattle.peer_rules.specs.Election.{lowered}
@@ -65,7 +65,7 @@ is_shared id = (id == CREDIT_CONTROL) || (id == RELAY)
 
 -- whether an AVP is an Auth-Application-Id of such an application
 abbrev pub is_application : Avp → Bool
-is_application a = is_coded AUTH_APPLICATION_ID a && option_map_or is_shared (number_in a.octets) false
+is_application a = is_coded AUTH_APPLICATION_ID a && option_map_or is_shared (number_in 4 a.octets) false
 
 -- whether an AVP is a Vendor-Specific-Application-Id that holds such an AVP, whatever else it holds
 abbrev pub is_sharing : Avp → Bool

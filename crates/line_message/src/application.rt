@@ -7,7 +7,7 @@ ghost use Rattle.dia_avp.specs.View.{seen};
 ghost use Rattle.line_message.specs.Heard.{is_application, is_shared, is_sharing, shares, shares_inside, shares_plain};
 
 use base_codes::{application, avp_code};
-use dia_avp::{Avp, AvpView, first_avp};
+use dia_avp::{Avp, AvpView, first_avp, is_coded, number_32};
 use dia_command::CapabilitiesExchangeRequest;
 
 /// Whether an application is credit control, or a relay's.
@@ -21,12 +21,12 @@ fn is_shared(id: u32) -> bool
 fn is_application(avp: &AvpView<'_>) -> bool
     ensures { result ≡ is_application (seen avp.now) }
 {
-    if avp.code != avp_code::AUTH_APPLICATION_ID || avp.vendor.is_some() {
+    if !is_coded(avp, avp_code::AUTH_APPLICATION_ID) {
         return false;
     }
-    match avp.as_u32() {
-        Ok(id) => is_shared(id),
-        Err(_) => false,
+    match number_32(avp) {
+        Some(id) => is_shared(id),
+        None => false,
     }
 }
 
@@ -48,7 +48,7 @@ fn has_application(octets: &[u8]) -> bool
 fn is_sharing(avp: &Avp) -> bool
     ensures { result ≡ is_sharing avp.now }
 {
-    if avp.code != avp_code::VENDOR_SPECIFIC_APPLICATION_ID || avp.vendor.is_some() {
+    if !is_coded(&avp.view(), avp_code::VENDOR_SPECIFIC_APPLICATION_ID) {
         return false;
     }
     has_application(avp.octets.as_slice())

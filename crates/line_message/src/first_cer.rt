@@ -8,7 +8,7 @@ ghost use Rattle.line_message.specs.Posts.{peer_of};
 
 use crate::application::shares;
 use crate::listener::Listener;
-use crate::post::{Told, at_line, of_message};
+use crate::post::{PeerEvent, at_line, of_message};
 use base_codes::{CommandCode, ResultCode, peer_fact};
 use base_list::Octets;
 use bench_item::{Heard, Turn};
@@ -52,7 +52,7 @@ impl Listener {
     {
         let mut facts = at_line(peer, at.line, of_message(&header_of(octets)));
         facts[peer_fact::LOCAL_WINS] = wins(self.identity.host.as_slice(), host);
-        let told = Told {
+        let told = PeerEvent {
             place: Some(PeerKind::RConnCer.place()),
             facts,
             condition: None,

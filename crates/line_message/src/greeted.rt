@@ -6,7 +6,7 @@ ghost use Rattle.line_message.specs.Answers.{answer_octets};
 ghost use Rattle.line_message.specs.Heard.{message_facts, session_of, message, greeted_by, answering};
 
 use crate::listener::Listener;
-use crate::post::{Told, at_line, has_line, of_message, side_of};
+use crate::post::{PeerEvent, at_line, has_line, of_message, side_of};
 use crate::reply::posting;
 use base_codes::ResultCode;
 use base_list::Octets;
@@ -74,7 +74,7 @@ impl Listener {
         ensures { IfOk result (λ post. post ≡ message self.now at octets.now peer command.now) }
     {
         let side = side_of(at.opening);
-        let told = Told {
+        let told = PeerEvent {
             place: peer_event(command, side),
             facts: at_line(peer, at.line, self.message_facts(octets, command)),
             condition: Some(has_line(side, at.line)),

@@ -49,7 +49,7 @@ impl Hears for Listener {
     ghost octets_of = { λ l item. message_octets_of l.identity item };
 
     #[tactic(auto, unfolding(crate::specs::Heard::heard))]
-    fn hear(&self, alloc: Global, at: Heard, octets: &[u8]) -> Result<Turn, AllocError> {
+    fn on_message(&self, alloc: Global, at: Heard, octets: &[u8]) -> Result<Turn, AllocError> {
         if octets.len() < HEADER_LEN {
             return Ok(posting(alloc, None));
         }
@@ -57,7 +57,12 @@ impl Hears for Listener {
         self.made_of(alloc, at, octets, &message)
     }
 
-    fn turn(&self, alloc: Global, at: Heard, event: LineEvent) -> Result<Option<Item>, AllocError> {
+    fn on_event(
+        &self,
+        alloc: Global,
+        at: Heard,
+        event: LineEvent,
+    ) -> Result<Option<Item>, AllocError> {
         self.turned(alloc, at, event)
     }
 

@@ -1,17 +1,15 @@
 //! What a connection answers by itself.
 
-ghost use Rattle.std.specs.Prelude.{◌≡◌, ◌≤◌, length, find, None, IfOk};
-ghost use Rattle.std.specs.Option.{option_map, option_copied};
-ghost use Rattle.dia_avp.specs.Reading.{avps_in};
-ghost use Rattle.dia_avp.specs.View.{seen};
-ghost use Rattle.dia_tree.specs.Faults.{fault, is_coded};
+ghost use Rattle.std.specs.Prelude.{◌≡◌, ◌≤◌, length, None, IfOk};
+ghost use Rattle.std.specs.Option.{option_copied};
+ghost use Rattle.dia_tree.specs.Faults.{fault};
 ghost use Rattle.line_message.specs.Answers.{is_session_id, session_of, session_in, answer_octets};
 
 use crate::listener::Listener;
 use crate::octets::octets_of;
 use base_codes::{HEADER_LEN, ResultCode, avp_code};
 use base_list::Octets;
-use dia_avp::{AvpView, WriteError, first_avp};
+use dia_avp::{WriteError, first_in};
 use dia_command::header_of;
 use dia_tree::MsgFault;
 use dia_write::error_answer;
@@ -19,20 +17,6 @@ use std::alloc::{AllocError, Global};
 
 /// How many octets a Session-Id has at most.
 const MAX_SESSION: usize = 255;
-
-/// The first whole AVP of a code and without a vendor, before any broken one.
-pub(crate) fn first_in(octets: &[u8], code: u32) -> Option<AvpView<'_>>
-    ensures { option_map seen result ≡ find (is_coded code) (avps_in octets.now).0 }
-{
-    let mut rest = octets;
-    while let Ok((avp, after)) = first_avp(rest) {
-        if avp.code == code && avp.vendor.is_none() {
-            return Some(avp);
-        }
-        rest = after;
-    }
-    None
-}
 
 /// A Session-Id, where octets are one.
 fn session_of(octets: &[u8]) -> Option<&str>

@@ -64,7 +64,7 @@ pub(crate) fn of_message(header: &Header) -> [u64; PLACES]
 
 /// An event for a peer's machine: its kind by its place among a peer's, its facts, the condition on the machine.
 #[derive(Clone, Copy)]
-pub(crate) struct Told<'a> {
+pub(crate) struct PeerEvent<'a> {
     pub place: Option<u8>,
     pub facts: [u64; PLACES],
     pub condition: Option<Condition>,
@@ -95,7 +95,7 @@ impl Listener {
         &self,
         alloc: Global,
         number: u64,
-        told: &Told<'_>,
+        told: &PeerEvent<'_>,
     ) -> Result<Option<Item>, AllocError>
         ensures { IfOk result (λ item. item
             ≡ event_for self.now number told.now.place told.now.facts told.now.condition told.now.session.now) }

@@ -6,7 +6,7 @@ ghost use Rattle.peer_rules.specs.Kinds.{name_of};
 ghost use Rattle.line_message.specs.Heard.{is_welcome, reply, reply_by, greeting, posting};
 
 use crate::listener::Listener;
-use crate::post::{Told, at_line, has_line, of_message, side_of};
+use crate::post::{PeerEvent, at_line, has_line, of_message, side_of};
 use base_codes::ResultCode;
 use base_list::Octets;
 use bench_item::{Heard, Item, Turn};
@@ -51,7 +51,7 @@ impl Listener {
         requires { 20 ≤ length octets.now }
         ensures { IfOk result (λ post. post ≡ reply self.now at octets.now peer (name_of kind)) }
     {
-        let told = Told {
+        let told = PeerEvent {
             place: Some(kind.place()),
             facts: at_line(peer, at.line, of_message(&header_of(octets))),
             condition: Some(has_line(side_of(at.opening), at.line)),

@@ -5,7 +5,7 @@ ghost use Rattle.peer_rules.specs.Kinds.{name_of};
 ghost use Rattle.line_message.specs.Turned.{told, has_dial, lost_by, turned};
 
 use crate::listener::Listener;
-use crate::post::{Told, at_line, has_line};
+use crate::post::{PeerEvent, at_line, has_line};
 use base_codes::peer_register;
 use bench_item::{Condition, Heard, Item, LineEvent, Opening};
 use peer_rules::{PeerKind, Side};
@@ -35,7 +35,7 @@ impl Listener {
     ) -> Result<Option<Item>, AllocError>
         ensures { IfOk result (λ post. post ≡ told self.now line peer (name_of kind) condition) }
     {
-        let told = Told {
+        let told = PeerEvent {
             place: Some(kind.place()),
             facts: at_line(peer, line, [0; PLACES]),
             condition: Some(condition),

@@ -1,5 +1,6 @@
 -- Which text of a desk is the next, and when its time has come.
-use Rattle.std.specs.Prelude.{◌≡◌, ◌<◌, ◌+◌, ◌-◌, ◌^◌, ◌==◌, ◌&&◌, ◌||◌, ℕ, Bool, true, false, not, nat_lt, List, Option, None, Some, codes, length, min, nat_eq, take, slice_get, if◌then◌else◌}
+use Rattle.std.specs.Prelude.{◌≡◌, ◌<◌, ◌+◌, ◌-◌, ◌^◌, ◌==◌, ◌&&◌, ◌||◌, ℕ, Bool, true, false, not, nat_lt, List}
+use Rattle.std.specs.Prelude.{Option, None, Some, codes, drop, length, min, nat_eq, take, slice_get, if◌then◌else◌}
 use Rattle.std.specs.List.{list_all}
 use Rattle.std.specs.Option.{option_and_then, option_map_or}
 use Rattle.std.specs.Str.{bytes_eq}
@@ -11,7 +12,7 @@ use Rattle.bench_item.specs.declared.step.Step.{Step}
 use Rattle.bench_item.specs.declared.step.Step.TheVariants.{Told}
 use Rattle.live_desk.specs.declared.desk.Desk.{Desk}
 use Rattle.live_desk.specs.declared.texts.DeskText.{DeskText}
-use Rattle.live_desk.specs.Texts.{told_step}
+use Rattle.live_desk.specs.Texts.{is_start, told_step}
 use Rattle.bench_spec.specs.Settings.{table_of}
 use Rattle.bench_spec.specs.Taken.{Run, shown}
 use Rattle.tab_law.specs.Books.{Laws}
@@ -19,7 +20,8 @@ use Rattle.tab_law.specs.Books.{Laws}
 -- the name of the state of a machine, if it is there
 abbrev pub state_name : Run → Key → Option (List ℕ)
 state_name run key =
-    option_and_then (λ state. slice_get (table_of run.settings key.role).states state.state) ((shown run).machine_of key)
+    option_and_then (λ state. slice_get (table_of run.settings key.role).states state.state)
+    ((shown run).machine_of key)
 
 -- the words of a text
 abbrev pub words_of : DeskText → List ℕ
@@ -27,7 +29,8 @@ words_of text = text.words
 
 -- a peer's machine stands where messages go through (RFC 6733 section 5.6)
 abbrev pub is_open : Run → Key → Bool
-is_open run key = option_map_or (λ name. bytes_eq name (codes "I-Open") || bytes_eq name (codes "R-Open")) (state_name run key) false
+is_open run key =
+    option_map_or (λ name. bytes_eq name (codes "I-Open") || bytes_eq name (codes "R-Open")) (state_name run key) false
 
 -- a session's machine waits for an answer (RFC 8506 section 7)
 abbrev pub is_pending : Run → Key → Bool
@@ -37,17 +40,49 @@ is_pending run key = option_map_or (λ name. starts_with nat_eq name (codes "Pen
 abbrev pub is_ready : Run → DeskText → Bool
 is_ready run text = option_map_or (is_open run) text.starts true
 
+-- how many texts of its round a desk told
+abbrev pub count_of : Desk → ℕ
+count_of desk = min desk.place (length desk.texts.items)
+
+-- those texts, and the others, which it told in the round before, if there was one
+abbrev pub told_now : Desk → List DeskText
+told_now desk = take (count_of desk) desk.texts.items
+
+abbrev pub told_earlier : Desk → List DeskText
+told_earlier desk = drop (count_of desk) desk.texts.items
+
 -- the texts that were told before the next one
 abbrev pub told_of : Desk → List DeskText
-told_of desk = if nat_lt 1 desk.round then desk.texts.items else take (min desk.place (length desk.texts.items)) desk.texts.items
+told_of desk = if nat_lt 1 desk.round then desk.texts.items else told_now desk
 
--- the time of what is told next has come: that of a session's event, once each peer that was told Start stands open and the session waits for
--- no answer
+-- the session that a desk told an event waits for an answer to one
+abbrev pub waits : Run → Step → Bool
+waits run (Told number key event) = by key.role
+  where
+    by : Role → Bool
+    by Peer = false
+    by Client = is_pending run key
+    by Server = is_pending run key
+waits run step = false
+
+-- the session of a text, as it was told in that round, waits for no answer
+abbrev pub is_answered : Run → (desk round : ℕ) → DeskText → Bool
+is_answered run desk round text =
+    option_map_or (λ step. not (waits run step)) (told_step run.settings.node.laws desk text.words round) true
+
+-- no session waits for an answer, of those that a desk told something, by each text as it was told last
+abbrev pub are_answered : Run → Desk → Bool
+are_answered run desk =
+    list_all (is_answered run desk.number desk.round) (told_now desk)
+    && (not (nat_lt 1 desk.round) || list_all (is_answered run desk.number (desk.round - 1)) (told_earlier desk))
+
+-- the time of what is told next has come: that of a session's event, once each peer that was told Start stands open
+-- and the session waits for no answer; that of a peer's event, once no session waits for one, but that of Start at once
 abbrev pub is_time : Run → Desk → Step → Bool
 is_time run desk (Told number key event) = by key.role
   where
     by : Role → Bool
-    by Peer = true
+    by Peer = is_start run.settings.node.laws event.kind || are_answered run desk
     by Client = list_all (is_ready run) (told_of desk) && not (is_pending run key)
     by Server = list_all (is_ready run) (told_of desk) && not (is_pending run key)
 is_time run desk step = true
@@ -60,7 +95,8 @@ is_over desk = (length desk.texts.items == 0) || nat_lt desk.rounds desk.round
 abbrev pub next_step : Laws → Desk → Option Step
 next_step laws desk =
     if is_over desk then None
-    else option_and_then (λ text. told_step laws desk.number text.words desk.round) (slice_get desk.texts.items desk.place)
+    else option_and_then (λ text. told_step laws desk.number text.words desk.round)
+    (slice_get desk.texts.items desk.place)
 
 -- it is the next, and its time has come, or it was looked for in vain as often as may be
 pub record IsDue (run : Run) (desk : Desk) (step : Step) : Type 0 where

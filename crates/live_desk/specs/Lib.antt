@@ -1,2 +1,3 @@
+-- The definitions that the contracts of live_desk speak of.
 pub mod Texts
 pub mod Desks

@@ -1,9 +1,13 @@
 //! A desk: which text is the next, and whether its time has come.
-ghost use Rattle.std.specs.Prelude.{◌≡◌, ◌⊎◌, IfOk, IfSome, None, OnErr, OnOk, map, option_copied};
+ghost use Rattle.std.specs.Prelude.{◌≡◌, ◌<◌, ◌+◌, ◌^◌, ◌&&◌, ◌||◌, ◌⊎◌, IfOk, IfSome, IsTrue, None, OnErr, OnOk};
+ghost use Rattle.std.specs.Prelude.{map, nat_lt, not, option_copied};
 ghost use Rattle.std.specs.List.{list_all};
-ghost use Rattle.live_desk.specs.Desks.{IsDue, LooksInVain, gone_on, is_open, is_over, is_pending, is_ready, is_time, next_step, state_name, told_of, words_of};
+ghost use Rattle.live_desk.specs.Desks.{IsDue, LooksInVain, are_answered, count_of, gone_on, is_answered, is_open};
+ghost use Rattle.live_desk.specs.Desks.{is_over, is_pending, is_ready, is_time, next_step, state_name, told_earlier};
+ghost use Rattle.live_desk.specs.Desks.{told_now, told_of, waits, words_of};
+ghost use Rattle.live_desk.specs.Texts.{is_start};
 
-use crate::texts::{DeskError, DeskText, text_of, told_step};
+use crate::texts::{DeskError, DeskText, is_start, text_of, told_step};
 use base_list::Octets;
 use bench_core::Core;
 use bench_item::{Key, Role, Step, StepFault};
@@ -50,6 +54,57 @@ fn is_ready(core: &Core, text: &DeskText) -> bool
         Some(peer) => is_open(core, peer),
         None => true,
     }
+}
+
+/// Whether the session that a desk told an event waits for an answer.
+fn waits(core: &Core, step: &Step) -> bool
+    ensures { result ≡ waits core.now step.now }
+{
+    match step {
+        Step::Told {
+            desk: _,
+            key,
+            event: _,
+        } => match key.role {
+            Role::Peer => false,
+            Role::Client | Role::Server => is_pending(core, key),
+        },
+        _ => false,
+    }
+}
+
+/// Whether the session of a text, as a desk told it in a round, waits for no answer.
+fn is_answered(
+    alloc: Global,
+    core: &Core,
+    desk: u32,
+    text: &DeskText,
+    round: u64,
+) -> Result<bool, AllocError>
+    ensures { IfOk result (λ is. is ≡ is_answered core.now desk round text.now) }
+{
+    match told_step(alloc, core.laws(), desk, text.words.as_slice(), round)? {
+        Some(step) => Ok(!waits(core, &step)),
+        None => Ok(true),
+    }
+}
+
+/// Whether those of all these texts wait for none.
+fn are_all_answered(
+    alloc: Global,
+    core: &Core,
+    desk: u32,
+    texts: &[DeskText],
+    round: u64,
+) -> Result<bool, AllocError>
+    ensures { IfOk result (λ are. are ≡ list_all (is_answered core.now desk round) texts.now) }
+{
+    'texts: for text in texts {
+        if !is_answered(alloc, core, desk, text, round)? {
+            return Ok(false);
+        }
+    }
+    Ok(true)
 }
 
 /// A desk: texts that it tells in order, so many rounds.
@@ -123,7 +178,8 @@ fn read_texts(
 }
 
 impl Desk {
-    /// The desk of that number, which tells these texts so many rounds, and looks at most so often in vain whether a text's time has come.
+    /// The desk of that number, which tells these texts so many rounds,
+    /// and looks at most so often in vain whether a text's time has come.
     pub fn new(
         alloc: Global,
         core: &Core,
@@ -133,7 +189,8 @@ impl Desk {
         patience: u64,
     ) -> Result<Desk, DeskError>
         ensures texts { IfOk result (λ desk. map words_of desk.texts.items ≡ lines.now) }
-        ensures start { IfOk result (λ desk. (desk.number ≡ number) × (desk.rounds ≡ rounds) × (desk.round ≡ 1) × (desk.place ≡ 0)
+        ensures start { IfOk result (λ desk. (desk.number ≡ number)
+            × (desk.rounds ≡ rounds) × (desk.round ≡ 1) × (desk.place ≡ 0)
             × (desk.looks ≡ 0) × (desk.patience ≡ patience)) }
     {
         let texts = read_texts(alloc, core, number, lines)?;
@@ -155,6 +212,27 @@ impl Desk {
         self.texts.is_empty() || self.rounds < self.round
     }
 
+    // How many texts of its round it told.
+    fn count(&self) -> usize
+        ensures { result ≡ count_of self.now }
+    {
+        self.place.min(self.texts.len())
+    }
+
+    // Those texts.
+    fn told_now(&self) -> &[DeskText]
+        ensures { result.now ≡ told_now self.now }
+    {
+        &self.texts[..self.count()]
+    }
+
+    // The others, which it told in the round before, if there was one.
+    fn told_earlier(&self) -> &[DeskText]
+        ensures { result.now ≡ told_earlier self.now }
+    {
+        &self.texts[self.count()..]
+    }
+
     // The texts that were told before the next one.
     fn told(&self) -> &[DeskText]
         ensures { result.now ≡ told_of self.now }
@@ -162,7 +240,7 @@ impl Desk {
         if self.round > 1 {
             return self.texts.as_slice();
         }
-        &self.texts[..self.place.min(self.texts.len())]
+        self.told_now()
     }
 
     // Whether each peer that was told Start stands where messages go through.
@@ -172,21 +250,63 @@ impl Desk {
         self.told().iter().all(|text| is_ready(core, text))
     }
 
+    // Whether no session waits for an answer, of those that it told something, by each text as it was told last.
+    fn are_answered(&self, alloc: Global, core: &Core) -> Result<bool, AllocError>
+        ensures { IfOk result (λ are. are ≡ are_answered core.now self.now) }
+    {
+        if !are_all_answered(alloc, core, self.number, self.told_now(), self.round)? {
+            return Ok(false);
+        }
+        if self.round <= 1 {
+            return Ok(true);
+        }
+        are_all_answered(
+            alloc,
+            core,
+            self.number,
+            self.told_earlier(),
+            self.round - 1,
+        )
+    }
+
+    // Whether the time of a peer's event has come.
+    fn is_peers_time(&self, alloc: Global, core: &Core, kind: u8) -> Result<bool, AllocError>
+        ensures { IfOk result (λ is. is ≡ (is_start core.now.settings.node.laws kind
+            || are_answered core.now self.now)) }
+    {
+        if is_start(core.laws(), kind) {
+            return Ok(true);
+        }
+        self.are_answered(alloc, core)
+    }
+
     // Whether the time of what is told next has come.
-    fn is_time(&self, core: &Core, step: &Step) -> bool
-        ensures { result ≡ is_time core.now self.now step.now }
+    fn is_time(&self, alloc: Global, core: &Core, step: &Step) -> Result<bool, AllocError>
+        ensures { IfOk result (λ is. is ≡ is_time core.now self.now step.now) }
     {
         match step {
             Step::Told {
                 desk: _,
                 key,
-                event: _,
+                event,
             } => match key.role {
-                Role::Peer => true,
-                Role::Client | Role::Server => self.are_open(core) && !is_pending(core, key),
+                Role::Peer => self.is_peers_time(alloc, core, event.kind),
+                Role::Client | Role::Server => Ok(self.are_open(core) && !is_pending(core, key)),
             },
-            _ => true,
+            _ => Ok(true),
         }
+    }
+
+    // Whether it is too early for that, and the desk still patient.
+    fn is_early(&self, alloc: Global, core: &Core, step: &Step) -> Result<bool, AllocError>
+        ensures early { IfOk result (λ is. is ≡ (nat_lt self.now.looks self.now.patience
+            && not (is_time core.now self.now step.now))) }
+        ensures bound { IfOk result (λ is. IsTrue is → self.now.looks + 1 < 2 ^ 64) }
+    {
+        if self.looks >= self.patience {
+            return Ok(false);
+        }
+        Ok(!self.is_time(alloc, core, step)?)
     }
 
     // What is told next, if something is.
@@ -208,18 +328,19 @@ impl Desk {
         }
     }
 
-    /// What is told next, where its time has come, or it was looked for so often in vain as the desk is patient. It stays the next until
-    /// `go_on`.
+    /// What is told next, where its time has come, or it was looked for so often in vain as the desk is patient.
+    /// It stays the next until `go_on`.
     pub fn due(&mut self, alloc: Global, core: &Core) -> Result<Option<Step>, AllocError>
         ensures due { IfOk result (λ step. IfSome step (λ s. IsDue core.now self.old s)) }
         ensures kept { OnOk result (self.new ≡ self.old ⊎ LooksInVain core.now self.old self.new) }
-        ensures none { IfOk result (λ step. step ≡ None → next_step core.now.settings.node.laws self.old ≡ None ⊎ LooksInVain core.now self.old self.new) }
+        ensures none { IfOk result (λ step. step ≡ None
+            → next_step core.now.settings.node.laws self.old ≡ None ⊎ LooksInVain core.now self.old self.new) }
         ensures err { OnErr result (self.new ≡ self.old) }
     {
         let Some(step) = self.next(alloc, core)? else {
             return Ok(None);
         };
-        if self.looks < self.patience && !self.is_time(core, &step) {
+        if self.is_early(alloc, core, &step)? {
             self.looks += 1;
             return Ok(None);
         }

@@ -1,12 +1,12 @@
 //! What a desk is to tell, read.
 ghost use Rattle.std.specs.Prelude.{◌≡◌, ◌≤◌, ◌++◌, IfOk, IfSome, IsTrue, OnOk, length};
-ghost use Rattle.live_desk.specs.Texts.{begins_with_round, in_round, line_of, step_in, told_step};
+ghost use Rattle.live_desk.specs.Texts.{begins_with_round, in_round, is_start, line_of, step_in, told_step};
 ghost use Rattle.live_desk.specs.declared.texts.DeskError.TheVariants.{NoMemory};
 
 use base_list::Octets;
 use base_text::put_number;
 use bench_item::{Key, Role, Step};
-use script_text::{Asked, read_line};
+use script_text::{ScriptStep, read_line};
 use std::alloc::{AllocError, AllocFailed, Global};
 use tab_law::LawBook;
 
@@ -40,17 +40,11 @@ pub struct DeskText {
     pub words: Octets,
     /// The peer that it tells Start.
     pub starts: Option<Key>,
-    /// Whether it is for a session.
-    pub is_session: bool,
 }
 
 impl Drop for DeskText {
     fn drop(self) {
-        let DeskText {
-            words,
-            starts,
-            is_session: _,
-        } = self;
+        let DeskText { words, starts } = self;
     }
 }
 
@@ -91,11 +85,11 @@ fn line_of(alloc: Global, desk: u32, words: &[u8], round: u64) -> Result<Vec<u8>
 }
 
 /// The step that a line asks for, if it is one.
-fn step_in(asked: Option<Asked>) -> Option<Step>
+fn step_in(asked: Option<ScriptStep>) -> Option<Step>
     ensures { result ≡ step_in asked }
 {
     match asked {
-        Some(Asked::Step(step)) => Some(step),
+        Some(ScriptStep::Step(step)) => Some(step),
         _ => None,
     }
 }
@@ -116,7 +110,9 @@ pub(crate) fn told_step(
 }
 
 /// Whether the kind of events at a place has the name Start.
-fn is_start(laws: &LawBook, kind: u8) -> bool {
+pub(crate) fn is_start(laws: &LawBook, kind: u8) -> bool
+    ensures { result ≡ is_start laws.now kind }
+{
     match laws.kinds().as_slice().get(usize::from(kind)) {
         Some(entry) => entry.name.as_slice() == b"Start".as_slice(),
         None => false,
@@ -141,15 +137,10 @@ pub(crate) fn text_of(
         return Ok(None);
     };
     let words = Octets::from_slice(alloc, words)?;
-    let is_session = !matches!(key.role, Role::Peer);
-    let starts = if !is_session && is_start(laws, event.kind) {
+    let starts = if matches!(key.role, Role::Peer) && is_start(laws, event.kind) {
         Some(key)
     } else {
         None
     };
-    Ok(Some(DeskText {
-        words,
-        starts,
-        is_session,
-    }))
+    Ok(Some(DeskText { words, starts }))
 }

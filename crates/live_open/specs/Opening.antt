@@ -26,8 +26,10 @@ shard_at_start tables peers number = record { tables = tables; shard = opened nu
 abbrev pub shards_at_start : Tables → Configured → ℕ → List PartView
 shards_at_start tables peers count = map (shard_at_start tables peers) (range_with_len 0 count)
 
--- nothing happened to any of them: they have no entries, pages have their accounts, nobody is connected and no timer is armed
-pub record AreOpened (s : Settings) (shards : List PartView) (pages : List Paged) (lines : LinesPartView) (clock : ClockView) (desks : ℕ) : Type 0 where
+-- nothing happened to any of them: they have no entries, pages have their accounts,
+-- nobody is connected and no timer is armed
+pub record AreOpened (s : Settings) (shards : List PartView) (pages : List Paged) (lines : LinesPartView)
+    (clock : ClockView) (desks : ℕ) : Type 0 where
   pub shards_are : shards ≡ shards_at_start (tables_of s) (peers_of s.node) s.node.shards
   pub pages_are : pages ≡ pages_at_start s.pages s.accounts
   pub lines_are : lines ≡ record {

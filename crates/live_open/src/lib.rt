@@ -1,4 +1,5 @@
-//! The parts of a bench that runs in threads, as it is opened: to none of them anything happened yet; no thread is started here.
+//! The parts of a bench that runs in threads, as it is opened: to none of them anything happened yet;
+//! no thread is started here.
 //!
 //! | File | What it has |
 //! |---|---|

@@ -20,8 +20,8 @@ use std::sync::Arc;
 use tab_call::Registry;
 use tab_law::LawBook;
 
-/// The parts of a bench to which nothing happened yet: its shards and pages, by their numbers, its connections, its timers, and how many
-/// desks it has.
+/// The parts of a bench to which nothing happened yet:
+/// its shards and pages, by their numbers, its connections, its timers, and how many desks it has.
 pub struct Opened {
     pub shards: Vec<ShardPart>,
     pub pages: Vec<Page>,
@@ -50,7 +50,8 @@ impl Opened {
     // The parts of a configuration that nothing is in the way of, with these laws.
     fn open(alloc: Global, config: Config, laws: &LawBook) -> Result<Opened, AllocError>
         requires { IsOpenable config laws.now }
-        ensures { IfOk result (λ o. AreOpened (settings_with config laws.now) o.shards.items o.pages.items o.lines o.clock o.desks) }
+        ensures { IfOk result (λ o. AreOpened (settings_with config laws.now) o.shards.items o.pages.items
+            o.lines o.clock o.desks) }
     {
         let Config {
             identity,
@@ -79,14 +80,16 @@ impl Opened {
         })
     }
 
-    /// The parts of a bench of a configuration, with a registry for each shard, whose laws they take. Refused is the first reason of
-    /// `opening_refusal`, as where a world is opened; memory may be wanting where there is none, or for the copy of a name.
+    /// The parts of a bench of a configuration, with a registry for each shard, whose laws they take. Refused is
+    /// the first reason of `opening_refusal`, as where a world is opened; memory may be wanting where there is
+    /// none, or for the copy of a name.
     pub fn new(
         alloc: Global,
         config: Config,
         registries: &[Registry],
     ) -> Result<Opened, OpeningError>
-        ensures could { IfOk result (λ o. opening_refusal (config_of config (map (λ r. r.book) registries.now)) ≡ None) }
+        ensures could { IfOk result
+            (λ o. opening_refusal (config_of config (map (λ r. r.book) registries.now)) ≡ None) }
         ensures ok { IfOk result (λ o. AreOpened (settings_of (config_of config (map (λ r. r.book) registries.now)))
             o.shards.items o.pages.items o.lines o.clock o.desks) }
         ensures agree { IfOk result (λ o. Agree o.shards.items (map (λ r. r.book) registries.now)) }

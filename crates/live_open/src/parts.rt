@@ -97,7 +97,8 @@ fn open_account(page: &mut Page, account: Account) -> Result<(), AllocError>
     requires some { 0 < account.id }
     requires here { account.id % page.old.pages ≡ page.old.number }
     requires free { refusal_of page.old.book account.id account.given ≡ None }
-    ensures { OnOk result (page.new ≡ with_book page.old (with_account page.old.book account.id account.given) page.old.room) }
+    ensures { OnOk result (page.new
+        ≡ with_book page.old (with_account page.old.book account.id account.given) page.old.room) }
 {
     match page.open_account(account.id, account.given) {
         Ok(()) => Ok(()),

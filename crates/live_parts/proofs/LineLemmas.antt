@@ -12,7 +12,7 @@ use Rattle.bench_item.specs.declared.source.Source.TheVariants.{Line}
 use Rattle.bench_item.specs.declared.step.Step.{Step}
 use Rattle.bench_item.specs.declared.step.Step.TheVariants.{Came, Dialled, Drop, Joined, Lift, Lost}
 use Rattle.bench_line.specs.Line.{LineView}
-use Rattle.bench_line.specs.Lines.{Past, StandFor, lifted_one, next_on, opened, with_line, with_step}
+use Rattle.bench_line.specs.Lines.{Past, AreLinesAfter, lifted_one, next_on, opened, with_line, with_step}
 use Rattle.bench_views.specs.Carried.{lifts}
 use Rattle.bench_views.specs.LinePasts.{pasts_of}
 use Rattle.bench_views.proofs.LineLifts.{is_lifted_so-kept, is_lifted_so-lifted, is_lifted_so-start, lifted_on-opened, lifted_on-same}
@@ -27,11 +27,11 @@ use Rattle.live_parts.specs.LineParts.{AreSo, HasCome, is_for_lines, meaning_by,
 
 -- a connection is accepted
 pub so-joined : (rules : Hearing) (old new : List LineView) (log : List Entry) → AreSo rules old log
-    → ((pasts : List Past) → StandFor (meaning_by rules) old pasts → StandFor (meaning_by rules) new (opened openings.Accepted pasts))
+    → ((pasts : List Past) → AreLinesAfter (meaning_by rules) old pasts → AreLinesAfter (meaning_by rules) new (opened openings.Accepted pasts))
     → map (λ l. l.lifted) new ≡ map (λ l. l.lifted) old ++ 0 ∷ []
     → AreSo rules new (log ++ bare_entry Joined ∷ [])
 so-joined rules old new log so stands more = record {
-  stand = subst (StandFor (meaning_by rules) new) (sym (pasts_of-joined log None None)) (stands (pasts_of log) so.stand);
+  stand = subst (AreLinesAfter (meaning_by rules) new) (sym (pasts_of-joined log None None)) (stands (pasts_of log) so.stand);
   lifted = is_lifted_so-kept old new log (bare_entry Joined) (lifted_on-opened old new more) (λ line. refl) so.lifted;
 }
 
@@ -39,22 +39,22 @@ so-joined rules old new log so stands more = record {
 pub so-step : (rules : Hearing) (old new : List LineView) (log : List Entry) (step : Step) (line : ℕ) (happened : LineStep) → AreSo rules old log
     → pasts_of (log ++ bare_entry step ∷ []) ≡ with_step line happened (pasts_of log)
     → ((n : ℕ) → lifts (Line n) (bare_entry step) ≡ [])
-    → ((pasts : List Past) → StandFor (meaning_by rules) old pasts → StandFor (meaning_by rules) new (with_step line happened pasts))
+    → ((pasts : List Past) → AreLinesAfter (meaning_by rules) old pasts → AreLinesAfter (meaning_by rules) new (with_step line happened pasts))
     → map (λ l. l.lifted) new ≡ map (λ l. l.lifted) old
     → AreSo rules new (log ++ bare_entry step ∷ [])
 so-step rules old new log step line happened so goes none stands same = record {
-  stand = subst (StandFor (meaning_by rules) new) (sym goes) (stands (pasts_of log) so.stand);
+  stand = subst (AreLinesAfter (meaning_by rules) new) (sym goes) (stands (pasts_of log) so.stand);
   lifted = is_lifted_so-kept old new log (bare_entry step) (lifted_on-same old new same) none so.lifted;
 }
 
 -- an item is lifted from one
 pub so-lifted : (rules : Hearing) (old : List LineView) (log : List Entry) (line : ℕ) (item : Item) → AreSo rules old log
     → next_on old line ≡ Some item
-    → ((pasts : List Past) → StandFor (meaning_by rules) old pasts → StandFor (meaning_by rules) (with_line line lifted_one old) pasts)
+    → ((pasts : List Past) → AreLinesAfter (meaning_by rules) old pasts → AreLinesAfter (meaning_by rules) (with_line line lifted_one old) pasts)
     → AreSo rules (with_line line lifted_one old) (log ++ carried_entry (Lift (Line line)) item ∷ [])
 so-lifted rules old log line item so next stands = record {
   stand =
-      subst (StandFor (meaning_by rules) (with_line line lifted_one old)) (sym (pasts_of-lifted log (Line line) (Some item) None))
+      subst (AreLinesAfter (meaning_by rules) (with_line line lifted_one old)) (sym (pasts_of-lifted log (Line line) (Some item) None))
       (stands (pasts_of log) so.stand);
   lifted = is_lifted_so-lifted old log line item None next so.lifted;
 }
@@ -65,7 +65,7 @@ come : (rules : Hearing) (old new : List LineView) (log : List Entry) (source : 
     → IsLiftedSo new (log ++ carried_entry (Drop source) item ∷ []) → HasCome rules old new item
     → AreSo rules new (log ++ carried_entry (Drop source) item ∷ [])
 come rules old new log source item so goes lifted c = record {
-  stand = subst (StandFor (meaning_by rules) new) (sym goes) (c.stands (pasts_of log) so.stand);
+  stand = subst (AreLinesAfter (meaning_by rules) new) (sym goes) (c.stands (pasts_of log) so.stand);
   lifted = lifted;
 }
 
@@ -85,7 +85,7 @@ so-come rules old new log source (Arm machine generation ticks) is so c = absurd
 so-come rules old new log source (Disarm machine) is so c = absurd (false≢true is)
 
 -- none was opened yet
-pub so-none : (rules : Hearing) → StandFor (meaning_by rules) [] [] → AreSo rules [] []
+pub so-none : (rules : Hearing) → AreLinesAfter (meaning_by rules) [] [] → AreSo rules [] []
 so-none rules stand = record { stand = stand; lifted = is_lifted_so-start }
 
 -- the log of a part to which an entry was put
@@ -100,39 +100,39 @@ put-log old reserved put stamp e kept same is kept_is =
 -- the same with who listens as before, and the log that has the entry
 pub came-put : (rules heard : Hearing) (old new : List LineView) (log logged : List Entry) (line : ℕ) (piece : List ℕ) → heard ≡ rules
     → logged ≡ log ++ bare_entry (Came line piece) ∷ [] → AreSo rules old log
-    → ((pasts : List Past) → StandFor (meaning_by rules) old pasts → StandFor (meaning_by rules) new (with_step line (Received piece) pasts))
+    → ((pasts : List Past) → AreLinesAfter (meaning_by rules) old pasts → AreLinesAfter (meaning_by rules) new (with_step line (Received piece) pasts))
     → map (λ l. l.lifted) new ≡ map (λ l. l.lifted) old → AreSo heard new logged
 came-put rules heard old new log logged line piece same is so stands lifted =
     rw (same, is) (so-step rules old new log (Came line piece) line (Received piece) so (pasts_of-came log line piece None None) (λ n. refl) stands lifted)
 
 pub dialled-put : (rules heard : Hearing) (old new : List LineView) (log logged : List Entry) (line : ℕ) → heard ≡ rules
     → logged ≡ log ++ bare_entry (Dialled line) ∷ [] → AreSo rules old log
-    → ((pasts : List Past) → StandFor (meaning_by rules) old pasts → StandFor (meaning_by rules) new (with_step line Acknowledged pasts))
+    → ((pasts : List Past) → AreLinesAfter (meaning_by rules) old pasts → AreLinesAfter (meaning_by rules) new (with_step line Acknowledged pasts))
     → map (λ l. l.lifted) new ≡ map (λ l. l.lifted) old → AreSo heard new logged
 dialled-put rules heard old new log logged line same is so stands lifted =
     rw (same, is) (so-step rules old new log (Dialled line) line Acknowledged so (pasts_of-dialled log line None None) (λ n. refl) stands lifted)
 
 pub lost-put : (rules heard : Hearing) (old new : List LineView) (log logged : List Entry) (line : ℕ) → heard ≡ rules
     → logged ≡ log ++ bare_entry (Lost line) ∷ [] → AreSo rules old log
-    → ((pasts : List Past) → StandFor (meaning_by rules) old pasts → StandFor (meaning_by rules) new (with_step line Gone pasts))
+    → ((pasts : List Past) → AreLinesAfter (meaning_by rules) old pasts → AreLinesAfter (meaning_by rules) new (with_step line Gone pasts))
     → map (λ l. l.lifted) new ≡ map (λ l. l.lifted) old → AreSo heard new logged
 lost-put rules heard old new log logged line same is so stands lifted =
     rw (same, is) (so-step rules old new log (Lost line) line Gone so (pasts_of-lost log line None None) (λ n. refl) stands lifted)
 
 pub joined-put : (rules heard : Hearing) (old new : List LineView) (log logged : List Entry) → heard ≡ rules
     → logged ≡ log ++ bare_entry Joined ∷ [] → AreSo rules old log
-    → ((pasts : List Past) → StandFor (meaning_by rules) old pasts → StandFor (meaning_by rules) new (opened openings.Accepted pasts))
+    → ((pasts : List Past) → AreLinesAfter (meaning_by rules) old pasts → AreLinesAfter (meaning_by rules) new (opened openings.Accepted pasts))
     → map (λ l. l.lifted) new ≡ map (λ l. l.lifted) old ++ 0 ∷ [] → AreSo heard new logged
 joined-put rules heard old new log logged same is so stands more = rw (same, is) (so-joined rules old new log so stands more)
 
 pub lifted-put : (rules heard : Hearing) (old new : List LineView) (log logged : List Entry) (line : ℕ) (item : Item) → heard ≡ rules
     → logged ≡ log ++ carried_entry (Lift (Line line)) item ∷ [] → new ≡ with_line line lifted_one old → AreSo rules old log
     → next_on old line ≡ Some item
-    → ((pasts : List Past) → StandFor (meaning_by rules) old pasts → StandFor (meaning_by rules) new pasts) → AreSo heard new logged
+    → ((pasts : List Past) → AreLinesAfter (meaning_by rules) old pasts → AreLinesAfter (meaning_by rules) new pasts) → AreSo heard new logged
 lifted-put rules heard old new log logged line item same is new_is so next stands =
     rw (same, is)
     (subst (λ ls. AreSo rules ls (log ++ carried_entry (Lift (Line line)) item ∷ [])) (sym new_is)
-    (so-lifted rules old log line item so next (λ pasts s. subst (λ ls. StandFor (meaning_by rules) ls pasts) new_is (stands pasts s))))
+    (so-lifted rules old log line item so next (λ pasts s. subst (λ ls. AreLinesAfter (meaning_by rules) ls pasts) new_is (stands pasts s))))
 
 pub come-put : (rules heard : Hearing) (old new : List LineView) (log logged : List Entry) (source : Source) (item : Item) → heard ≡ rules
     → logged ≡ log ++ carried_entry (Drop source) item ∷ [] → is_for_lines item ≡ true → AreSo rules old log → HasCome rules old new item

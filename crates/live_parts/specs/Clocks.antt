@@ -1,5 +1,6 @@
 -- The timers' part: timers, what fired and waits, and the stamped entries of what was done to them.
-use Rattle.std.specs.Prelude.{◌≡◌, ◌==◌, ℕ, nat_eq, Bool, false, List, [], ◌∷◌, ◌++◌, flat_map, length, map, max, option_to_list, unwrap_or, Option, Some, None, if◌then◌else◌}
+use Rattle.std.specs.Prelude.{◌≡◌, ◌==◌, ℕ, nat_eq, Bool, false, List, [], ◌∷◌, ◌++◌, flat_map, length, map, max}
+use Rattle.std.specs.Prelude.{option_to_list, unwrap_or, Option, Some, None, if◌then◌else◌}
 use Rattle.std.specs.FinMap as fin
 use Rattle.std.specs.Map.{lookup}
 use Rattle.std.specs.Option.{option_map_or}
@@ -34,8 +35,8 @@ Known = List (ℕ × Option Key)
 abbrev pub places_of : ByOwner → Known → List Place
 places_of armed keys = map (λ p. (p.0, fin.get armed p.0)) keys
 
--- the laws, the last moment, the machines that had a timer, each with its key and with the timer that is armed, what fired, and
--- the entries of the part, each with its stamp
+-- the laws, the last moment, the machines that had a timer, each with its key and with the timer that is armed,
+-- what fired, and the entries of the part, each with its stamp
 pub record ClockView : Type 0 where
   pub laws : Laws
   pub moment : ℕ
@@ -83,7 +84,8 @@ key_of v machine = unwrap_or (lookup (nat_eq machine) v.keys) None
 abbrev pub timer_of : ClockView → ℕ → Option Armed
 timer_of v machine = unwrap_or (lookup (nat_eq machine) v.places) None
 
--- the firings of the timers that are due at a moment, or at the last one if that is later: each once, by due moment and then machine
+-- the firings of the timers that are due at a moment, or at the last one if that is later:
+-- each once, by due moment and then machine
 abbrev pub AreDue : ClockView → ℕ → List Firing → Type 0
 AreDue v moment due = AreFired (armed_of v.places) (max moment v.moment) due
 
@@ -145,7 +147,10 @@ with_arm v source machine generation ticks key stamp = record v {
   keys = insert_entry nat_eq v.keys machine key;
   places =
       with_new_timer v.places machine (record { generation = generation; due = moment_after v.moment ticks });
-  entries = v.entries ++ record { stamp = stamp; entry = carried_entry (Drop source) (Arm machine generation ticks) } ∷ [];
+  entries = v.entries ++ record {
+    stamp = stamp;
+    entry = carried_entry (Drop source) (Arm machine generation ticks);
+  } ∷ [];
 }
 
 abbrev pub with_disarm : ClockView → Source → ℕ → ℕ → ClockView

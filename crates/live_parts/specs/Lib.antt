@@ -1,3 +1,4 @@
+-- The definitions that the contracts of live_parts speak of.
 pub mod Entries
 pub mod LineParts
 pub mod Stamps

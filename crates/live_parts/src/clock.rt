@@ -1,5 +1,6 @@
 //! The timers' part: armed, disarmed, fired, what fired lifted.
-ghost use Rattle.std.specs.Prelude.{◌≡◌, ◌<◌, [], None, false, nat_eq, Some, IfOk, IfErr, OnOk, OnErr, length, map, option_to_list, unwrap_or};
+ghost use Rattle.std.specs.Prelude.{◌≡◌, ◌<◌, [], None, false, nat_eq, Some, IfOk, IfErr, OnOk, OnErr, length};
+ghost use Rattle.std.specs.Prelude.{map, option_to_list, unwrap_or};
 ghost use Rattle.std.specs.Arc.{arc_value};
 ghost use Rattle.bench_item.specs.Keys.{Configured};
 ghost use Rattle.bench_queue.specs.Outbox.{items_out, next_out, nothing_out, put_out};
@@ -7,7 +8,8 @@ ghost use Rattle.bench_parts.specs.Views.{kept_in};
 ghost use Rattle.bench_spec.specs.Merged.{Did};
 ghost use Rattle.bench_spec.specs.Refusal.{is_empty};
 ghost use Rattle.indexmap.specs.IndexMap.{insert_entry, spare};
-ghost use Rattle.live_parts.specs.Clocks.{IsFired, drop_refusal, entries_of, fire_refusal, fired_item, is_armed, key_of, lift_refusal, with_arm, with_disarm, with_lift};
+ghost use Rattle.live_parts.specs.Clocks.{IsFired, drop_refusal, entries_of, fire_refusal, fired_item, is_armed};
+ghost use Rattle.live_parts.specs.Clocks.{key_of, lift_refusal, with_arm, with_disarm, with_lift};
 
 use crate::due::Keys;
 use crate::entries::{carried_entry, fired_entry};
@@ -25,8 +27,8 @@ use std::marker::Model;
 use std::sync::Arc;
 use tick_wheel::Wheel;
 
-/// The timers of a node's machines, what fired and waits, and the entries of their part of the log: what fired, what was lifted from them,
-/// and what was dropped at them. Each entry has the stamp that was drawn for it.
+/// The timers of a node's machines, what fired and waits, and the entries of their part of the log:
+/// what fired, what was lifted from them, and what was dropped at them. Each entry has the stamp that was drawn for it.
 ///
 /// In: `arm`, `disarm`, `fire`, `pass`. Out: `lift`. Looks: `due`, `waiting`, `len`, `stamps`, `log`, `lent`.
 pub struct ClockPart {
@@ -118,7 +120,14 @@ fn put_out(outbox: &mut Outbox, item: Option<KeptItem>)
 impl ClockPart {
     /// The part of timers of which none was armed yet, at moment 0. Takes no memory.
     pub fn new(alloc: Global, roles: Arc<Roles, Global>) -> ClockPart
-        ensures { result ≡ record { laws = (arc_value roles).laws; moment = 0; keys = []; places = []; outbox = nothing_out; entries = [] } }
+        ensures { result ≡ record {
+          laws = (arc_value roles).laws;
+          moment = 0;
+          keys = [];
+          places = [];
+          outbox = nothing_out;
+          entries = [];
+        } }
     {
         ClockPart {
             alloc,
@@ -187,7 +196,8 @@ impl ClockPart {
 
     // What a machine's timer fires, of that generation.
     fn fired_item(&self, machine: u64, generation: u64) -> Result<Option<Item>, AllocError>
-        ensures { IfOk result (λ item. (peers : Configured) → option_to_list item ≡ fired_item self.now peers machine generation) }
+        ensures { IfOk result (λ item. (peers : Configured)
+            → option_to_list item ≡ fired_item self.now peers machine generation) }
     {
         match self.known(machine)? {
             None => Ok(None),
@@ -199,7 +209,8 @@ impl ClockPart {
     pub fn fire(&mut self, machine: u64, generation: u64, stamp: u64) -> Result<(), CarryFault>
         ensures could { OnOk result (fire_refusal self.old machine generation ≡ None) }
         ensures ok { OnOk result (IsFired self.old self.new machine generation stamp) }
-        ensures fault { IfErr result (λ f. f ≡ unwrap_or (fire_refusal self.old machine generation) CarryFault.NoMemory) }
+        ensures fault { IfErr result (λ f. f
+            ≡ unwrap_or (fire_refusal self.old machine generation) CarryFault.NoMemory) }
         // A refused call changes nothing.
         ensures err { OnErr result (self.new ≡ self.old) }
     {
@@ -264,7 +275,8 @@ impl ClockPart {
         Ok(item)
     }
 
-    /// A source drops here that the timer of a machine is armed. The key is that machine's, for what fires; without one nothing fires.
+    /// A source drops here that the timer of a machine is armed.
+    /// The key is that machine's, for what fires; without one nothing fires.
     pub fn arm(
         &mut self,
         source: Source,

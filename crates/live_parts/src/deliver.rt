@@ -48,7 +48,8 @@ impl LinesPart {
         }
     }
 
-    /// Drops an item of a source here, where it is for: a deed to a connection, a dial that opens one, or one that closes it.
+    /// Drops an item of a source here, where it is for:
+    /// a deed to a connection, a dial that opens one, or one that closes it.
     pub fn drop_here(&mut self, source: Source, item: &Item, stamp: u64) -> Result<(), CarryFault>
         requires { is_for_lines item.now ≡ true }
         ensures could { OnOk result (drop_refusal self.old item.now ≡ None) }

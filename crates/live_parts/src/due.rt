@@ -56,7 +56,8 @@ fn sort(firings: &mut Vec<Firing>)
 fn pass_time(wheel: &mut Wheel, moment: u64) -> bool
     ensures passed { IsTrue result → AreFired wheel.old.armed (reached wheel.old moment) []
         × (wheel.new ≡ after_advance wheel.old (reached wheel.old moment)) }
-    ensures due { IsFalse result → (AreFired wheel.old.armed (reached wheel.old moment) [] → ⊥) × (wheel.new ≡ wheel.old) }
+    ensures due { IsFalse result
+        → (AreFired wheel.old.armed (reached wheel.old moment) [] → ⊥) × (wheel.new ≡ wheel.old) }
 {
     if wheel.due_at(moment) > 0 {
         return false;
@@ -68,8 +69,8 @@ fn pass_time(wheel: &mut Wheel, moment: u64) -> bool
 }
 
 impl ClockPart {
-    /// The timers that are due at a moment, each once, by due moment and then machine. A moment below the last one counts as the last one.
-    /// Nothing changes.
+    /// The timers that are due at a moment, each once, by due moment and then machine.
+    /// A moment below the last one counts as the last one. Nothing changes.
     pub fn due(&self, moment: u64) -> Result<Vec<Firing>, AllocError>
         ensures { IfOk result (λ due. AreDue self.now moment due.items) }
     {
@@ -79,8 +80,8 @@ impl ClockPart {
         Ok(due)
     }
 
-    /// The clock comes to a moment at which nothing is due: timers are armed from there on. Where something is due nothing changes. Says
-    /// which. Takes no memory.
+    /// The clock comes to a moment at which nothing is due: timers are armed from there on.
+    /// Where something is due nothing changes. Says which. Takes no memory.
     pub fn pass(&mut self, moment: u64) -> bool
         ensures passed { IsTrue result → AreDue self.old moment [] × (self.new ≡ passed self.old moment) }
         ensures due { IsFalse result → (AreDue self.old moment [] → ⊥) × (self.new ≡ self.old) }

@@ -25,7 +25,8 @@ fn timer_kind(role: Role) -> &'static [u8]
 
 /// The event of a timer of a machine of that role; none where the laws have no such kind. Takes no memory.
 fn timer_event(laws: &LawBook, role: Role) -> Option<Event>
-    ensures { result ≡ option_map (λ kind. record { kind = kind; facts = no_facts }) (place_of (timer_kind role) laws.now.kinds) }
+    ensures { result
+        ≡ option_map (λ kind. record { kind = kind; facts = no_facts }) (place_of (timer_kind role) laws.now.kinds) }
 {
     laws.known();
     let kind = laws.kinds().find(timer_kind(role))?;
@@ -42,7 +43,8 @@ pub(crate) fn firing_item(
     key: Key,
     generation: u64,
 ) -> Result<Option<Item>, AllocError>
-    ensures { IfOk result (λ item. (peers : Configured) → option_to_list item ≡ firing (node_of laws.now peers) generation key) }
+    ensures { IfOk result (λ item. (peers : Configured)
+        → option_to_list item ≡ firing (node_of laws.now peers) generation key) }
 {
     let Some(event) = timer_event(laws, key.role) else {
         return Ok(None);

@@ -1,5 +1,5 @@
-//! The connections and the timers of a bench that runs in threads, each with the stamped entries of their part of the log; no lock is
-//! taken here.
+//! The connections and the timers of a bench that runs in threads,
+//! each with the stamped entries of their part of the log; no lock is taken here.
 //!
 //! | File | What it has |
 //! |---|---|

@@ -11,19 +11,19 @@ ghost use Rattle.live_parts.specs.LineParts.{IsAdded, entries_of, fault_or_full,
 use crate::entries::{bare_entry, carried_entry, copy_item};
 use crate::stamped::StampedLog;
 use base_list::Octets;
-use bench_item::{Item, Source, Step};
-use bench_line::{LineFault, Lines};
+use bench_item::{Item, Source, Step, StepFault};
+use bench_line::Lines;
 use bench_log::{KeptEntry, Log};
 use bench_parts::Lent;
 use line_message::Listener;
 use std::alloc::{AllocError, Global};
 use std::marker::Model;
 
-/// The connections of a node, and the entries of their part of the log: what happened to them, what was lifted from them, and what was
-/// dropped at them. Each entry has the stamp that was drawn for it.
+/// The connections of a node, and the entries of their part of the log: what happened to them, what was lifted from
+/// them, and what was dropped at them. Each entry has the stamp that was drawn for it.
 ///
-/// In: `joined`, `dialled`, `came`, `lost`, and `deliver`, `dial`, `undial` of what is dropped here. Out: `lift`. Looks: `lines`, `len`,
-/// `stamps`, `log`, `lent`.
+/// In: `joined`, `dialled`, `came`, `lost`, and `deliver`, `dial`, `undial` of what is dropped here. Out: `lift`.
+/// Looks: `lines`, `len`, `stamps`, `log`, `lent`.
 pub struct LinesPart {
     pub(crate) alloc: Global,
     pub(crate) lines: Lines<Listener>,
@@ -108,31 +108,32 @@ impl LinesPart {
         self.log.log()
     }
 
-    // Why nothing can be done, memory aside: what the connection says, and then that the part has as many entries as it may.
-    fn fault_or_full(&self, fault: Option<LineFault>) -> Option<LineFault>
+    // Why nothing can be done, memory aside: what the connection says,
+    // and then that the part has as many entries as it may.
+    fn fault_or_full(&self, fault: Option<StepFault>) -> Option<StepFault>
         ensures { result ≡ fault_or_full self.now fault }
     {
         match fault {
             Some(fault) => Some(fault),
-            None if self.log.is_full() => Some(LineFault::Full),
+            None if self.log.is_full() => Some(StepFault::Full),
             None => None,
         }
     }
 
     /// The peer's side opened a connection. Answers its number.
-    pub fn joined(&mut self, stamp: u64) -> Result<u64, LineFault>
+    pub fn joined(&mut self, stamp: u64) -> Result<u64, StepFault>
         ensures number { IfOk result (λ line. line ≡ length self.old.lines + 1) }
         ensures could { OnOk result (joined_refusal self.old ≡ None) }
         ensures ok { OnOk result (IsAdded self.old self.new stamp (bare_entry steps.Joined)) }
-        ensures fault { IfErr result (λ f. f ≡ unwrap_or (joined_refusal self.old) LineFault.NoMemory) }
+        ensures fault { IfErr result (λ f. f ≡ unwrap_or (joined_refusal self.old) StepFault.NoMemory) }
         // A refused call changes nothing.
         ensures err { OnErr result (self.new ≡ self.old) }
     {
         if self.log.is_full() {
-            return Err(LineFault::Full);
+            return Err(StepFault::Full);
         }
         if self.lines.is_full() {
-            return Err(LineFault::Full);
+            return Err(StepFault::Full);
         }
         let entry = bare_entry(self.alloc, Step::Joined)?;
         self.log.reserve()?;
@@ -142,10 +143,11 @@ impl LinesPart {
     }
 
     /// The dial of a connection was acknowledged.
-    pub fn dialled(&mut self, line: u32, stamp: u64) -> Result<(), LineFault>
+    pub fn dialled(&mut self, line: u32, stamp: u64) -> Result<(), StepFault>
         ensures could { OnOk result (fault_or_full self.old (dialled_refusal self.old.lines line) ≡ None) }
         ensures ok { OnOk result (IsAdded self.old self.new stamp (bare_entry (steps.Dialled line))) }
-        ensures fault { IfErr result (λ f. f ≡ unwrap_or (fault_or_full self.old (dialled_refusal self.old.lines line)) LineFault.NoMemory) }
+        ensures fault { IfErr result (λ f. f
+            ≡ unwrap_or (fault_or_full self.old (dialled_refusal self.old.lines line)) StepFault.NoMemory) }
         // A refused call changes nothing.
         ensures err { OnErr result (self.new ≡ self.old) }
     {
@@ -160,10 +162,11 @@ impl LinesPart {
     }
 
     /// Octets came on a connection.
-    pub fn came(&mut self, line: u32, piece: &[u8], stamp: u64) -> Result<(), LineFault>
+    pub fn came(&mut self, line: u32, piece: &[u8], stamp: u64) -> Result<(), StepFault>
         ensures could { OnOk result (fault_or_full self.old (came_refusal self.old.lines line) ≡ None) }
         ensures ok { OnOk result (IsAdded self.old self.new stamp (bare_entry (steps.Came line piece.now))) }
-        ensures fault { IfErr result (λ f. f ≡ unwrap_or (fault_or_full self.old (came_refusal self.old.lines line)) LineFault.NoMemory) }
+        ensures fault { IfErr result (λ f. f
+            ≡ unwrap_or (fault_or_full self.old (came_refusal self.old.lines line)) StepFault.NoMemory) }
         // A refused call changes nothing.
         ensures err { OnErr result (self.new ≡ self.old) }
     {
@@ -178,10 +181,11 @@ impl LinesPart {
     }
 
     /// A connection was lost, or its dial refused.
-    pub fn lost(&mut self, line: u32, stamp: u64) -> Result<(), LineFault>
+    pub fn lost(&mut self, line: u32, stamp: u64) -> Result<(), StepFault>
         ensures could { OnOk result (fault_or_full self.old (lost_refusal self.old.lines line) ≡ None) }
         ensures ok { OnOk result (IsAdded self.old self.new stamp (bare_entry (steps.Lost line))) }
-        ensures fault { IfErr result (λ f. f ≡ unwrap_or (fault_or_full self.old (lost_refusal self.old.lines line)) LineFault.NoMemory) }
+        ensures fault { IfErr result (λ f. f
+            ≡ unwrap_or (fault_or_full self.old (lost_refusal self.old.lines line)) StepFault.NoMemory) }
         // A refused call changes nothing.
         ensures err { OnErr result (self.new ≡ self.old) }
     {
@@ -196,14 +200,14 @@ impl LinesPart {
     }
 
     // Why nothing is lifted from a connection, memory aside.
-    fn lift_refusal(&self, line: u32) -> Option<LineFault>
+    fn lift_refusal(&self, line: u32) -> Option<StepFault>
         ensures { result ≡ lift_refusal self.now line }
     {
         if self.lines.state(line as u64).is_none() {
-            return Some(LineFault::Unknown);
+            return Some(StepFault::Unknown);
         }
         if self.lines.next(line as u64).is_none() {
-            return Some(LineFault::Nothing);
+            return Some(StepFault::Nothing);
         }
         self.fault_or_full(None)
     }
@@ -220,11 +224,12 @@ impl LinesPart {
     }
 
     /// Lifts the oldest item that waits on a connection, and hands it out.
-    pub fn lift(&mut self, line: u32, stamp: u64) -> Result<Item, LineFault>
+    pub fn lift(&mut self, line: u32, stamp: u64) -> Result<Item, StepFault>
         ensures could { OnOk result (lift_refusal self.old line ≡ None) }
         ensures item { IfOk result (λ item. next_on self.old.lines line ≡ Some item) }
-        ensures ok { IfOk result (λ item. IsAdded self.old self.new stamp (carried_entry (steps.Lift (sources.Line line)) item)) }
-        ensures fault { IfErr result (λ f. f ≡ unwrap_or (lift_refusal self.old line) LineFault.NoMemory) }
+        ensures ok { IfOk result (λ item. IsAdded self.old self.new stamp
+            (carried_entry (steps.Lift (sources.Line line)) item)) }
+        ensures fault { IfErr result (λ f. f ≡ unwrap_or (lift_refusal self.old line) StepFault.NoMemory) }
         ensures err { OnErr result (self.new ≡ self.old) }
     {
         if let Some(fault) = self.lift_refusal(line) {

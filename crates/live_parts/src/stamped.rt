@@ -11,8 +11,8 @@ use bench_parts::Lent;
 use std::alloc::{AllocError, Global};
 use std::marker::Model;
 
-/// The entries of a part of a log, in order, each with the stamp that was drawn for it. A contract sees these, and how many more it takes
-/// without memory.
+/// The entries of a part of a log, in order, each with the stamp that was drawn for it.
+/// A contract sees these, and how many more it takes without memory.
 ///
 /// In: `reserve`, then `put`. Looks: `len`, `is_full`, `stamps`, `log`, `lent`.
 pub struct StampedLog {
@@ -36,7 +36,8 @@ impl Model for StampedLog {
 
     ghost view = { λ s. record { entries = stamped_of s.stamps.items s.log.entries; room = s.log.room } };
 
-    ghost invariant = { λ s. (length s.stamps.items ≡ length s.log.entries) × (s.log.room ≤ 1) × (vec_len s.stamps + s.log.room ≤ vec_capacity s.stamps) };
+    ghost invariant = { λ s. (length s.stamps.items ≡ length s.log.entries)
+        × (s.log.room ≤ 1) × (vec_len s.stamps + s.log.room ≤ vec_capacity s.stamps) };
 }
 
 impl StampedLog {

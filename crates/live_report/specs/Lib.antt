@@ -1,2 +1,3 @@
+-- The definitions that the contracts of live_report speak of.
 pub mod Reports
 pub mod Files

@@ -1,8 +1,7 @@
 -- What is told of a node that lived.
-use Rattle.std.specs.Prelude.{◌++◌, ℕ, Bool, false, true, List, [], Option, None, Some, codes, decimal, flat_map, length, map}
+use Rattle.std.specs.Prelude.{◌++◌, ℕ, Bool, false, true, List, [], Option, None, Some, codes, decimal, length, map}
 use Rattle.acct_book.specs.Book.{Opened}
 use Rattle.bench_script.specs.Ends.{totals_text}
-use Rattle.bench_script.specs.Printed.{taken_text}
 use Rattle.bench_spec.specs.Taken.{Run}
 use Rattle.net_sockets.specs.declared.sockets.SocketsFault.{SocketsFault}
 use Rattle.net_sockets.specs.declared.sockets.SocketsFault.TheVariants as faults
@@ -15,7 +14,8 @@ ids_of run = map (λ (account : Opened). account.id) run.settings.accounts
 -- `node HOST ok N`, and each account
 abbrev pub report_text : Run → (host : List ℕ) → List ℕ
 report_text run host =
-    codes "node " ++ shown host ++ codes " ok " ++ decimal (length run.log) ++ codes "\n" ++ totals_text run (ids_of run)
+    codes "node " ++ shown host ++ codes " ok "
+    ++ decimal (length run.log) ++ codes "\n" ++ totals_text run (ids_of run)
 
 -- why a node's sockets went no further, where they did not
 abbrev pub fault_text : (host : List ℕ) → Option SocketsFault → List ℕ
@@ -23,15 +23,11 @@ fault_text host None = []
 fault_text host (Some faults.Refused) = codes "node " ++ shown host ++ codes ": the system refuses a socket\n"
 fault_text host (Some faults.NoMemory) = codes "node " ++ shown host ++ codes ": no memory\n"
 
--- that its log was to be written, and is not
+-- that its files were to be written, and are not
 abbrev pub unwritten_text : (host : List ℕ) → Bool → List ℕ
 unwritten_text host false = []
-unwritten_text host true = codes "node " ++ shown host ++ codes ": its log can't be written\n"
+unwritten_text host true = codes "node " ++ shown host ++ codes ": its files can't be written\n"
 
 -- what is told of a node
 abbrev pub node_text : Run → (host : List ℕ) → Option SocketsFault → (unwritten : Bool) → List ℕ
 node_text run host fault unwritten = report_text run host ++ fault_text host fault ++ unwritten_text host unwritten
-
--- the text of a log: all entries, with the names that the bench has at its end
-abbrev pub log_text : Run → List ℕ
-log_text run = flat_map (taken_text run) run.log

@@ -1,13 +1,16 @@
-//! What is told of a node that lived, and its log as a file.
+//! What is told of a node that lived, and its files.
 //!
 //! | File | What it has |
 //! |---|---|
-//! | `report` | what is printed of a node, and its log as text |
-//! | `files` | its log, written to a file |
+//! | `report` | what is printed of a node |
+//! | `paths` | the names of a node's files, and where those are that CONFIG names |
+//! | `files` | its log and a CONFIG that opens its bench, written, and what that names, copied |
 #![tactic(auto)]
 
 mod files;
+mod paths;
 mod report;
 
-pub use files::is_unwritten;
-pub use report::{log_text, put_host, put_node};
+pub use files::{Places, is_unwritten, write_node};
+pub use paths::own_files;
+pub use report::{put_host, put_node};

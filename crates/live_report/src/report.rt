@@ -1,16 +1,13 @@
-//! What is printed of a node, and its log as text.
-#![tactic(auto, using(crate::proofs::LogLemmas::entries))]
-
-ghost use Rattle.std.specs.Prelude.{◌≡◌, ◌++◌, ◌∷◌, [], IfOk, OnOk, codes, flat_map, map};
+//! What is printed of a node.
+ghost use Rattle.std.specs.Prelude.{◌≡◌, ◌++◌, ◌∷◌, [], IfOk, OnOk, codes, map};
 ghost use Rattle.hex.specs.Hex.{encode_lower};
-ghost use Rattle.live_report.specs.Files.{file_octet};
-ghost use Rattle.live_report.specs.Reports.{fault_text, ids_of, log_text, node_text, report_text, unwritten_text};
+ghost use Rattle.live_report.specs.Reports.{fault_text, ids_of, node_text, report_text, unwritten_text};
 ghost use Rattle.step_text.specs.Names.{shown, shown_octet};
 
 use base_text::{put_hex, put_number};
 use bench_core::Core;
 use bench_open::Account;
-use bench_script::{put_taken, put_totals};
+use bench_script::put_totals;
 use net_sockets::SocketsFault;
 use std::alloc::{AllocError, Global};
 use step_text::is_plain;
@@ -33,32 +30,12 @@ fn put_octet(out: &mut Vec<u8>, octet: u8) -> Result<(), AllocError>
     put_digits(out, octet)
 }
 
-/// Puts an octet of a host into the name of a file.
-fn put_file_octet(out: &mut Vec<u8>, octet: u8) -> Result<(), AllocError>
-    ensures { OnOk result (out.new.items ≡ out.old.items ++ file_octet octet) }
-{
-    if is_plain(octet) && octet != b'/' {
-        return out.extend_from_slice(&[octet]);
-    }
-    put_digits(out, octet)
-}
-
 /// Puts a host as a word.
 pub fn put_host(out: &mut Vec<u8>, host: &[u8]) -> Result<(), AllocError>
     ensures { OnOk result (out.new.items ≡ out.old.items ++ shown host.now) }
 {
     for octet in host {
         put_octet(out, *octet)?;
-    }
-    Ok(())
-}
-
-/// Puts a host into the name of a file.
-pub(crate) fn put_file(out: &mut Vec<u8>, host: &[u8]) -> Result<(), AllocError>
-    ensures { OnOk result (out.new.items ≡ out.old.items ++ flat_map file_octet host.now) }
-{
-    for octet in host {
-        put_file_octet(out, *octet)?;
     }
     Ok(())
 }
@@ -109,12 +86,12 @@ fn put_fault(out: &mut Vec<u8>, host: &[u8], fault: Option<SocketsFault>) -> Res
     }
 }
 
-/// Puts that a node's log was not written, where it was not.
+/// Puts that a node's files were not written, where they were not.
 fn put_unwritten(out: &mut Vec<u8>, host: &[u8], is_unwritten: bool) -> Result<(), AllocError>
     ensures { OnOk result (out.new.items ≡ out.old.items ++ unwritten_text host.now is_unwritten) }
 {
     match is_unwritten {
-        true => put_line(out, host, b": its log can't be written\n"),
+        true => put_line(out, host, b": its files can't be written\n"),
         false => Ok(()),
     }
 }
@@ -133,17 +110,4 @@ pub fn put_node(
     put_report(alloc, out, host, core)?;
     put_fault(out, host, fault)?;
     put_unwritten(out, host, is_unwritten)
-}
-
-/// The text of a log.
-pub fn log_text(alloc: Global, core: &Core) -> Result<Vec<u8>, AllocError>
-    ensures { IfOk result (λ text. text.items ≡ log_text core.now) }
-{
-    let mut out = Vec::new(alloc);
-    'places: for place in 0..core.place() {
-        if let Some(entry) = core.log().entry(place, alloc)? {
-            put_taken(alloc, core, &entry, &mut out)?;
-        }
-    }
-    Ok(out)
 }

@@ -17,7 +17,7 @@ use Rattle.log_text.specs.Following.{IsTold, MayStandAt, SoFar, end_after, end_o
 use Rattle.log_text.specs.Reading.{AreGood, Follows, IsFirstBad, front_of, lines_in, whole}
 use Rattle.log_text.specs.declared.end.End.{End}
 use Rattle.log_text.specs.declared.end.Last.TheVariants.{Other}
-use Rattle.log_text.specs.declared.end.Told.{Told}
+use Rattle.log_text.specs.declared.end.LogLine.{LogLine}
 use Rattle.log_text.specs.declared.pending.Reader.{Reader}
 use Rattle.log_text.proofs.ReaderLemmas.{IsSound, stands-at, told_ends, told_follows, told_lines, told_sound}
 
@@ -48,7 +48,7 @@ pub record Read (names : Named) (reader : Reader) (end : End) (short : Bool) (te
   pub has : short ≡ false → so_far reader ≡ far
 
 -- a line is read
-pub one_line : (names : Named) (reader next : Reader) (end after : End) (short more : Bool) (told : Told) (text : List ℕ) (line : List ℕ) (old left : List (List ℕ)) (place : ℕ)
+pub one_line : (names : Named) (reader next : Reader) (end after : End) (short more : Bool) (told : LogLine) (text : List ℕ) (line : List ℕ) (old left : List (List ℕ)) (place : ℕ)
     → Read names reader end short text old place → old ≡ line ∷ left → IsTold names end line told → after ≡ end_after end told → (more ≡ false → short ≡ false)
     → (more ≡ false → so_far next ≡ told_to (so_far reader) told)
     → Read names next after more text left (place + 1)

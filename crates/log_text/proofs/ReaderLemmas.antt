@@ -19,8 +19,8 @@ use Rattle.log_text.specs.ItemLines.{item_line}
 use Rattle.log_text.specs.Shown.{item_shown}
 use Rattle.log_text.specs.declared.end.Last.{Last}
 use Rattle.log_text.specs.declared.end.Last.TheVariants as last
-use Rattle.log_text.specs.declared.end.Told.{Told}
-use Rattle.log_text.specs.declared.end.Told.TheVariants as told
+use Rattle.log_text.specs.declared.end.LogLine.{LogLine}
+use Rattle.log_text.specs.declared.end.LogLine.TheVariants as told
 use Rattle.log_text.specs.declared.item.Who.{Who}
 use Rattle.log_text.specs.declared.item.ItemLine.{ItemLine}
 use Rattle.log_text.specs.declared.item.ItemLine.TheVariants.{TooBusy, Stale, Moved}
@@ -208,7 +208,7 @@ stands-at names far line sound (inr (inl item)) = inr (inl (waits-is (last_in fa
 stands-at names far line sound (inr (inr deed)) = inr (inr (moves-is (last_in far.begun) (sym (ends-moved far sound) ∙ deed.0), deed.1))
 
 -- what a line tells may follow
-pub told_follows : (names : Named) (far : SoFar) (line : List ℕ) (told : Told) → IsSound far → IsTold names (end_of far) line told → MayFollow names (entries_of far) line
+pub told_follows : (names : Named) (far : SoFar) (line : List ℕ) (told : LogLine) → IsSound far → IsTold names (end_of far) line told → MayFollow names (entries_of far) line
 unfolding waits moves
 told_follows names far line (told.Step step) sound is =
     inl (record { step = record { step = step_shown step; is = is.0.is; has = is.0.has }; room = is.1 })
@@ -267,7 +267,7 @@ begun_moves far ends = by far.begun refl ends
     by (Some begun) is ends = parts begun.step begun.item begun.deeds is ends
 
 -- the lines of what is told, with one line more
-pub told_lines : (names : Named) (far : SoFar) (line : List ℕ) (told : Told) → IsSound far → IsTold names (end_of far) line told
+pub told_lines : (names : Named) (far : SoFar) (line : List ℕ) (told : LogLine) → IsSound far → IsTold names (end_of far) line told
     → log_lines names (entries_of (told_to far told)) ≡ log_lines names (entries_of far) ++ ended line
 told_lines names far line (told.Step step) sound is =
     flat_map-append (entry_lines names) (entries_of far) (entry_with (step_shown step) None [] ∷ [])
@@ -285,7 +285,7 @@ told_lines names far line (told.Deed deed) sound is =
     (rw (sym is.0.has) (one_deed names at.step at.who at.before at.after at.row at.deeds deed works)))
 
 -- how that ends
-pub told_ends : (names : Named) (far : SoFar) (line : List ℕ) (told : Told) → IsTold names (end_of far) line told → end_of (told_to far told) ≡ end_after (end_of far) told
+pub told_ends : (names : Named) (far : SoFar) (line : List ℕ) (told : LogLine) → IsTold names (end_of far) line told → end_of (told_to far told) ≡ end_after (end_of far) told
 told_ends names far line (told.Step step) is =
     ap (λ (n : ℕ). record { entries = n; last = last_with (step_shown step) None }) (length-append (entries_of far) (entry_with (step_shown step) None [] ∷ []))
 told_ends names far line (told.Item item) is =
@@ -299,7 +299,7 @@ told_ends names far line (told.Deed deed) is =
     (length-append far.log (entry_with at.step (Some item) (at.deeds ++ deed ∷ []) ∷ []) ∙ sym (length-append far.log (entry_with at.step (Some item) at.deeds ∷ []))))
 
 -- and it is sound
-pub told_sound : (names : Named) (far : SoFar) (line : List ℕ) (told : Told) → IsSound far → IsTold names (end_of far) line told → IsSound (told_to far told)
+pub told_sound : (names : Named) (far : SoFar) (line : List ℕ) (told : LogLine) → IsSound far → IsTold names (end_of far) line told → IsSound (told_to far told)
 told_sound names far line (told.Step step) sound is = record {
   reading = λ none. absurd (cc);
   begun = λ begun is. subst IsBegun (some_is _ begun is) (record { waits = λ none. refl; works = λ item some. absurd (cc) });

@@ -1,11 +1,15 @@
 -- The line of a deed: what it tells, and what is read of it.
-use Rattle.std.specs.Prelude.{◌≡◌, ◌<◌, ℕ, ◌+◌, ◌^◌, nat_lt, List, [], ◌∷◌, ◌++◌, All, length, replicate, slice_set, Option, Some, None, codes, option_map, if◌then◌else◌}
+use Rattle.std.specs.Prelude.{◌≡◌, ◌<◌, ℕ, ◌+◌, ◌^◌, nat_lt, List, [], ◌∷◌, ◌++◌, All, length, replicate, slice_set}
+use Rattle.std.specs.Prelude.{Option, Some, None, codes, option_map, if◌then◌else◌}
 use Rattle.std.specs.Str.{bytes_eq}
 use Rattle.acct_totals.specs.declared.op.Outcome.{Outcome}
 use Rattle.acct_totals.specs.declared.op.Outcome.TheVariants.{Done, Refused}
 use Rattle.base_codes.specs.DeedCodes.{name_of, number_of}
 use Rattle.base_codes.specs.declared.deed_code.DeedCode.{DeedCode}
-use Rattle.base_codes.specs.declared.deed_code.DeedCode.TheVariants.{Unlisted, ToPeer, ToSession, Close, Dial, Undial, Arm, Disarm, SndCer, SndCea, SndDwa, SndDpr, SndDpa, SndMsg, Elect, Reserve, Debit, Release, Charge, Refund, Service}
+use Rattle.base_codes.specs.declared.deed_code.DeedCode.TheVariants.{Unlisted, ToPeer, ToSession, Close, Dial, Undial}
+use Rattle.base_codes.specs.declared.deed_code.DeedCode.TheVariants.{Arm, Disarm, SndCer, SndCea, SndDwa, SndDpr}
+use Rattle.base_codes.specs.declared.deed_code.DeedCode.TheVariants.{SndDpa, SndMsg, Elect, Reserve, Debit, Release}
+use Rattle.base_codes.specs.declared.deed_code.DeedCode.TheVariants.{Charge, Refund, Service}
 use Rattle.base_text.specs.Numbers as numbers
 use Rattle.tab_law.specs.declared.limits.TheConstants.{PLACES}
 use Rattle.text_parts.specs.Pieces.{pieces_in}
@@ -110,7 +114,8 @@ done_with (Some amount) None = None
 done_with None unpaid = None
 
 abbrev pub outcome_behind : List ℕ → List (List ℕ) → Option Outcome
-outcome_behind stop words = if bytes_eq stop (codes "=") then done_with (large words) (large (rest_of words)) else Some Refused
+outcome_behind stop words =
+    if bytes_eq stop (codes "=") then done_with (large words) (large (rest_of words)) else Some Refused
 
 abbrev pub outcome_of : Option (List ℕ) → List (List ℕ) → Option Outcome
 outcome_of None words = Some Refused
@@ -120,7 +125,8 @@ outcome_of (Some stop) words = outcome_behind stop words
 abbrev pub deed_with : Option ℕ → List (List ℕ) → Option DeedLine
 deed_with None words = None
 deed_with (Some code) words =
-    option_map (λ outcome. record { deed = record { code = code; a = args_of words }; outcome = outcome }) (outcome_of (stop_of words) (behind_stop words))
+    option_map (λ outcome. record { deed = record { code = code; a = args_of words }; outcome = outcome })
+    (outcome_of (stop_of words) (behind_stop words))
 
 -- the deed that the words behind four blanks tell
 abbrev pub deed_in : List (List ℕ) → Option DeedLine

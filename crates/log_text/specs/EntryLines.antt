@@ -1,5 +1,6 @@
 -- The lines of an entry of the log.
-use Rattle.std.specs.Prelude.{ℕ, ◌==◌, Bool, true, false, List, [], ◌∷◌, ◌++◌, Option, Some, None, codes, decimal, slice_get, if◌then◌else◌}
+use Rattle.std.specs.Prelude.{ℕ, ◌==◌, Bool, true, false, List, [], ◌∷◌, ◌++◌, Option, Some, None, codes}
+use Rattle.std.specs.Prelude.{decimal, slice_get, if◌then◌else◌}
 use Rattle.std.specs.List.{flat_map, list_any}
 use Rattle.acct_totals.specs.declared.op.Outcome.{Outcome}
 use Rattle.acct_totals.specs.declared.op.Outcome.TheVariants.{Done, Refused}
@@ -78,7 +79,8 @@ deed_lines (deed ∷ deeds) outcomes =
 -- `  KEY KIND FROM TO row R`, and the deeds below it
 abbrev pub move_lines : Named → MachineItem → Moved → List ℕ
 move_lines names item moved =
-    moved_line names item.key item.event.kind moved.before.state moved.after.state moved.row ++ codes "\n" ++ deed_lines moved.deeds moved.outcomes
+    moved_line names item.key item.event.kind moved.before.state moved.after.state moved.row
+    ++ codes "\n" ++ deed_lines moved.deeds moved.outcomes
 
 -- what became of an item for a machine
 abbrev pub handled_lines : Named → MachineItem → Handled → List ℕ
@@ -102,7 +104,8 @@ below names step item handled = if is_work step then became names item handled e
 
 -- an entry: its step, and below a `work` what became of the item
 abbrev pub entry_lines : Named → Entry → List ℕ
-entry_lines names entry = line_of names.names entry.step ++ codes "\n" ++ below names entry.step entry.item entry.handled
+entry_lines names entry =
+    line_of names.names entry.step ++ codes "\n" ++ below names entry.step entry.item entry.handled
 
 -- a log: its entries
 abbrev pub log_lines : Named → List Entry → List ℕ

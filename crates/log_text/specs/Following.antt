@@ -1,5 +1,6 @@
 -- The entry whose lines are being read, and which line may stand behind it.
-use Rattle.std.specs.Prelude.{◌≡◌, ◌<◌, ◌+◌, ◌==◌, ◌&&◌, ◌⊎◌, if◌then◌else◌, option_map, ℕ, Bool, true, false, List, [], ◌∷◌, ◌++◌, length, filter, map, replicate, Option, Some, None, codes, not}
+use Rattle.std.specs.Prelude.{◌≡◌, ◌<◌, ◌+◌, ◌==◌, ◌&&◌, ◌⊎◌, if◌then◌else◌, option_map, ℕ, Bool, true, false, List, []}
+use Rattle.std.specs.Prelude.{◌∷◌, ◌++◌, length, filter, map, replicate, Option, Some, None, codes, not}
 use Rattle.acct_totals.specs.declared.op.Outcome.{Outcome}
 use Rattle.tab_law.specs.declared.limits.TheConstants.{PLACES}
 use Rattle.tab_step.specs.declared.machine.Event.{Event}
@@ -29,8 +30,8 @@ use Rattle.log_text.specs.declared.deed_line.DeedLine.{DeedLine}
 use Rattle.log_text.specs.declared.end.End.{End}
 use Rattle.log_text.specs.declared.end.Last.{Last}
 use Rattle.log_text.specs.declared.end.Last.TheVariants as last
-use Rattle.log_text.specs.declared.end.Told.{Told}
-use Rattle.log_text.specs.declared.end.Told.TheVariants as told
+use Rattle.log_text.specs.declared.end.LogLine.{LogLine}
+use Rattle.log_text.specs.declared.end.LogLine.TheVariants as told
 use Rattle.log_text.specs.declared.pending.Pending.{Pending}
 use Rattle.log_text.specs.declared.pending.Reader.{Reader}
 
@@ -74,10 +75,16 @@ move_of kind before after row lines = record {
 -- the entry that lines tell
 abbrev pub entry_with : Step → Option ItemLine → List DeedLine → Entry
 entry_with step None lines = record { step = step; item = None; handled = None }
-entry_with step (Some TooBusy) lines = record { step = step; item = Some (item_of nobody); handled = Some handled.TooBusy }
-entry_with step (Some (Stale who state)) lines = record { step = step; item = Some (item_of who); handled = Some (handled.Stale state) }
+entry_with step (Some TooBusy) lines =
+    record { step = step; item = Some (item_of nobody); handled = Some handled.TooBusy }
+entry_with step (Some (Stale who state)) lines =
+    record { step = step; item = Some (item_of who); handled = Some (handled.Stale state) }
 entry_with step (Some (moved who before after row)) lines =
-    record { step = step; item = Some (item_of who); handled = Some (handled.Move (move_of who.kind before after row lines)) }
+    record {
+      step = step;
+      item = Some (item_of who);
+      handled = Some (handled.Move (move_of who.kind before after row lines));
+    }
 
 -- an entry whose lines are being read: what they tell so far
 pub record Begun : Type 0 where
@@ -123,10 +130,11 @@ with_item far item = record {
 abbrev pub with_deed : SoFar → DeedLine → SoFar
 with_deed far deed = record {
   log = far.log;
-  begun = option_map (λ begun. record { step = begun.step; item = begun.item; deeds = begun.deeds ++ deed ∷ [] }) far.begun;
+  begun =
+      option_map (λ begun. record { step = begun.step; item = begun.item; deeds = begun.deeds ++ deed ∷ [] }) far.begun;
 }
 
-abbrev pub told_to : SoFar → Told → SoFar
+abbrev pub told_to : SoFar → LogLine → SoFar
 told_to far (told.Step step) = with_step far (step_shown step)
 told_to far (told.Item item) = with_item far (item_shown item)
 told_to far (told.Deed deed) = with_deed far deed
@@ -165,7 +173,8 @@ ends test [] = false
 ends test (entry ∷ []) = test entry
 ends test (entry ∷ next ∷ rest) = ends test (next ∷ rest)
 
--- which line may stand behind the text of a log: a step's, where the log isn't full; an item's below a `work`; a deed's below a move
+-- which line may stand behind the text of a log: a step's, where the log isn't full;
+-- an item's below a `work`; a deed's below a move
 abbrev pub MayFollow : Named → List Entry → List ℕ → Type 0
 MayFollow names log line =
     MayBegin names log line
@@ -191,7 +200,7 @@ abbrev pub end_of : SoFar → End
 end_of far = record { entries = length (entries_of far); last = last_in far.begun }
 
 -- how a log ends with what one line more tells
-abbrev pub end_after : End → Told → End
+abbrev pub end_after : End → LogLine → End
 end_after end (told.Step step) = record { entries = end.entries + 1; last = last_with (step_shown step) None }
 end_after end (told.Item item) = record { entries = end.entries; last = last_item (item_shown item) }
 end_after end (told.Deed deed) = end
@@ -204,7 +213,7 @@ MayStandAt names end line =
     ⊎ ((end.last ≡ last.Moved) × IsDeedLine line)
 
 -- a line tells this behind a log that ends so, where it may stand
-abbrev pub IsTold : Named → End → List ℕ → Told → Type 0
+abbrev pub IsTold : Named → End → List ℕ → LogLine → Type 0
 IsTold names end line (told.Step step) = IsStepOf names.names line (step_shown step) × (end.entries < MAX_ENTRIES)
 IsTold names end line (told.Item item) = IsItemOf names line (item_shown item) × (end.last ≡ last.Waiting)
 IsTold names end line (told.Deed deed) = IsDeedOf line deed × (end.last ≡ last.Moved)

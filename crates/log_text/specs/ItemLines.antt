@@ -1,5 +1,6 @@
 -- The line of an item: what it tells, and what is read of it.
-use Rattle.std.specs.Prelude.{◌≡◌, ◌<◌, ℕ, ◌^◌, ◌==◌, not, nat_lt, true, List, [], ◌∷◌, All, Option, Some, None, IsSomeAnd, codes, slice_get, option_map, if◌then◌else◌}
+use Rattle.std.specs.Prelude.{◌≡◌, ◌<◌, ℕ, ◌^◌, ◌==◌, not, nat_lt, true, List, [], ◌∷◌, All, Option, Some, None}
+use Rattle.std.specs.Prelude.{IsSomeAnd, codes, slice_get, option_map, if◌then◌else◌}
 use Rattle.std.specs.List.{list_all, position}
 use Rattle.std.specs.Str.{bytes_eq}
 use Rattle.hex.specs.Hex.{IsBytes}
@@ -62,7 +63,8 @@ place_or None number = number
 
 -- the state of that name, or of that number
 abbrev pub state_called : Named → Role → List ℕ → Option ℕ
-state_called names role word = below 256 (place_or (position (λ name. bytes_eq name word) (names.states role)) (number_of word))
+state_called names role word =
+    below 256 (place_or (position (λ name. bytes_eq name word) (names.states role)) (number_of word))
 
 -- the state of the first word
 abbrev pub state_of : Named → Role → List (List ℕ) → Option ℕ
@@ -72,13 +74,15 @@ state_of names role (word ∷ words) = state_called names role word
 -- the row of the first word
 abbrev pub row_of : List (List ℕ) → Option (Option ℕ)
 row_of [] = None
-row_of (word ∷ words) = if bytes_eq word (codes "-") then Some None else option_map Some (below (2 ^ 16) (number_of word))
+row_of (word ∷ words) =
+    if bytes_eq word (codes "-") then Some None else option_map Some (below (2 ^ 16) (number_of word))
 
 -- what the words behind two states tell
 abbrev pub ending_of : Who → ℕ → ℕ → List (List ℕ) → Option ItemLine
 ending_of who before after [] = None
 ending_of who before after (word ∷ words) =
-    if bytes_eq word (codes "stale") then Some (Stale who before) else option_map (Moved who before after) (row_of words)
+    if bytes_eq word (codes "stale") then Some (Stale who before)
+    else option_map (Moved who before after) (row_of words)
 
 -- the machine and the kind of the first two words
 abbrev pub who_with : Option Key → Option ℕ → Option Who
@@ -99,7 +103,8 @@ between who None after words = None
 abbrev pub told_of : Named → Option Who → List (List ℕ) → Option ItemLine
 told_of names None words = None
 told_of names (Some who) words =
-    between who (state_of names who.key.role words) (state_of names who.key.role (rest_of words)) (rest_of (rest_of words))
+    between who (state_of names who.key.role words) (state_of names who.key.role (rest_of words))
+    (rest_of (rest_of words))
 
 -- what the words behind two blanks tell
 abbrev pub items_in : Named → List (List ℕ) → Option ItemLine

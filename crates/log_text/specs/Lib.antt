@@ -1,3 +1,4 @@
+-- The definitions that the contracts of log_text speak of.
 pub mod Books
 pub mod EntryLines
 pub mod ItemLines

@@ -33,7 +33,8 @@ pub record Follows (names : Named) (before : List (List ℕ)) (line : List ℕ) 
 
 -- each line may follow those before it
 abbrev pub AreGood : Named → List (List ℕ) → Type 0
-AreGood names lines = (place : ℕ) → place < length lines → Follows names (take place lines) (slice_index_or lines place [])
+AreGood names lines =
+    (place : ℕ) → place < length lines → Follows names (take place lines) (slice_index_or lines place [])
 
 -- The first bad line. The lines before it are a log's text, and behind that it can't stand.
 pub record IsFirstBad (names : Named) (text : List ℕ) (number : ℕ) : Type 0 where

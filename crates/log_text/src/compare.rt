@@ -26,7 +26,8 @@ use tab_law::Deed;
 
 /// A name, or the number where there is none.
 fn compare_name(matcher: &mut Matcher<'_>, name: Option<&[u8]>, number: u64)
-    ensures { left_of matcher.new ≡ without (name_or (option_map (λ name. name.now) name.entry) number) (left_of matcher.old) }
+    ensures { left_of matcher.new
+        ≡ without (name_or (option_map (λ name. name.now) name.entry) number) (left_of matcher.old) }
 {
     match name {
         Some(name) => matcher.put(name),
@@ -54,7 +55,8 @@ fn compare_row(matcher: &mut Matcher<'_>, row: Option<u16>)
 
 /// Which machine, and of its event the kind.
 fn compare_who(matcher: &mut Matcher<'_>, names: &NameBook<'_>, who: &ShownWho<'_>)
-    ensures { left_of matcher.new ≡ without (item_text (named names.now) (who_shown who.now).key (who_shown who.now).kind) (left_of matcher.old) }
+    ensures { left_of matcher.new
+        ≡ without (item_text (named names.now) (who_shown who.now).key (who_shown who.now).kind) (left_of matcher.old) }
 {
     matcher.put(b" ");
     compare_key(matcher, &who.key);
@@ -122,7 +124,8 @@ fn without_last_zeros(values: &[u64]) -> &[u64]
 
 /// Each value behind a blank.
 fn compare_values(matcher: &mut Matcher<'_>, values: &[u64])
-    ensures { left_of matcher.new ≡ without (flat_map (λ value. codes " " ++ decimal value) values.now) (left_of matcher.old) }
+    ensures { left_of matcher.new
+        ≡ without (flat_map (λ value. codes " " ++ decimal value) values.now) (left_of matcher.old) }
 {
     for value in values {
         matcher.put_number(b" ", *value);

@@ -4,7 +4,8 @@ ghost use Rattle.std.specs.List.{find};
 ghost use Rattle.std.specs.Str.{bytes_eq};
 ghost use Rattle.base_codes.specs.DeedCodes.{name_of};
 ghost use Rattle.text_parts.specs.Pieces.{pieces_in, pieces_left};
-ghost use Rattle.log_text.specs.DeedLines.{IsDeedLine, IsDeedOf, args_of, behind_stop, code_of, deed_in, guess_deed, named_code, outcome_behind, outcome_of, stop_of};
+ghost use Rattle.log_text.specs.DeedLines.{IsDeedLine, IsDeedOf, args_of, behind_stop, code_of, deed_in, guess_deed};
+ghost use Rattle.log_text.specs.DeedLines.{named_code, outcome_behind, outcome_of, stop_of};
 
 use crate::compare::has_deed_line;
 use acct_totals::Outcome;
@@ -81,7 +82,8 @@ fn code_of(word: &[u8]) -> Option<u16>
     }
 }
 
-/// The numbers of the words up to the first that is none, and that word. What isn't there is 0, and what has no place is left out.
+/// The numbers of the words up to the first that is none, and that word.
+/// What isn't there is 0, and what has no place is left out.
 fn args_of<'a>(words: &mut Pieces<'a>) -> ([u64; PLACES], Option<&'a [u8]>)
     ensures args { result.0 ≡ args_of (pieces_left words.old) }
     ensures stop { option_map (λ word. word.now) result.1 ≡ stop_of (pieces_left words.old) }

@@ -16,7 +16,7 @@ use step_text::{ShownStep, find_step};
 
 /// What one line tells.
 #[derive(Drop)]
-pub(crate) enum Told<'a> {
+pub(crate) enum LogLine<'a> {
     Step(ShownStep<'a>),
     Item(ShownItem<'a>),
     Deed(DeedLine),
@@ -82,7 +82,7 @@ impl End {
     }
 
     /// The step that a line tells, if it may.
-    fn next_step<'a>(&mut self, names: &NameBook<'_>, line: &'a [u8]) -> Option<Told<'a>>
+    fn next_step<'a>(&mut self, names: &NameBook<'_>, line: &'a [u8]) -> Option<LogLine<'a>>
         requires { begins_blank line.now ≡ false }
         ensures told { IfSome result (λ told. IsTold (named names.now) self.old line.now told) }
         ensures end { IfSome result (λ told. self.new ≡ end_after self.old told) }
@@ -94,11 +94,11 @@ impl End {
         let step = find_step(names.laws, names.machines, line)?;
         self.entries += 1;
         self.last = last_step(&step);
-        Some(Told::Step(step))
+        Some(LogLine::Step(step))
     }
 
     /// What one more line without its newline tells, if it may stand there.
-    pub(crate) fn next<'a>(&mut self, names: &NameBook<'_>, line: &'a [u8]) -> Option<Told<'a>>
+    pub(crate) fn next<'a>(&mut self, names: &NameBook<'_>, line: &'a [u8]) -> Option<LogLine<'a>>
         ensures told { IfSome result (λ told. IsTold (named names.now) self.old line.now told) }
         ensures end { IfSome result (λ told. self.new ≡ end_after self.old told) }
         ensures none { IfNone result (AreWords (named names.now) → MayStandAt (named names.now) self.old line.now → ⊥) }
@@ -110,9 +110,9 @@ impl End {
             Last::Waiting => {
                 let item = find_item(names, line)?;
                 self.last = last_item(&item);
-                Some(Told::Item(item))
+                Some(LogLine::Item(item))
             }
-            Last::Moved => Some(Told::Deed(find_deed(line)?)),
+            Last::Moved => Some(LogLine::Deed(find_deed(line)?)),
             Last::Other => None,
         }
     }

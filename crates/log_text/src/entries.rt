@@ -3,7 +3,8 @@ ghost use Rattle.std.specs.Prelude.{◌≡◌, ◌++◌, OnOk, slice_get};
 ghost use Rattle.std.specs.List.{flat_map};
 ghost use Rattle.std.specs.Option.{option_map};
 ghost use Rattle.log_text.specs.Books.{named};
-ghost use Rattle.log_text.specs.EntryLines.{below, entry_lines, handled_lines, is_work, item_text, log_lines, move_lines, moved_line, row_text, stale_line, state_text};
+ghost use Rattle.log_text.specs.EntryLines.{below, entry_lines, handled_lines, is_work, item_text, log_lines};
+ghost use Rattle.log_text.specs.EntryLines.{move_lines, moved_line, row_text, stale_line, state_text};
 
 use crate::book::NameBook;
 use crate::deeds::put_deed_lines;
@@ -65,7 +66,8 @@ pub(crate) fn put_moved(
     after: u8,
     row: Option<u16>,
 ) -> Result<(), AllocError>
-    ensures { OnOk result (out.new.items ≡ out.old.items ++ moved_line (named names.now) key.now kind before after row) }
+    ensures { OnOk result (out.new.items
+        ≡ out.old.items ++ moved_line (named names.now) key.now kind before after row) }
 {
     put_item(out, names, key, kind)?;
     put_state(out, names, key.role, before)?;
@@ -147,7 +149,8 @@ fn put_below(
     handled: Option<&Handled>,
 ) -> Result<(), AllocError>
     ensures { OnOk result (out.new.items ≡ out.old.items
-        ++ below (named names.now) step.now (option_map (λ item. item.now) item.entry) (option_map (λ handled. handled.now) handled.entry)) }
+        ++ below (named names.now) step.now (option_map (λ item. item.now) item.entry)
+        (option_map (λ handled. handled.now) handled.entry)) }
 {
     if !is_work(step) {
         return Ok(());

@@ -22,9 +22,9 @@ fn front_of(text: &[u8]) -> &[u8]
     }
 }
 
-/// The log whose text this is; the newline of its last line may be missing. A line is bad that no log has behind the lines before
-/// it, or that would be one entry too many. What a text doesn't tell is 0 in the entries: facts, registers, numbers of machines; the
-/// registers after each action are not there.
+/// The log whose text this is; the newline of its last line may be missing. A line is bad that no log has behind the
+/// lines before it, or that would be one entry too many. What a text doesn't tell is 0 in the entries: facts,
+/// registers, numbers of machines; the registers after each action are not there.
 pub fn read_log(alloc: Global, names: &NameBook<'_>, text: &[u8]) -> Result<Log, LinesError>
     ensures ok { IfOk result (λ log. log_lines (named names.now) log.entries ≡ whole text.now) }
     ensures fault { IfErr result (λ fault. IsFaultOf (named names.now) text.now fault) }

@@ -1,14 +1,15 @@
 //! The entries of a text's lines, one line after another.
 ghost use Rattle.std.specs.Prelude.{◌≡◌, ◌∷◌, ◌++◌, [], false, None, IfOk, OnOk, map, replicate};
 ghost use Rattle.step_text.specs.Shown.{step_shown};
-ghost use Rattle.log_text.specs.Following.{begun_of, entries_of, entry_of, so_far, told_to, with_deed, with_item, with_step};
+ghost use Rattle.log_text.specs.Following.{begun_of, entries_of, entry_of, so_far, told_to};
+ghost use Rattle.log_text.specs.Following.{with_deed, with_item, with_step};
 ghost use Rattle.log_text.specs.Following.{item_of, move_of, nobody, outcomes_of};
 ghost use Rattle.log_text.specs.Shown.{item_shown};
 ghost use Rattle.tab_law.specs.declared.limits.TheConstants.{PLACES};
 
 use crate::deed_line::DeedLine;
 use crate::deeds::is_booking;
-use crate::end::Told;
+use crate::end::LogLine;
 use crate::item::{ItemLine, ShownItem, Who};
 use crate::pending::{Pending, Reader};
 use acct_totals::Outcome;
@@ -237,18 +238,18 @@ impl Reader {
     }
 
     /// Takes what one more line tells.
-    fn put(&mut self, alloc: Global, told: &Told<'_>) -> Result<(), AllocError>
+    fn put(&mut self, alloc: Global, told: &LogLine<'_>) -> Result<(), AllocError>
         ensures { OnOk result (so_far self.new ≡ told_to (so_far self.old) told.now) }
     {
         match told {
-            Told::Step(step) => self.put_step(alloc, step),
-            Told::Item(item) => self.put_item(alloc, item),
-            Told::Deed(deed) => self.put_deed(deed),
+            LogLine::Step(step) => self.put_step(alloc, step),
+            LogLine::Item(item) => self.put_item(alloc, item),
+            LogLine::Deed(deed) => self.put_deed(deed),
         }
     }
 
     /// Takes what one more line tells, where memory did not run out. Answers whether it did by now.
-    pub(crate) fn take(&mut self, alloc: Global, told: &Told<'_>, short: bool) -> bool
+    pub(crate) fn take(&mut self, alloc: Global, told: &LogLine<'_>, short: bool) -> bool
         ensures before { result ≡ false → short ≡ false }
         ensures taken { result ≡ false → so_far self.new ≡ told_to (so_far self.old) told.now }
     {

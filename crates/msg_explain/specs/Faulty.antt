@@ -1,10 +1,14 @@
 -- What is wrong with a message, and which of its AVPs it is.
-use Rattle.std.specs.Prelude.{ℕ, ◌==◌, ◌&&◌, not, Bool, true, false, List, [], ◌++◌, codes, decimal, Option, None, Some, Result, Ok, Err}
+use Rattle.std.specs.Prelude.{ℕ, ◌==◌, ◌&&◌, not, Bool, true, false, List, [], ◌++◌, codes, decimal, Option, None, Some}
+use Rattle.std.specs.Prelude.{Result, Ok, Err}
 use Rattle.std.specs.Option.{option_map}
 use Rattle.std.specs.List.{find}
 use Rattle.std.specs.Str.{bytes_eq}
 use Rattle.base_codes.specs.declared.result_code.ResultCode.{ResultCode}
-use Rattle.base_codes.specs.declared.result_code.ResultCode.TheVariants.{CommandUnsupported, ApplicationUnsupported, AvpUnsupported, InvalidAvpValue, MissingAvp, UnsupportedVersion, UnableToComply, InvalidAvpLength, InvalidMessageLength}
+use Rattle.base_codes.specs.declared.result_code.ResultCode.TheVariants.{CommandUnsupported, ApplicationUnsupported}
+use Rattle.base_codes.specs.declared.result_code.ResultCode.TheVariants.{AvpUnsupported, InvalidAvpValue, MissingAvp}
+use Rattle.base_codes.specs.declared.result_code.ResultCode.TheVariants.{UnsupportedVersion, UnableToComply}
+use Rattle.base_codes.specs.declared.result_code.ResultCode.TheVariants.{InvalidAvpLength, InvalidMessageLength}
 use Rattle.base_codes.specs.ResultCodes.{number_of, name_of}
 use Rattle.dia_avp.specs.declared.avp.Avp.{Avp}
 use Rattle.dia_avp.specs.declared.fault.FaultCode.{FaultCode}
@@ -40,7 +44,8 @@ is_bad_length fault = false
 
 -- whether an AVP's data, if it is no group, have a size that their type doesn't have
 abbrev pub is_ill_sized : List Definition → Avp → Bool
-is_ill_sized definitions a = is_bad_length (fault_of definitions a) && not (is_grouped (definition_of definitions a.code a.vendor))
+is_ill_sized definitions a =
+    is_bad_length (fault_of definitions a) && not (is_grouped (definition_of definitions a.code a.vendor))
 
 -- whether two AVPs have one code and vendor
 abbrev pub same_code : Avp → Avp → Bool
@@ -80,7 +85,8 @@ vendor_of_text (Some vendor) = codes "/" ++ decimal vendor
 -- `: AVP 416 CC-Request-Type`
 unfoldable pub avp_title : List Definition → Avp → List ℕ
 avp_title definitions a =
-    codes ": AVP " ++ decimal a.code ++ vendor_of_text a.vendor ++ codes " " ++ name_text (definition_of definitions a.code a.vendor)
+    codes ": AVP " ++ decimal a.code ++ vendor_of_text a.vendor
+    ++ codes " " ++ name_text (definition_of definitions a.code a.vendor)
 
 -- an AVP of a fault, and where it begins in its message
 unfoldable pub failed_avp_text : List Definition → ResultCode → Avp → List Piece → List ℕ
@@ -102,4 +108,5 @@ message_place line number offset = codes " in " ++ numbered line number offset
 -- the line of a message's fault
 unfoldable pub fault_line : List Definition → Option ℕ → ℕ → ℕ → List Piece → MsgFault → List ℕ
 fault_line definitions line number offset pieces f =
-    fault_name f.result ++ message_place line number offset ++ reason f.result ++ failed_text definitions f.result f.failed pieces ++ codes "\n"
+    fault_name f.result ++ message_place line number offset
+    ++ reason f.result ++ failed_text definitions f.result f.failed pieces ++ codes "\n"

@@ -1,9 +1,11 @@
 -- The line of an AVP: where it lies, its code, name, flags, length and value.
-use Rattle.std.specs.Prelude.{ℕ, ◌*◌, ◌-◌, min, nat_lt, ◌&&◌, List, [], ◌∷◌, ◌++◌, take, drop, slice_index, codes, decimal, Option, None, Some, Result, Ok, Err, if◌then◌else◌}
+use Rattle.std.specs.Prelude.{ℕ, ◌*◌, ◌-◌, min, nat_lt, ◌&&◌, List, [], ◌∷◌, ◌++◌, take, drop, slice_index, codes}
+use Rattle.std.specs.Prelude.{decimal, Option, None, Some, Result, Ok, Err, if◌then◌else◌}
 use Rattle.byteorder.specs.Endian.{big_number}
 use Rattle.dia_avp.specs.declared.avp.Avp.{Avp}
 use Rattle.dia_avp.specs.declared.fault.FaultCode.{FaultCode}
-use Rattle.dia_avp.specs.declared.fault.FaultCode.TheVariants.{ShortHeader, LengthBelowHeader, PastEnd, TooMany, TooDeep}
+use Rattle.dia_avp.specs.declared.fault.FaultCode.TheVariants.{ShortHeader, LengthBelowHeader, PastEnd}
+use Rattle.dia_avp.specs.declared.fault.FaultCode.TheVariants.{TooMany, TooDeep}
 use Rattle.dia_avp.specs.Avps.{has_flag}
 use Rattle.dia_avp.specs.Reading.{avp_at}
 use Rattle.dia_dict.specs.declared.definition.Definition.{Definition}
@@ -33,7 +35,8 @@ flag_letters flags = flag_letter flags 128 86 ∷ flag_letter flags 64 77 ∷ fl
 
 -- `/10415` with flag V
 unfoldable pub vendor_text : List ℕ → List ℕ
-vendor_text octets = if has_flag 128 (slice_index octets 4) then codes "/" ++ decimal (big_number 4 (drop 8 octets)) else []
+vendor_text octets =
+    if has_flag 128 (slice_index octets 4) then codes "/" ++ decimal (big_number 4 (drop 8 octets)) else []
 
 -- the name of the dictionary
 abbrev pub name_text : Option Definition → List ℕ
@@ -47,7 +50,8 @@ code_text definition octets = decimal (big_number 4 octets) ++ vendor_text octet
 -- `264 Origin-Host -M- 17`
 unfoldable pub title_text : Option Definition → List ℕ → List ℕ
 title_text definition octets =
-    code_text definition octets ++ codes " " ++ flag_letters (slice_index octets 4) ++ codes " " ++ decimal (length_at octets)
+    code_text definition octets ++ codes " "
+    ++ flag_letters (slice_index octets 4) ++ codes " " ++ decimal (length_at octets)
 
 -- what the data says, by the names that were added, behind one blank; a group that is opened has its AVPs below
 unfoldable pub data_text : List Naming → Option Definition → ℕ → List ℕ → List ℕ
@@ -72,8 +76,10 @@ front_text namings definitions room octets (Ok x) =
     let definition = definition_of definitions x.0.code x.0.vendor in
     title_text definition octets ++ data_text namings definition room x.0.octets
 front_text namings definitions room octets (Err code) =
-    title_text (definition_of definitions (cut_avp octets).code (cut_avp octets).vendor) octets ++ broken_text code octets
+    title_text (definition_of definitions (cut_avp octets).code (cut_avp octets).vendor) octets
+    ++ broken_text code octets
 
 -- the line of a part
 unfoldable pub part_line : List Naming → List Definition → Piece → List ℕ
-part_line namings definitions p = place_text p ++ front_text namings definitions p.room p.octets (avp_at p.octets) ++ codes "\n"
+part_line namings definitions p =
+    place_text p ++ front_text namings definitions p.room p.octets (avp_at p.octets) ++ codes "\n"

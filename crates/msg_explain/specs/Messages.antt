@@ -1,11 +1,12 @@
 -- The line of a message: its number, where it begins, its command, header and session.
-use Rattle.std.specs.Prelude.{ℕ, nat_lt, List, [], ◌∷◌, ◌++◌, length, drop, slice_index, codes, decimal, Option, None, Some, if◌then◌else◌}
+use Rattle.std.specs.Prelude.{ℕ, nat_lt, List, [], ◌∷◌, ◌++◌, length, drop, slice_index, codes, decimal, Option}
+use Rattle.std.specs.Prelude.{None, Some, if◌then◌else◌}
 use Rattle.std.specs.Option.{option_map}
 use Rattle.std.specs.List.{find}
 use Rattle.std.specs.Borrow.{Bor}
 use Rattle.dia_avp.specs.declared.avp.Avp.{Avp}
 use Rattle.dia_avp.specs.Reading.{avps_in}
-use Rattle.dia_tree.specs.Faults.{is_coded}
+use Rattle.dia_avp.specs.Look.{is_coded}
 use Rattle.dia_command.specs.declared.header.Header.{Header}
 use Rattle.dia_command.specs.Header.{header_in}
 use Rattle.dia_show.specs.Names.{command_text}
@@ -43,12 +44,14 @@ numbered line number offset =
 -- `CCR Credit-Control-Request RP--`
 unfoldable pub command_line : List ℕ → List ℕ
 command_line octets =
-    command_text (header_in octets).command (header_in octets).flags.request ++ codes " " ++ header_letters (slice_index octets 4)
+    command_text (header_in octets).command (header_in octets).flags.request
+    ++ codes " " ++ header_letters (slice_index octets 4)
 
 -- `, version 1, length 84, command 272`
 unfoldable pub front_fields : ℕ → Header → List ℕ
 front_fields version h =
-    codes ", version " ++ decimal version ++ codes ", length " ++ decimal h.length ++ codes ", command " ++ decimal h.command
+    codes ", version " ++ decimal version ++ codes ", length "
+    ++ decimal h.length ++ codes ", command " ++ decimal h.command
 
 -- `, application 4`
 unfoldable pub application_text : Header → List ℕ
@@ -69,7 +72,8 @@ short_text octets = codes "no whole header " ++ octets_text octets
 -- a whole header: command, flags, and each field, and the session behind them
 unfoldable pub whole_text : List ℕ → List ℕ
 whole_text octets =
-    command_line octets ++ fields_text (slice_index octets 0) (header_in octets) ++ session_text (session_in (drop 20 octets))
+    command_line octets ++ fields_text (slice_index octets 0) (header_in octets)
+    ++ session_text (session_in (drop 20 octets))
 
 -- a message's header (RFC 6733 section 3), or its octets where they are no whole header
 abbrev pub header_text : List ℕ → List ℕ

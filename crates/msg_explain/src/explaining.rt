@@ -21,7 +21,8 @@ fn put_avps(
     parts: &[Part<'_>],
 ) -> Result<(), AllocError>
     requires { map seen_part parts.now ≡ message_parts (known glossary.now.definitions) octets.now }
-    ensures { OnOk result (out.new.items ≡ out.old.items ++ avp_lines glossary.now.namings (known glossary.now.definitions) octets.now) }
+    ensures { OnOk result (out.new.items
+        ≡ out.old.items ++ avp_lines glossary.now.namings (known glossary.now.definitions) octets.now) }
 {
     put_parts(out, glossary, parts)
 }
@@ -37,7 +38,8 @@ fn put_end(
     parts: &[Part<'_>],
 ) -> Result<bool, AllocError>
     requires { map seen_part parts.now ≡ message_parts (known dictionary.now) octets.now }
-    ensures { IfOk result (λ refused. (text : List ℕ) × Concludes (known dictionary.now) line number offset octets.now text refused
+    ensures { IfOk result (λ refused. (text : List ℕ)
+        × Concludes (known dictionary.now) line number offset octets.now text refused
         × (out.new.items ≡ out.old.items ++ text)) }
 {
     match read_message(*out.allocator(), dictionary, octets) {
@@ -50,8 +52,9 @@ fn put_end(
     }
 }
 
-/// Puts what a message says, the `number`th of an input, which begins at `offset` in it, or in this line of it: a line with its header, one for each AVP in
-/// the order of the octets, groups opened, and one for its fault, where it has one. Says whether it has one.
+/// Puts what a message says, the `number`th of an input, which begins at `offset` in it, or in this line of it: a line
+/// with its header, one for each AVP in the order of the octets, groups opened, and one for its fault, where it has
+/// one. Says whether it has one.
 pub fn explain(
     out: &mut Vec<u8>,
     glossary: &Glossary,
@@ -61,7 +64,8 @@ pub fn explain(
     octets: &[u8],
 ) -> Result<bool, AllocError>
     requires { length octets.now < 2 ^ 32 }
-    ensures { IfOk result (λ refused. (text : List ℕ) × Explains glossary.now.namings (known glossary.now.definitions) line number offset octets.now text refused
+    ensures { IfOk result (λ refused. (text : List ℕ)
+        × Explains glossary.now.namings (known glossary.now.definitions) line number offset octets.now text refused
         × (out.new.items ≡ out.old.items ++ text)) }
 {
     let dictionary = glossary.definitions();

@@ -5,7 +5,9 @@ ghost use Rattle.dia_avp.specs.Reading.{avp_at};
 ghost use Rattle.dia_dict.specs.Dictionary.{known, definition_of};
 ghost use Rattle.msg_explain.specs.Parts.{seen_part};
 ghost use Rattle.msg_explain.specs.Lines.{name_text};
-ghost use Rattle.msg_explain.specs.Faulty.{reason, is_ill_sized, same_code, is_wrong_length, is_failed_itself, is_failed, failed_place, at_text, vendor_of_text, avp_title, failed_avp_text, failed_text, fault_name, message_place, fault_line};
+ghost use Rattle.msg_explain.specs.Faulty.{reason, is_ill_sized, same_code, is_wrong_length, is_failed_itself};
+ghost use Rattle.msg_explain.specs.Faulty.{is_failed, failed_place, at_text, vendor_of_text, avp_title};
+ghost use Rattle.msg_explain.specs.Faulty.{failed_avp_text, failed_text, fault_name, message_place, fault_line};
 
 use crate::lines::put_name;
 use crate::messages::put_numbered;
@@ -141,7 +143,8 @@ fn put_failed_avp(
     failed: &AvpView<'_>,
     parts: &[Part<'_>],
 ) -> Result<(), AllocError>
-    ensures { OnOk result (out.new.items ≡ out.old.items ++ failed_avp_text (known dictionary.now) code (seen failed.now) (map seen_part parts.now)) }
+    ensures { OnOk result (out.new.items
+        ≡ out.old.items ++ failed_avp_text (known dictionary.now) code (seen failed.now) (map seen_part parts.now)) }
 {
     put_avp_title(out, dictionary, failed)?;
     put_at(out, failed_place(dictionary, code, failed, parts))
@@ -154,7 +157,8 @@ fn put_failed(
     failed: &Option<Avp>,
     parts: &[Part<'_>],
 ) -> Result<(), AllocError>
-    ensures { OnOk result (out.new.items ≡ out.old.items ++ failed_text (known dictionary.now) code failed.now (map seen_part parts.now)) }
+    ensures { OnOk result (out.new.items
+        ≡ out.old.items ++ failed_text (known dictionary.now) code failed.now (map seen_part parts.now)) }
 {
     match failed {
         None => Ok(()),
@@ -195,7 +199,8 @@ pub(crate) fn put_fault_line(
     parts: &[Part<'_>],
     fault: &MsgFault,
 ) -> Result<(), AllocError>
-    ensures { OnOk result (out.new.items ≡ out.old.items ++ fault_line (known dictionary.now) line number offset (map seen_part parts.now) fault.now) }
+    ensures { OnOk result (out.new.items
+        ≡ out.old.items ++ fault_line (known dictionary.now) line number offset (map seen_part parts.now) fault.now) }
 {
     put_fault_name(out, fault.result)?;
     put_message_place(out, line, number, offset)?;

@@ -6,7 +6,9 @@ ghost use Rattle.dia_avp.specs.Reading.{avp_at};
 ghost use Rattle.dia_tree.specs.Kind.{is_grouped};
 ghost use Rattle.dia_dict.specs.Dictionary.{known};
 ghost use Rattle.msg_explain.specs.Parts.{seen_part};
-ghost use Rattle.msg_explain.specs.Lines.{indent, place_text, flag_letter, flag_letters, vendor_text, name_text, code_text, title_text, data_text, broken_words, broken_text, front_text, part_line};
+ghost use Rattle.msg_explain.specs.Lines.{indent, place_text, flag_letter, flag_letters, vendor_text, name_text};
+ghost use Rattle.msg_explain.specs.Lines.{code_text, title_text, data_text, broken_words};
+ghost use Rattle.msg_explain.specs.Lines.{broken_text, front_text, part_line};
 
 use crate::parts::{Part, length_at};
 use base_text::put_number;
@@ -111,7 +113,8 @@ fn put_data(
     room: u8,
     octets: &[u8],
 ) -> Result<(), AllocError>
-    ensures { OnOk result (out.new.items ≡ out.old.items ++ data_text glossary.now.namings (option_copied definition.entry) room octets.now) }
+    ensures { OnOk result (out.new.items
+        ≡ out.old.items ++ data_text glossary.now.namings (option_copied definition.entry) room octets.now) }
 {
     if is_group(definition) && room > 0 {
         return Ok(());
@@ -151,7 +154,8 @@ fn put_front(
     room: u8,
     octets: &[u8],
 ) -> Result<(), AllocError>
-    ensures { OnOk result (out.new.items ≡ out.old.items ++ front_text glossary.now.namings (known glossary.now.definitions) room octets.now (avp_at octets.now)) }
+    ensures { OnOk result (out.new.items ≡ out.old.items
+        ++ front_text glossary.now.namings (known glossary.now.definitions) room octets.now (avp_at octets.now)) }
 {
     match avp_at(octets) {
         Ok((avp, _)) => {
@@ -173,7 +177,8 @@ fn put_front(
 
 #[tactic(auto, unfolding(crate::specs::Lines::part_line))]
 fn put_part(out: &mut Vec<u8>, glossary: &Glossary, part: &Part<'_>) -> Result<(), AllocError>
-    ensures { OnOk result (out.new.items ≡ out.old.items ++ part_line glossary.now.namings (known glossary.now.definitions) (seen_part part.now)) }
+    ensures { OnOk result (out.new.items
+        ≡ out.old.items ++ part_line glossary.now.namings (known glossary.now.definitions) (seen_part part.now)) }
 {
     put_place(out, part)?;
     put_front(out, glossary, part.room, part.octets)?;
@@ -186,7 +191,8 @@ pub(crate) fn put_parts(
     glossary: &Glossary,
     parts: &[Part<'_>],
 ) -> Result<(), AllocError>
-    ensures { OnOk result (out.new.items ≡ out.old.items ++ flat_map (part_line glossary.now.namings (known glossary.now.definitions)) (map seen_part parts.now)) }
+    ensures { OnOk result (out.new.items ≡ out.old.items
+        ++ flat_map (part_line glossary.now.namings (known glossary.now.definitions)) (map seen_part parts.now)) }
 {
     for part in parts {
         put_part(out, glossary, part)?;

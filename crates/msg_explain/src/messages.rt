@@ -1,12 +1,14 @@
 //! The line of a message.
 ghost use Rattle.std.specs.Prelude.{◌≡◌, ◌≤◌, ◌++◌, OnOk, length};
 ghost use Rattle.dia_command.specs.Header.{header_in};
-ghost use Rattle.msg_explain.specs.Messages.{header_letters, session_in, session_text, numbered, of_line, command_line, front_fields, application_text, identifiers, fields_text, short_text, whole_text, header_text, message_line, bytes_of};
+ghost use Rattle.msg_explain.specs.Messages.{header_letters, session_in, session_text, numbered, of_line, command_line};
+ghost use Rattle.msg_explain.specs.Messages.{front_fields, application_text, identifiers, fields_text, short_text};
+ghost use Rattle.msg_explain.specs.Messages.{whole_text, header_text, message_line, bytes_of};
 
 use crate::lines::flag_letter;
 use base_codes::{HEADER_LEN, avp_code};
 use base_text::put_number;
-use dia_avp::first_avp;
+use dia_avp::first_in;
 use dia_command::{Header, header_of};
 use dia_show::{put_command, put_octets, put_quoted};
 use std::alloc::AllocError;
@@ -27,14 +29,10 @@ fn put_letters(out: &mut Vec<u8>, flags: u8) -> Result<(), AllocError>
 pub fn session_in(octets: &[u8]) -> Option<&[u8]>
     ensures { bytes_of result ≡ session_in octets.now }
 {
-    let mut rest = octets;
-    while let Ok((avp, after)) = first_avp(rest) {
-        if avp.code == avp_code::SESSION_ID && avp.vendor.is_none() {
-            return Some(avp.octets);
-        }
-        rest = after;
+    match first_in(octets, avp_code::SESSION_ID) {
+        Some(avp) => Some(avp.octets),
+        None => None,
     }
-    None
 }
 
 fn put_session(out: &mut Vec<u8>, session: Option<&[u8]>) -> Result<(), AllocError>

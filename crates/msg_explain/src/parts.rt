@@ -12,8 +12,8 @@ use std::alloc::{AllocError, Global};
 /// How many AVPs most messages have at most.
 const FEW_PARTS: usize = 32;
 
-/// An AVP in a message: where it begins, how many levels of groups it may still open, and the octets from it to the end of its
-/// list.
+/// An AVP in a message: where it begins, how many levels of groups it may still open,
+/// and the octets from it to the end of its list.
 #[derive(Clone, Copy)]
 pub struct Part<'a> {
     pub place: usize,
@@ -38,7 +38,8 @@ fn list_parts<'a>(
     list: &mut Vec<Part<'a>>,
 ) -> Result<(), AllocError>
     requires { end + room * 2 ^ 24 < 2 ^ 63 }
-    ensures { OnOk result (map seen_part list.new.items ≡ map seen_part list.old.items ++ parts (known dictionary.now) room end octets.now) }
+    ensures { OnOk result (map seen_part list.new.items
+        ≡ map seen_part list.old.items ++ parts (known dictionary.now) room end octets.now) }
 {
     let mut rest = octets;
     while !rest.is_empty() {

@@ -1,5 +1,6 @@
 -- What is printed of an input whose lines are each an input by itself.
-use Rattle.std.specs.Prelude.{◌≡◌, ◌≢◌, ◌≤◌, ◌||◌, ℕ, ◌+◌, Bool, true, false, List, [], ◌∷◌, ◌++◌, length, Option, Some, All}
+use Rattle.std.specs.Prelude.{◌≡◌, ◌≢◌, ◌≤◌, ◌||◌, ℕ, ◌+◌, Bool, true, false, List, [], ◌∷◌, ◌++◌, length}
+use Rattle.std.specs.Prelude.{Option, Some, All}
 use Rattle.std.specs.List.{flat_map}
 use Rattle.msg_input.specs.Inputs.{IsPrintedOf}
 use Rattle.msg_input.specs.Printed.{Saying}
@@ -32,10 +33,11 @@ LineSaying = ℕ → Saying
 abbrev pub says_by : (Option ℕ → Saying) → LineSaying
 says_by says number = says (Some number)
 
--- The text of a line: what reading it as an input by itself prints, its first message having the number behind that of the last one before,
--- and then what is told of its end; whether it tells a fault; and the number of its last message. So many lines stand before it, and so
--- many messages in them.
-pub record PrintsLine (says : LineSaying) (told : ℕ → End → Place → List ℕ) (before first : ℕ) (line text : List ℕ) (refused : Bool) (last : ℕ) : Type 0 where
+-- The text of a line: what reading it as an input by itself prints, its first message having the number behind that of
+-- the last one before, and then what is told of its end; whether it tells a fault; and the number of its last message.
+-- So many lines stand before it, and so many messages in them.
+pub record PrintsLine (says : LineSaying) (told : ℕ → End → Place → List ℕ) (before first : ℕ) (line text : List ℕ)
+    (refused : Bool) (last : ℕ) : Type 0 where
   pub lines : List ℕ
   pub end : End
   pub faulty : Bool
@@ -46,7 +48,8 @@ pub record PrintsLine (says : LineSaying) (told : ℕ → End → Place → List
   pub counted : last ≡ place.messages
 
 -- the texts of lines in their order, whether one of them tells a fault, and the number of the last message
-abbrev pub PrintsLines : LineSaying → (ℕ → End → Place → List ℕ) → (before first : ℕ) → List (List ℕ) → List ℕ → Bool → (last : ℕ) → Type 0
+abbrev pub PrintsLines : LineSaying → (ℕ → End → Place → List ℕ)
+    → (before first : ℕ) → List (List ℕ) → List ℕ → Bool → (last : ℕ) → Type 0
 PrintsLines says told before first [] text refused last = (text ≡ []) × (refused ≡ false) × (last ≡ first)
 PrintsLines says told before first (line ∷ lines) text refused last =
     (front : List ℕ) × (fault : Bool) × (others : List ℕ) × (faults : Bool) × (between : ℕ)
@@ -56,7 +59,8 @@ PrintsLines says told before first (line ∷ lines) text refused last =
     × (refused ≡ (fault || faults))
 
 -- The text has these lines, each with its newline, whose texts are these, and then a line that isn't ended.
-pub record FrontLines (says : LineSaying) (told : ℕ → End → Place → List ℕ) (text printed : List ℕ) (refused : Bool) : Type 0 where
+pub record FrontLines (says : LineSaying) (told : ℕ → End → Place → List ℕ) (text printed : List ℕ)
+    (refused : Bool) : Type 0 where
   pub lines : List (List ℕ)
   pub last : List ℕ
   pub joined : text ≡ ended lines ++ last
@@ -66,7 +70,8 @@ pub record FrontLines (says : LineSaying) (told : ℕ → End → Place → List
   pub texts : PrintsLines says told 0 0 lines printed refused count
 
 -- The same, and the last line, which has no newline, is printed too.
-pub record AllLines (says : LineSaying) (told : ℕ → End → Place → List ℕ) (text printed : List ℕ) (refused : Bool) : Type 0 where
+pub record AllLines (says : LineSaying) (told : ℕ → End → Place → List ℕ) (text printed : List ℕ)
+    (refused : Bool) : Type 0 where
   pub lines : List (List ℕ)
   pub last : List ℕ
   pub joined : text ≡ ended lines ++ last
@@ -76,7 +81,8 @@ pub record AllLines (says : LineSaying) (told : ℕ → End → Place → List �
   pub texts : PrintsLines says told 0 0 (lines ++ last ∷ []) printed refused count
 
 -- Memory ran out: the lines of a front of the text are printed, without which it has at most 65,536 characters.
-pub record HaltedLines (says : LineSaying) (told : ℕ → End → Place → List ℕ) (text printed : List ℕ) (refused : Bool) : Type 0 where
+pub record HaltedLines (says : LineSaying) (told : ℕ → End → Place → List ℕ) (text printed : List ℕ)
+    (refused : Bool) : Type 0 where
   pub front : List ℕ
   pub back : List ℕ
   pub joined : text ≡ front ++ back
@@ -88,6 +94,7 @@ abbrev pub AreLinesOf : LineSaying → (ℕ → End → Place → List ℕ) → 
 AreLinesOf says told AtEnd text printed Whole refused place = AtEnd × AllLines says told text printed refused
 AreLinesOf says told AtEnd text printed (Refused refusals.BadHex) refused place = ⊥
 AreLinesOf says told AtEnd text printed (Refused (refusals.Frame fault)) refused place = ⊥
-AreLinesOf says told AtEnd text printed (Refused refusals.NoMemory) refused place = HaltedLines says told text printed refused
+AreLinesOf says told AtEnd text printed (Refused refusals.NoMemory) refused place =
+    HaltedLines says told text printed refused
 AreLinesOf says told AtEnd text printed ReadFailed refused place = FrontLines says told text printed refused
 AreLinesOf says told AtEnd text printed TooManyReads refused place = FrontLines says told text printed refused

@@ -15,7 +15,8 @@ use Rattle.msg_input.specs.declared.by_line.ByLine.{ByLine}
 -- a line that is read no further, whatever comes behind
 abbrev pub IsStopped : Saying → ℕ → {M : Type 0} → Reading M → List ℕ → Refusal → Type 0
 IsStopped says first reading line refusals.BadHex = BadText says first line reading.report.out.items (place_of reading)
-IsStopped says first reading line (refusals.Frame fault) = FaultyText says first line reading.report.out.items fault (place_of reading)
+IsStopped says first reading line (refusals.Frame fault) =
+    FaultyText says first line reading.report.out.items fault (place_of reading)
 IsStopped says first reading line refusals.NoMemory = ⊥
 
 -- what ends a line and not all reading
@@ -37,7 +38,8 @@ pub record KeepsTexts {M : Type 0} (old new : ByLine M) : Type 0 where
   pub marked : new.refused ≡ old.refused
 
 -- A line ended: its text came behind the others, and the next one begins.
-pub record Ended (says : LineSaying) (told : ℕ → End → Place → List ℕ) {M : Type 0} (old new : ByLine M) (line : List ℕ) : Type 0 where
+pub record Ended (says : LineSaying) (told : ℕ → End → Place → List ℕ) {M : Type 0} (old new : ByLine M)
+    (line : List ℕ) : Type 0 where
   pub text : List ℕ
   pub refused : Bool
   pub printed : PrintsLine says told old.before old.messages line text refused new.messages
@@ -47,7 +49,8 @@ pub record Ended (says : LineSaying) (told : ℕ → End → Place → List ℕ)
   pub next : IsAlong (says (new.before + 1)) new.messages new.reading [] new.stopped
 
 -- The lines of the text before the last are printed, and the last one is read along.
-pub record LinesSoFar (says : LineSaying) (told : ℕ → End → Place → List ℕ) {M : Type 0} (state : ByLine M) (text written : List ℕ) : Type 0 where
+pub record LinesSoFar (says : LineSaying) (told : ℕ → End → Place → List ℕ) {M : Type 0} (state : ByLine M)
+    (text written : List ℕ) : Type 0 where
   pub lines : List (List ℕ)
   pub last : List ℕ
   pub joined : text ≡ ended lines ++ last
@@ -58,7 +61,8 @@ pub record LinesSoFar (says : LineSaying) (told : ℕ → End → Place → List
   pub along : IsAlong (says (state.before + 1)) state.messages state.reading last state.stopped
 
 -- by what taking a text answered: all of it was taken, or memory ran out behind the lines of a front of it
-abbrev pub TakesLines : LineSaying → (ℕ → End → Place → List ℕ) → {M E : Type 0} → Result (Unit {0}) E → ByLine M → (before text written : List ℕ) → Type 0
+abbrev pub TakesLines : LineSaying → (ℕ → End → Place → List ℕ)
+    → {M E : Type 0} → Result (Unit {0}) E → ByLine M → (before text written : List ℕ) → Type 0
 TakesLines says told (Ok done) new before text written = LinesSoFar says told new (before ++ text) written
 TakesLines says told (Err error) new before text written =
     (front : List ℕ) × (back : List ℕ) × (text ≡ front ++ back)
@@ -70,6 +74,7 @@ end_of (Ok done) = Whole
 end_of (Err error) = Refused refusals.NoMemory
 
 -- by what the end answered: all lines are printed, or those before the last
-abbrev pub AreFinished : LineSaying → (ℕ → End → Place → List ℕ) → {M E : Type 0} → Result (Unit {0}) E → ByLine M → (text written : List ℕ) → Type 0
+abbrev pub AreFinished : LineSaying → (ℕ → End → Place → List ℕ)
+    → {M E : Type 0} → Result (Unit {0}) E → ByLine M → (text written : List ℕ) → Type 0
 AreFinished says told (Ok done) new text written = AllLines says told text (written ++ new.out.items) new.refused
 AreFinished says told (Err error) new text written = FrontLines says told text (written ++ new.out.items) new.refused

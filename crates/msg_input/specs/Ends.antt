@@ -14,7 +14,8 @@ use Rattle.msg_input.specs.declared.ends.EndWords.{EndWords}
 use Rattle.msg_input.specs.declared.ends.End.TheVariants.{Whole, Refused, ReadFailed, TooManyReads}
 
 -- Whole: nothing is left. Read failed: one read failed. Too many: 1,048,576 were made, and none failed.
-abbrev pub EndsBy : {I : Type 0} → (remaining : I → Option (List ℕ)) → (reads failures : I → ℕ) → (old new : I) → End → Type 0
+abbrev pub EndsBy : {I : Type 0} → (remaining : I → Option (List ℕ))
+    → (reads failures : I → ℕ) → (old new : I) → End → Type 0
 EndsBy remaining reads failures old new Whole = IsAtEnd (remaining new) × (failures new ≡ failures old)
 EndsBy remaining reads failures old new (Refused why) = failures new ≡ failures old
 EndsBy remaining reads failures old new ReadFailed = failures new ≡ failures old + 1

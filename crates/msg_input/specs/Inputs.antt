@@ -14,7 +14,8 @@ use Rattle.base_device.specs.declared.status.Status.{Status}
 
 -- The text means some octets and leaves this digit or none; the messages of the octets are printed as these lines, and
 -- their rest, which begins at this place, shows this fault or none (RFC 6733 section 3).
-pub record FrontText (says : Saying) (first : ℕ) (text : List ℕ) (half : Option ℕ) (fault : Option FrameFault) (lines : List ℕ) (place : Place) : Type 0 where
+pub record FrontText (says : Saying) (first : ℕ) (text : List ℕ) (half : Option ℕ) (fault : Option FrameFault)
+    (lines : List ℕ) (place : Place) : Type 0 where
   pub octets : List ℕ
   pub messages : List (List ℕ)
   pub rest : List ℕ
@@ -32,7 +33,8 @@ abbrev pub left_over : List ℕ → List (List ℕ)
 left_over [] = []
 left_over (octet ∷ octets) = (octet ∷ octets) ∷ []
 
--- The whole text means some octets, which show no fault; their messages are printed, and their rest as one message more.
+-- The whole text means some octets, which show no fault;
+-- their messages are printed, and their rest as one message more.
 pub record WholeText (says : Saying) (first : ℕ) (text lines : List ℕ) (refused : Bool) (place : Place) : Type 0 where
   pub octets : List ℕ
   pub messages : List (List ℕ)
@@ -59,7 +61,8 @@ pub record BadText (says : Saying) (first : ℕ) (text lines : List ℕ) (place 
   pub before : FrontText says first front half None lines place
 
 -- A front of the text shows a frame fault; the messages before it are printed.
-pub record FaultyText (says : Saying) (first : ℕ) (text lines : List ℕ) (fault : FrameFault) (place : Place) : Type 0 where
+pub record FaultyText (says : Saying) (first : ℕ) (text lines : List ℕ) (fault : FrameFault)
+    (place : Place) : Type 0 where
   pub front : List ℕ
   pub back : List ℕ
   pub half : Option ℕ
@@ -88,8 +91,8 @@ pub record ShortText (says : Saying) (first : ℕ) (text lines : List ℕ) (refu
   pub frames : Frames (early ++ late) 4096 ((due ++ more) ++ others) rest
   pub printed : PrintsAll says first 0 (due ++ more) lines refused
 
--- Memory ran out: what is printed are the first messages of a front of the text, all but those that its last 4,096 octets
--- end, and behind the front are at most 65,536 characters.
+-- Memory ran out: what is printed are the first messages of a front of the text, all but those that its last 4,096
+-- octets end, and behind the front are at most 65,536 characters.
 pub record HaltedText (says : Saying) (first : ℕ) (text lines : List ℕ) (refused : Bool) : Type 0 where
   pub front : List ℕ
   pub back : List ℕ
@@ -97,23 +100,28 @@ pub record HaltedText (says : Saying) (first : ℕ) (text lines : List ℕ) (ref
   pub near : length back ≤ 65536
   pub before : ShortText says first front lines refused
 
--- the lines of a text's messages, by how reading it ended, whether one of them is a fault, and how far it was read where it was refused;
--- `AtEnd` says that nothing is left to read
+-- the lines of a text's messages, by how reading it ended, whether one of them is a fault, and how far it was read
+-- where it was refused; `AtEnd` says that nothing is left to read
 abbrev pub IsPrintedOf : Saying → ℕ → Type 0 → List ℕ → List ℕ → End → Bool → Place → Type 0
 IsPrintedOf says first AtEnd text lines Whole refused place = AtEnd × WholeText says first text lines refused place
-IsPrintedOf says first AtEnd text lines (Refused refusals.BadHex) refused place = (AtEnd × OddText says first text lines place) ⊎ BadText says first text lines place
-IsPrintedOf says first AtEnd text lines (Refused (refusals.Frame fault)) refused place = FaultyText says first text lines fault place
-IsPrintedOf says first AtEnd text lines (Refused refusals.NoMemory) refused place = HaltedText says first text lines refused
+IsPrintedOf says first AtEnd text lines (Refused refusals.BadHex) refused place =
+    (AtEnd × OddText says first text lines place) ⊎ BadText says first text lines place
+IsPrintedOf says first AtEnd text lines (Refused (refusals.Frame fault)) refused place =
+    FaultyText says first text lines fault place
+IsPrintedOf says first AtEnd text lines (Refused refusals.NoMemory) refused place =
+    HaltedText says first text lines refused
 IsPrintedOf says first AtEnd text lines ReadFailed refused place = BrokenText says first text lines place
 IsPrintedOf says first AtEnd text lines TooManyReads refused place = BrokenText says first text lines place
 
--- what is printed of a text: whether nothing is left to read, the text, its lines, how reading it ended, whether one of them is a fault,
--- and how far it was read
+-- what is printed of a text: whether nothing is left to read, the text, its lines, how reading it ended,
+-- whether one of them is a fault, and how far it was read
 abbrev pub Printing : Type 1
 Printing = Type 0 → List ℕ → List ℕ → End → Bool → Place → Type 0
 
 -- What was read and what was written out belong together: what is printed of the text, and then what its end prints.
-pub record IsReport (prints : Printing) (end_text : End → Place → List ℕ) {I O : Type 0} (remaining : I → Option (List ℕ)) (contents : O → Option (List ℕ)) (source source' : I) (sink sink' : O) (status : Status) : Type 0 where
+pub record IsReport (prints : Printing) (end_text : End → Place → List ℕ) {I O : Type 0}
+    (remaining : I → Option (List ℕ)) (contents : O → Option (List ℕ)) (source source' : I) (sink sink' : O)
+    (status : Status) : Type 0 where
   pub text : List ℕ
   pub lines : List ℕ
   pub end : End

@@ -1,3 +1,4 @@
+-- The definitions that the contracts of msg_input speak of.
 pub mod Ends
 pub mod Printed
 pub mod Reports

@@ -1,5 +1,6 @@
 -- What a reading holds of the text that was read so far.
-use Rattle.std.specs.Prelude.{◌≡◌, ◌+◌, ℕ, Bool, false, List, [], ◌∷◌, ◌++◌, length, Option, Some, None, Result, Ok, Err}
+use Rattle.std.specs.Prelude.{◌≡◌, ◌+◌, ℕ, Bool, false, List, [], ◌∷◌, ◌++◌, length, Option, Some, None}
+use Rattle.std.specs.Prelude.{Result, Ok, Err}
 use Rattle.std.specs.Io.KnownBytes.{Appends, Consumes, IsAtEnd}
 use Rattle.dia_frame.specs.Frames.{Frames, joined}
 use Rattle.dia_frame.specs.Framer.{FramerState, Shows}
@@ -17,7 +18,8 @@ use Rattle.msg_input.specs.declared.reading.Reading.{Reading}
 
 -- The messages of these octets were taken: their lines are those written out and those that are kept, and the Framer
 -- shows this fault or none.
-pub record Stands (says : Saying) (first : ℕ) {M : Type 0} (framer : FramerState) (report : Report M) (octets written : List ℕ) (fault : Option FrameFault) : Type 0 where
+pub record Stands (says : Saying) (first : ℕ) {M : Type 0} (framer : FramerState) (report : Report M)
+    (octets written : List ℕ) (fault : Option FrameFault) : Type 0 where
   pub messages : List (List ℕ)
   pub frames : Shows framer 4096 messages octets fault
   pub none_waits : framer.waiting ≡ []
@@ -26,7 +28,8 @@ pub record Stands (says : Saying) (first : ℕ) {M : Type 0} (framer : FramerSta
   pub placed : report.octets ≡ length (joined messages)
 
 -- The text means octets, and leaves the digit that is kept.
-pub record SoFar (says : Saying) (first : ℕ) {M : Type 0} (reading : Reading M) (text written : List ℕ) (fault : Option FrameFault) : Type 0 where
+pub record SoFar (says : Saying) (first : ℕ) {M : Type 0} (reading : Reading M) (text written : List ℕ)
+    (fault : Option FrameFault) : Type 0 where
   pub octets : List ℕ
   pub meaning : Means None text octets reading.half
   pub stands : Stands says first reading.framer reading.report octets written fault
@@ -34,10 +37,12 @@ pub record SoFar (says : Saying) (first : ℕ) {M : Type 0} (reading : Reading M
 
 -- how far the input was read
 abbrev pub place_of : {M : Type 0} → Reading M → Place
-place_of reading = record { messages = reading.report.messages; octets = reading.report.octets; characters = reading.characters }
+place_of reading =
+    record { messages = reading.report.messages; octets = reading.report.octets; characters = reading.characters }
 
 -- The messages that waited were printed behind the others.
-pub record PrintsWaiting (says : Saying) {M : Type 0} (framer framer' : FramerState) (report report' : Report M) : Type 0 where
+pub record PrintsWaiting (says : Saying) {M : Type 0} (framer framer' : FramerState)
+    (report report' : Report M) : Type 0 where
   pub text : List ℕ
   pub refused : Bool
   pub printed : PrintsAll says report.messages report.octets framer.waiting text refused
@@ -55,7 +60,8 @@ pub record PrintsFront (says : Saying) {M : Type 0} (framer : FramerState) (repo
   pub gained : Gains report report' front text refused
 
 -- Memory ran out: of the messages of these octets those that were printed before, and some more, are printed.
-pub record Halts (says : Saying) (first : ℕ) {M : Type 0} (before : List (List ℕ)) (report : Report M) (octets written : List ℕ) : Type 0 where
+pub record Halts (says : Saying) (first : ℕ) {M : Type 0} (before : List (List ℕ)) (report : Report M)
+    (octets written : List ℕ) : Type 0 where
   pub more : List (List ℕ)
   pub others : List (List ℕ)
   pub rest : List ℕ
@@ -69,28 +75,36 @@ TakesPiece (Err refusals.BadHex) Stood Halted = ⊥
 TakesPiece (Err (refusals.Frame fault)) Stood Halted = Stood (Some fault)
 TakesPiece (Err refusals.NoMemory) Stood Halted = Halted
 
--- by what taking a text answered: all of it was taken, or its front up to a bad character, or up to a frame fault, or up to where
--- memory ran out
-abbrev pub TakesText : Saying → ℕ → {M : Type 0} → Result (Unit {0}) Refusal → Reading M → (before text written : List ℕ) → Type 0
+-- by what taking a text answered: all of it was taken, or its front up to a bad character, or up to a frame fault,
+-- or up to where memory ran out
+abbrev pub TakesText : Saying → ℕ → {M : Type 0}
+    → Result (Unit {0}) Refusal → Reading M → (before text written : List ℕ) → Type 0
 TakesText says first (Ok done) new before text written = SoFar says first new (before ++ text) written None
 TakesText says first (Err refusals.BadHex) new before text written =
     (front : List ℕ) × (bad : ℕ) × (back : List ℕ) × (text ≡ front ++ bad ∷ back) × (is_hex_text bad ≡ false)
     × SoFar says first new (before ++ front) written None
 TakesText says first (Err (refusals.Frame fault)) new before text written =
-    (front : List ℕ) × (back : List ℕ) × (text ≡ front ++ back) × SoFar says first new (before ++ front) written (Some fault)
+    (front : List ℕ) × (back : List ℕ) × (text ≡ front ++ back)
+    × SoFar says first new (before ++ front) written (Some fault)
 TakesText says first (Err refusals.NoMemory) new before text written =
     (front : List ℕ) × (back : List ℕ) × (text ≡ front ++ back)
     × ShortText says first (before ++ front) (written ++ new.report.out.items) new.report.refused
 
 -- by what the end answered: the text is printed whole, or leaves a digit over, or memory ran out for its last message
-abbrev pub Finishes : Saying → ℕ → {M : Type 0} → Result (Unit {0}) Refusal → Reading M → (text written : List ℕ) → Type 0
-Finishes says first (Ok done) new text written = WholeText says first text (written ++ new.report.out.items) new.report.refused (place_of new)
-Finishes says first (Err refusals.BadHex) new text written = OddText says first text (written ++ new.report.out.items) (place_of new)
+abbrev pub Finishes : Saying → ℕ → {M : Type 0}
+    → Result (Unit {0}) Refusal → Reading M → (text written : List ℕ) → Type 0
+Finishes says first (Ok done) new text written =
+    WholeText says first text (written ++ new.report.out.items) new.report.refused (place_of new)
+Finishes says first (Err refusals.BadHex) new text written =
+    OddText says first text (written ++ new.report.out.items) (place_of new)
 Finishes says first (Err (refusals.Frame fault)) new text written = ⊥
-Finishes says first (Err refusals.NoMemory) new text written = ShortText says first text (written ++ new.report.out.items) new.report.refused
+Finishes says first (Err refusals.NoMemory) new text written =
+    ShortText says first text (written ++ new.report.out.items) new.report.refused
 
 -- A text was read, and some of its lines were written out; with those that are kept they are the lines of the text.
-pub record IsPoured (prints : Printing) {I O : Type 0} (remaining : I → Option (List ℕ)) (contents : O → Option (List ℕ)) (source source' : I) (sink sink' : O) (kept : List ℕ) (refused : Bool) (place : Place) (end : End) : Type 0 where
+pub record IsPoured (prints : Printing) {I O : Type 0} (remaining : I → Option (List ℕ))
+    (contents : O → Option (List ℕ)) (source source' : I) (sink sink' : O) (kept : List ℕ) (refused : Bool)
+    (place : Place) (end : End) : Type 0 where
   pub text : List ℕ
   pub written : List ℕ
   pub read : Consumes (remaining source) (remaining source') text

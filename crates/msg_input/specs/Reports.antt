@@ -11,7 +11,8 @@ pub record Stays {M : Type 0} (old new : Report M) : Type 0 where
   pub octets : new.octets ≡ old.octets
 
 -- The text of these messages came behind the others, they are counted, and all else is as it was, but for scratch.
-pub record Gains {M : Type 0} (old new : Report M) (came : List (List ℕ)) (text : List ℕ) (refused : Bool) : Type 0 where
+pub record Gains {M : Type 0} (old new : Report M) (came : List (List ℕ)) (text : List ℕ)
+    (refused : Bool) : Type 0 where
   pub out : new.out.items ≡ old.out.items ++ text
   pub marked : new.refused ≡ (old.refused || refused)
   pub messages : new.messages ≡ old.messages + length came

@@ -1,10 +1,11 @@
 //! What is known of an input whose lines are each an input by itself.
-ghost use Rattle.std.specs.Prelude.{◌≡◌, ◌++◌, ◌<◌, ◌≤◌, ◌+◌, ◌^◌, ◌||◌, ℕ, List, Bool, [], length, take, get_or, Some, IfOk, OnOk, OnErr};
+ghost use Rattle.std.specs.Prelude.{◌≡◌, ◌++◌, ◌<◌, ◌≤◌, ◌+◌, ◌^◌, ◌||◌, ℕ, List, Bool, [], length, take, get_or, Some};
+ghost use Rattle.std.specs.Prelude.{IfOk, OnOk, OnErr};
 ghost use Rattle.msg_input.specs.ByLine.{IsJudged, IsLine};
 ghost use Rattle.msg_input.specs.Ends.{IsLast};
 
 use crate::ends::{End, Place, Refusal};
-use crate::manner::Manner;
+use crate::printer::Printer;
 use crate::reading::Reading;
 use crate::report::counted;
 use dia_show::Glossary;
@@ -53,16 +54,18 @@ pub(crate) struct ByLine<M> {
     refused: bool,
 }
 
-impl<M: Manner> ByLine<M> {
+impl<M: Printer> ByLine<M> {
     ghost use Rattle.msg_input.specs.ByLine.{PrintsLine, says_by};
-    ghost use Rattle.msg_input.specs.ByLineSoFar.{IsAlong, KeepsTexts, LinesSoFar, Ended, MayStop, TakesLines, AreFinished};
+    ghost use Rattle.msg_input.specs.ByLineSoFar.{IsAlong, KeepsTexts, LinesSoFar, Ended};
+    ghost use Rattle.msg_input.specs.ByLineSoFar.{MayStop, TakesLines, AreFinished};
     ghost use Rattle.msg_input.specs.Inputs.{IsPrintedOf};
     ghost use Rattle.msg_input.specs.Readings.{place_of};
     ghost use Rattle.dia_show.specs.Glossary.{Meanings};
 
     /// Nothing is read yet.
     pub(crate) fn new(alloc: Global) -> Result<ByLine<M>, AllocError>
-        ensures start { IfOk result (λ lines. (g : Meanings) → LinesSoFar (says_by (M.Says g)) M.line_text lines [] []) }
+        ensures start { IfOk result (λ lines. (g : Meanings)
+            → LinesSoFar (says_by (M.Says g)) M.line_text lines [] []) }
         ensures begun { IfOk result (λ lines. lines.reading.characters ≡ 0) }
     {
         Ok(ByLine {
@@ -101,7 +104,8 @@ impl<M: Manner> ByLine<M> {
     /// Forgets what was written out.
     pub(crate) fn clear(&mut self)
         ensures characters { self.new.reading.characters ≡ self.old.reading.characters }
-        ensures so_far { (g : Meanings) (text written : List ℕ) → LinesSoFar (says_by (M.Says g)) M.line_text self.old text written
+        ensures so_far { (g : Meanings) (text written : List ℕ)
+            → LinesSoFar (says_by (M.Says g)) M.line_text self.old text written
             → LinesSoFar (says_by (M.Says g)) M.line_text self.new text (written ++ self.old.out.items) }
     {
         self.out.clear();
@@ -127,8 +131,10 @@ impl<M: Manner> ByLine<M> {
         requires room { self.old.reading.characters + length part.now < 2 ^ 64 }
         ensures characters { self.new.reading.characters ≤ self.old.reading.characters + length part.now }
         ensures kept { KeepsTexts self.old self.new }
-        ensures along { OnOk result ((first : ℕ) (line : List ℕ) → IsAlong (M.Says glossary.now (Some (self.old.before + 1))) first self.old.reading line self.old.stopped
-            → IsAlong (M.Says glossary.now (Some (self.old.before + 1))) first self.new.reading (line ++ part.now) self.new.stopped) }
+        ensures along { OnOk result ((first : ℕ) (line : List ℕ)
+            → IsAlong (M.Says glossary.now (Some (self.old.before + 1))) first self.old.reading line self.old.stopped
+            → IsAlong (M.Says glossary.now (Some (self.old.before + 1))) first self.new.reading
+            (line ++ part.now) self.new.stopped) }
     {
         if self.stopped.is_some() {
             return Ok(());
@@ -144,8 +150,10 @@ impl<M: Manner> ByLine<M> {
     fn end_of_line(&mut self, glossary: &Glossary, number: u64) -> End
         ensures last { IsLast result }
         ensures kept { KeepsTexts self.old self.new }
-        ensures printed { (first : ℕ) (line : List ℕ) → IsAlong (M.Says glossary.now (Some number)) first self.old.reading line self.old.stopped
-            → IsPrintedOf (M.Says glossary.now (Some number)) first (Unit {0}) line self.new.reading.report.out.items result self.new.reading.report.refused (place_of self.new.reading) }
+        ensures printed { (first : ℕ) (line : List ℕ)
+            → IsAlong (M.Says glossary.now (Some number)) first self.old.reading line self.old.stopped
+            → IsPrintedOf (M.Says glossary.now (Some number)) first (Unit {0}) line self.new.reading.report.out.items
+            result self.new.reading.report.refused (place_of self.new.reading) }
     {
         match self.stopped {
             Some(refusal) => End::Refused(refusal),
@@ -156,8 +164,10 @@ impl<M: Manner> ByLine<M> {
     // Makes the text of the line, and says whether it tells a fault.
     fn make_text(&mut self, glossary: &Glossary) -> Result<bool, AllocError>
         ensures kept { KeepsTexts self.old self.new }
-        ensures made { IfOk result (λ refused. (first : ℕ) (line : List ℕ) → IsAlong (M.Says glossary.now (Some (self.old.before + 1))) first self.old.reading line self.old.stopped
-            → PrintsLine (says_by (M.Says glossary.now)) M.line_text self.old.before first line self.new.text.items refused self.new.reading.report.messages) }
+        ensures made { IfOk result (λ refused. (first : ℕ) (line : List ℕ)
+            → IsAlong (M.Says glossary.now (Some (self.old.before + 1))) first self.old.reading line self.old.stopped
+            → PrintsLine (says_by (M.Says glossary.now)) M.line_text self.old.before first line self.new.text.items
+            refused self.new.reading.report.messages) }
     {
         let number = counted(self.before, 1)?;
         let end = self.end_of_line(glossary, number);
@@ -169,7 +179,8 @@ impl<M: Manner> ByLine<M> {
 
     // Ends the line, and begins the next.
     fn end_line(&mut self, glossary: &Glossary) -> Result<(), AllocError>
-        ensures ended { OnOk result ((line : List ℕ) → IsAlong (M.Says glossary.now (Some (self.old.before + 1))) self.old.messages self.old.reading line self.old.stopped
+        ensures ended { OnOk result ((line : List ℕ) → IsAlong (M.Says glossary.now (Some (self.old.before + 1)))
+            self.old.messages self.old.reading line self.old.stopped
             → Ended (says_by (M.Says glossary.now)) M.line_text self.old self.new line) }
         ensures begun { OnOk result (self.new.reading.characters ≡ 0) }
         ensures err { OnErr result (KeepsTexts self.old self.new) }
@@ -190,7 +201,8 @@ impl<M: Manner> ByLine<M> {
     pub(crate) fn take_text(&mut self, glossary: &Glossary, text: &[u8]) -> Result<(), AllocError>
         requires room { self.old.reading.characters + length text.now < 2 ^ 64 }
         ensures characters { OnOk result (self.new.reading.characters ≤ self.old.reading.characters + length text.now) }
-        ensures taken { (before written : List ℕ) → LinesSoFar (says_by (M.Says glossary.now)) M.line_text self.old before written
+        ensures taken { (before written : List ℕ)
+            → LinesSoFar (says_by (M.Says glossary.now)) M.line_text self.old before written
             → TakesLines (says_by (M.Says glossary.now)) M.line_text result self.new before text.now written }
     {
         let mut rest = text;

@@ -1,10 +1,10 @@
-//! An input of hexadecimal digits, whole or line by line: its messages in order, printed in a manner as they come.
+//! An input of hexadecimal digits, whole or line by line: its messages in order, printed by a printer as they come.
 #![tactic(auto)]
 
 mod by_line;
 mod ends;
 mod line_read;
-mod manner;
+mod printer;
 mod read;
 mod reading;
 mod report;
@@ -12,7 +12,7 @@ mod style;
 
 pub use ends::{End, EndWords, Place, Refusal, placed, unplaced};
 pub use line_read::read_lines_in;
-pub use manner::Manner;
+pub use printer::Printer;
 pub use read::read_in;
 pub use report::Report;
 pub use style::Style;

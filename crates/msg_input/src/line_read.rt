@@ -11,7 +11,7 @@ ghost use Rattle.msg_input.specs.Readings.{IsPoured, place_of};
 
 use crate::by_line::ByLine;
 use crate::ends::{End, Refusal};
-use crate::manner::Manner;
+use crate::printer::Printer;
 use crate::read::{TEXT, tell_end, tell_no_memory};
 use base_device::{
     ByteSink, ByteSource, MAX_IDLE_WRITES, MAX_READS, Status, WriteFault, write_whole,
@@ -30,7 +30,7 @@ fn end_of(ended: Result<(), AllocError>) -> End
 }
 
 // Reads to the end of the input, and writes out the texts of the lines that each read completes.
-fn pour_lines<M: Manner, I: ByteSource, O: ByteSink>(
+fn pour_lines<M: Printer, I: ByteSource, O: ByteSink>(
     glossary: &Glossary,
     lines: &mut ByLine<M>,
     text: &mut [u8],
@@ -46,7 +46,8 @@ fn pour_lines<M: Manner, I: ByteSource, O: ByteSink>(
     requires idle { O.idle sink.old ≡ 0 }
     requires write_failures { O.failures sink.old < 2 ^ 64 - 1 }
     ensures end { IfOk result (EndsBy I.remaining I.reads I.failures source.old source.new) }
-    ensures report { IfOk result (IsPoured (AreLinesOf (says_by (M.Says glossary.now)) M.line_text) I.remaining O.contents source.old source.new sink.old sink.new
+    ensures report { IfOk result (IsPoured (AreLinesOf (says_by (M.Says glossary.now)) M.line_text) I.remaining
+        O.contents source.old source.new sink.old sink.new
         lines.new.out.items lines.new.refused (place_of lines.new.reading)) }
     ensures some { OnOk result (I.reads source.old < I.reads source.new) }
     ensures sound { OnOk result ((O.failures sink.new ≡ O.failures sink.old) × (O.idle sink.new ≡ 0)) }
@@ -72,10 +73,11 @@ fn pour_lines<M: Manner, I: ByteSource, O: ByteSink>(
 }
 
 // Writes out what is left, and what the end prints.
-fn close_lines<M: Manner, O: ByteSink>(lines: &ByLine<M>, end: End, sink: &mut O) -> Status
+fn close_lines<M: Printer, O: ByteSink>(lines: &ByLine<M>, end: End, sink: &mut O) -> Status
     requires idle { O.idle sink.old ≡ 0 }
     requires write_failures { O.failures sink.old < 2 ^ 64 - 1 }
-    ensures closes { Tells O.contents O.failures O.idle sink.old sink.new (lines.now.out.items ++ M.end_text end (place_of lines.now.reading))
+    ensures closes { Tells O.contents O.failures O.idle sink.old sink.new
+        (lines.now.out.items ++ M.end_text end (place_of lines.now.reading))
         (end_status end lines.now.refused) result }
     ensures row { O.most_idle sink.new ≤ max (O.most_idle sink.old) MAX_IDLE_WRITES }
 {
@@ -83,7 +85,7 @@ fn close_lines<M: Manner, O: ByteSink>(lines: &ByLine<M>, end: End, sink: &mut O
 }
 
 // What is known before the first read, and room for what is read at once.
-fn begun<M: Manner>(alloc: Global) -> Result<(ByLine<M>, Vec<u8>), AllocError>
+fn begun<M: Printer>(alloc: Global) -> Result<(ByLine<M>, Vec<u8>), AllocError>
     ensures begun { IfOk result (λ begun. begun.0.reading.characters ≡ 0) }
     ensures start { IfOk result (λ begun. (g : Meanings) → LinesSoFar (says_by (M.Says g)) M.line_text begun.0 [] []) }
     ensures room { IfOk result (λ begun. length begun.1.items ≡ TEXT) }
@@ -92,9 +94,9 @@ fn begun<M: Manner>(alloc: Global) -> Result<(ByLine<M>, Vec<u8>), AllocError>
     Ok((lines, vec![in alloc; 0u8; TEXT]?))
 }
 
-/// Reads lines to the end of `source`, each of which is an input by itself, and prints them to `sink` in a manner, by a
-/// glossary.
-pub fn read_lines_in<M: Manner, I: ByteSource, O: ByteSink>(
+/// Reads lines to the end of `source`, each of which is an input by itself,
+/// and prints them to `sink` by a printer, by a glossary.
+pub fn read_lines_in<M: Printer, I: ByteSource, O: ByteSink>(
     alloc: Global,
     glossary: &Glossary,
     source: &mut I,
@@ -107,7 +109,8 @@ pub fn read_lines_in<M: Manner, I: ByteSource, O: ByteSink>(
     ensures reads { I.reads source.new ≤ I.reads source.old + MAX_READS }
     ensures row { O.most_idle sink.new ≤ max (O.most_idle sink.old) MAX_IDLE_WRITES }
     ensures run { IsRun I.reads I.failures O.failures O.idle source.old source.new sink.old sink.new result }
-    ensures report { IsReport (AreLinesOf (says_by (M.Says glossary.now)) M.line_text) M.end_text I.remaining O.contents source.old source.new sink.old sink.new result
+    ensures report { IsReport (AreLinesOf (says_by (M.Says glossary.now)) M.line_text) M.end_text I.remaining O.contents
+        source.old source.new sink.old sink.new result
         ⊎ (HasWriteCause O.failures O.idle sink.old sink.new × (result ≡ Status.Fault)) }
     ensures whole { result ≡ Status.Done → IsAtEnd (I.remaining source.new) }
     ensures refused { result ≡ Status.Refused → I.reads source.old < I.reads source.new }

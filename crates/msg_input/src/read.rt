@@ -1,5 +1,6 @@
 //! Messages from hexadecimal digits, printed as they come.
-ghost use Rattle.std.specs.Prelude.{◌≡◌, ◌≢◌, ◌⊎◌, ◌<◌, ◌≤◌, ◌+◌, ◌-◌, ◌^◌, ◌++◌, [], None, max, length, IfOk, OnOk, OnErr};
+ghost use Rattle.std.specs.Prelude.{◌≡◌, ◌≢◌, ◌⊎◌, ◌<◌, ◌≤◌, ◌+◌, ◌-◌, ◌^◌, ◌++◌, [], None, max, length};
+ghost use Rattle.std.specs.Prelude.{IfOk, OnOk, OnErr};
 ghost use Rattle.std.specs.Io.KnownBytes.{IsAtEnd};
 ghost use Rattle.dia_show.specs.Glossary.{Meanings};
 ghost use Rattle.base_device.specs.Devices.{HasWriteCause, IsRun, TakesWhole, Tells};
@@ -8,7 +9,7 @@ ghost use Rattle.msg_input.specs.Inputs.{IsPrintedOf, IsReport};
 ghost use Rattle.msg_input.specs.Readings.{IsPoured, SoFar, place_of};
 
 use crate::ends::{End, EndWords, Place, Refusal};
-use crate::manner::Manner;
+use crate::printer::Printer;
 use crate::reading::Reading;
 use base_device::{
     ByteSink, ByteSource, MAX_IDLE_WRITES, MAX_READS, Status, WriteFault, write_whole,
@@ -20,7 +21,7 @@ use std::alloc::{AllocError, Global};
 pub(crate) const TEXT: usize = 65_536;
 
 // Reads to the end of the input, and writes out the text of what each read completes.
-fn pour<M: Manner, I: ByteSource, O: ByteSink>(
+fn pour<M: Printer, I: ByteSource, O: ByteSink>(
     glossary: &Glossary,
     reading: &mut Reading<M>,
     text: &mut [u8],
@@ -35,7 +36,8 @@ fn pour<M: Manner, I: ByteSource, O: ByteSink>(
     requires idle { O.idle sink.old ≡ 0 }
     requires write_failures { O.failures sink.old < 2 ^ 64 - 1 }
     ensures end { IfOk result (EndsBy I.remaining I.reads I.failures source.old source.new) }
-    ensures report { IfOk result (IsPoured (IsPrintedOf (M.Says glossary.now None) 0) I.remaining O.contents source.old source.new sink.old sink.new
+    ensures report { IfOk result (IsPoured (IsPrintedOf (M.Says glossary.now None) 0) I.remaining O.contents
+        source.old source.new sink.old sink.new
         reading.new.report.out.items reading.new.report.refused (place_of reading.new)) }
     ensures some { OnOk result (I.reads source.old < I.reads source.new) }
     ensures sound { OnOk result ((O.failures sink.new ≡ O.failures sink.old) × (O.idle sink.new ≡ 0)) }
@@ -95,7 +97,8 @@ fn write_placed<O: ByteSink>(
 ) -> Result<(), WriteFault>
     requires idle { O.idle sink.old ≡ 0 }
     requires failures { O.failures sink.old < 2 ^ 64 - 1 }
-    ensures whole { OnOk result (TakesWhole O.contents O.failures O.idle sink.old sink.new (place_text place ++ after.now)) }
+    ensures whole { OnOk result (TakesWhole O.contents O.failures O.idle sink.old sink.new
+        (place_text place ++ after.now)) }
     ensures cause { OnErr result (HasWriteCause O.failures O.idle sink.old sink.new) }
     ensures row { O.most_idle sink.new ≤ max (O.most_idle sink.old) MAX_IDLE_WRITES }
 {
@@ -107,7 +110,8 @@ fn write_placed<O: ByteSink>(
 fn write_words<O: ByteSink>(sink: &mut O, text: &[u8], words: &EndWords) -> Result<(), WriteFault>
     requires idle { O.idle sink.old ≡ 0 }
     requires failures { O.failures sink.old < 2 ^ 64 - 1 }
-    ensures whole { OnOk result (TakesWhole O.contents O.failures O.idle sink.old sink.new (text.now ++ words_of words.now)) }
+    ensures whole { OnOk result (TakesWhole O.contents O.failures O.idle sink.old sink.new (text.now
+        ++ words_of words.now)) }
     ensures cause { OnErr result (HasWriteCause O.failures O.idle sink.old sink.new) }
     ensures row { O.most_idle sink.new ≤ max (O.most_idle sink.old) MAX_IDLE_WRITES }
 {
@@ -116,7 +120,7 @@ fn write_words<O: ByteSink>(sink: &mut O, text: &[u8], words: &EndWords) -> Resu
 }
 
 // Writes out a text, and what the end prints.
-pub(crate) fn tell_end<M: Manner, O: ByteSink>(
+pub(crate) fn tell_end<M: Printer, O: ByteSink>(
     sink: &mut O,
     text: &[u8],
     end: End,
@@ -125,7 +129,8 @@ pub(crate) fn tell_end<M: Manner, O: ByteSink>(
 ) -> Status
     requires idle { O.idle sink.old ≡ 0 }
     requires write_failures { O.failures sink.old < 2 ^ 64 - 1 }
-    ensures told { Tells O.contents O.failures O.idle sink.old sink.new (text.now ++ M.end_text end place) (end_status end refused) result }
+    ensures told { Tells O.contents O.failures O.idle sink.old sink.new (text.now ++ M.end_text end place)
+        (end_status end refused) result }
     ensures row { O.most_idle sink.new ≤ max (O.most_idle sink.old) MAX_IDLE_WRITES }
 {
     let words = M::end_words(end, place);
@@ -136,10 +141,11 @@ pub(crate) fn tell_end<M: Manner, O: ByteSink>(
 }
 
 // Writes out what is left, and what the end prints.
-fn close<M: Manner, O: ByteSink>(reading: &Reading<M>, end: End, sink: &mut O) -> Status
+fn close<M: Printer, O: ByteSink>(reading: &Reading<M>, end: End, sink: &mut O) -> Status
     requires idle { O.idle sink.old ≡ 0 }
     requires write_failures { O.failures sink.old < 2 ^ 64 - 1 }
-    ensures closes { Tells O.contents O.failures O.idle sink.old sink.new (reading.now.report.out.items ++ M.end_text end (place_of reading.now))
+    ensures closes { Tells O.contents O.failures O.idle sink.old sink.new
+        (reading.now.report.out.items ++ M.end_text end (place_of reading.now))
         (end_status end reading.now.report.refused) result }
     ensures row { O.most_idle sink.new ≤ max (O.most_idle sink.old) MAX_IDLE_WRITES }
 {
@@ -153,10 +159,11 @@ fn close<M: Manner, O: ByteSink>(reading: &Reading<M>, end: End, sink: &mut O) -
 }
 
 // Nothing was read, since there was no memory to begin with.
-pub(crate) fn tell_no_memory<M: Manner, O: ByteSink>(sink: &mut O) -> Status
+pub(crate) fn tell_no_memory<M: Printer, O: ByteSink>(sink: &mut O) -> Status
     requires idle { O.idle sink.old ≡ 0 }
     requires write_failures { O.failures sink.old < 2 ^ 64 - 1 }
-    ensures told { Tells O.contents O.failures O.idle sink.old sink.new ([] ++ M.end_text (End.Refused Refusal.NoMemory) (record { messages = 0; octets = 0; characters = 0 }))
+    ensures told { Tells O.contents O.failures O.idle sink.old sink.new
+        ([] ++ M.end_text (End.Refused Refusal.NoMemory) (record { messages = 0; octets = 0; characters = 0 }))
         Status.NoMemory result }
     ensures row { O.most_idle sink.new ≤ max (O.most_idle sink.old) MAX_IDLE_WRITES }
 {
@@ -169,7 +176,7 @@ pub(crate) fn tell_no_memory<M: Manner, O: ByteSink>(sink: &mut O) -> Status
 }
 
 // What is known before the first read, and room for what is read at once.
-fn begun<M: Manner>(alloc: Global) -> Result<(Reading<M>, Vec<u8>), AllocError>
+fn begun<M: Printer>(alloc: Global) -> Result<(Reading<M>, Vec<u8>), AllocError>
     ensures start { IfOk result (λ begun. (g : Meanings) → SoFar (M.Says g None) 0 begun.0 [] [] None) }
     ensures room { IfOk result (λ begun. length begun.1.items ≡ TEXT) }
 {
@@ -177,8 +184,8 @@ fn begun<M: Manner>(alloc: Global) -> Result<(Reading<M>, Vec<u8>), AllocError>
     Ok((reading, vec![in alloc; 0u8; TEXT]?))
 }
 
-/// Reads messages to the end of `source`, and prints them to `sink` in a manner, by a glossary.
-pub fn read_in<M: Manner, I: ByteSource, O: ByteSink>(
+/// Reads messages to the end of `source`, and prints them to `sink` by a printer, by a glossary.
+pub fn read_in<M: Printer, I: ByteSource, O: ByteSink>(
     alloc: Global,
     glossary: &Glossary,
     source: &mut I,
@@ -191,7 +198,8 @@ pub fn read_in<M: Manner, I: ByteSource, O: ByteSink>(
     ensures reads { I.reads source.new ≤ I.reads source.old + MAX_READS }
     ensures row { O.most_idle sink.new ≤ max (O.most_idle sink.old) MAX_IDLE_WRITES }
     ensures run { IsRun I.reads I.failures O.failures O.idle source.old source.new sink.old sink.new result }
-    ensures report { IsReport (IsPrintedOf (M.Says glossary.now None) 0) M.end_text I.remaining O.contents source.old source.new sink.old sink.new result
+    ensures report { IsReport (IsPrintedOf (M.Says glossary.now None) 0) M.end_text I.remaining O.contents
+        source.old source.new sink.old sink.new result
         ⊎ (HasWriteCause O.failures O.idle sink.old sink.new × (result ≡ Status.Fault)) }
     ensures whole { result ≡ Status.Done → IsAtEnd (I.remaining source.new) }
     ensures refused { result ≡ Status.Refused → I.reads source.old < I.reads source.new }

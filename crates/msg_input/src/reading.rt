@@ -1,10 +1,11 @@
 //! What is known of an input while it is read: its octets, its messages, and what they print.
-ghost use Rattle.std.specs.Prelude.{◌≡◌, ◌≢◌, ◌++◌, ◌<◌, ◌≤◌, ◌+◌, ◌^◌, ℕ, List, Option, length, [], None, IfOk, OnOk, OnErr};
+ghost use Rattle.std.specs.Prelude.{◌≡◌, ◌≢◌, ◌++◌, ◌<◌, ◌≤◌, ◌+◌, ◌^◌, ℕ, List, Option, length, [], None};
+ghost use Rattle.std.specs.Prelude.{IfOk, OnOk, OnErr};
 ghost use Rattle.std.specs.Option.{ForSome};
 ghost use Rattle.msg_input.specs.Ends.{IsLast};
 
 use crate::ends::{End, Place, Refusal};
-use crate::manner::Manner;
+use crate::printer::Printer;
 use crate::report::Report;
 use base_text::{Stop, decode};
 use dia_frame::Framer;
@@ -26,14 +27,16 @@ pub(crate) struct Reading<M> {
     ghost half_fits: { ForSome half (λ digit. digit < 16) },
 }
 
-impl<M: Manner> Reading<M> {
-    ghost use Rattle.msg_input.specs.Readings.{Finishes, Halts, PrintsFront, PrintsWaiting, SoFar, Stands, TakesPiece, TakesText, place_of};
+impl<M: Printer> Reading<M> {
+    ghost use Rattle.msg_input.specs.Readings.{Finishes, Halts, PrintsFront, PrintsWaiting, SoFar, Stands};
+    ghost use Rattle.msg_input.specs.Readings.{TakesPiece, TakesText, place_of};
     ghost use Rattle.msg_input.specs.Inputs.{IsPrintedOf};
     ghost use Rattle.dia_show.specs.Glossary.{Meanings};
 
     /// Nothing is read yet.
     pub(crate) fn new(alloc: Global) -> Result<Reading<M>, AllocError>
-        ensures start { IfOk result (λ reading. (g : Meanings) (line : Option ℕ) → SoFar (M.Says g line) 0 reading [] [] None) }
+        ensures start { IfOk result (λ reading. (g : Meanings) (line : Option ℕ)
+            → SoFar (M.Says g line) 0 reading [] [] None) }
         ensures characters { IfOk result (λ reading. reading.characters ≡ 0) }
     {
         Ok(Reading {
@@ -90,7 +93,8 @@ impl<M: Manner> Reading<M> {
     /// Forgets what was written out.
     pub(crate) fn clear(&mut self)
         ensures characters { self.new.characters ≡ self.old.characters }
-        ensures so_far { (g : Meanings) (line : Option ℕ) (first : ℕ) (text written : List ℕ) → SoFar (M.Says g line) first self.old text written None
+        ensures so_far { (g : Meanings) (line : Option ℕ) (first : ℕ) (text written : List ℕ)
+            → SoFar (M.Says g line) first self.old text written None
             → SoFar (M.Says g line) first self.new text (written ++ self.old.report.out.items) None }
     {
         self.report.clear();
@@ -99,8 +103,10 @@ impl<M: Manner> Reading<M> {
     // Prints the messages that wait, oldest first.
     fn print_waiting(&mut self, glossary: &Glossary, line: Option<u64>) -> Result<(), AllocError>
         ensures kept { (self.new.half ≡ self.old.half) × (self.new.characters ≡ self.old.characters) }
-        ensures printed { OnOk result (PrintsWaiting (M.Says glossary.now line) self.old.framer self.new.framer self.old.report self.new.report) }
-        ensures halted { OnErr result (PrintsFront (M.Says glossary.now line) self.old.framer self.old.report self.new.report) }
+        ensures printed { OnOk result (PrintsWaiting (M.Says glossary.now line) self.old.framer self.new.framer
+            self.old.report self.new.report) }
+        ensures halted { OnErr result (PrintsFront (M.Says glossary.now line) self.old.framer
+            self.old.report self.new.report) }
     {
         while let Some(frame) = self.framer.next_frame() {
             self.report.message(glossary, line, frame.as_slice())?;
@@ -116,8 +122,10 @@ impl<M: Manner> Reading<M> {
         piece: &[u8],
     ) -> Result<(), Refusal>
         ensures kept { (self.new.half ≡ self.old.half) × (self.new.characters ≡ self.old.characters) }
-        ensures stands { (first : ℕ) (octets written : List ℕ) (before : Stands (M.Says glossary.now line) first self.old.framer self.old.report octets written None)
-            → TakesPiece result (Stands (M.Says glossary.now line) first self.new.framer self.new.report (octets ++ piece.now) written)
+        ensures stands { (first : ℕ) (octets written : List ℕ)
+            (before : Stands (M.Says glossary.now line) first self.old.framer self.old.report octets written None)
+            → TakesPiece result
+            (Stands (M.Says glossary.now line) first self.new.framer self.new.report (octets ++ piece.now) written)
             (Halts (M.Says glossary.now line) first before.messages self.new.report (octets ++ piece.now) written) }
     {
         let fed = self.framer.feed(piece);
@@ -128,7 +136,8 @@ impl<M: Manner> Reading<M> {
         }
     }
 
-    /// Takes the next characters, which are part of this line where lines are read, and prints the messages that they complete.
+    /// Takes the next characters, which are part of this line where lines are read,
+    /// and prints the messages that they complete.
     pub(crate) fn take_text(
         &mut self,
         glossary: &Glossary,
@@ -137,7 +146,8 @@ impl<M: Manner> Reading<M> {
     ) -> Result<(), Refusal>
         requires room { self.old.characters + length text.now < 2 ^ 64 }
         ensures characters { self.new.characters ≤ self.old.characters + length text.now }
-        ensures taken { (first : ℕ) (before written : List ℕ) → SoFar (M.Says glossary.now line) first self.old before written None
+        ensures taken { (first : ℕ) (before written : List ℕ)
+            → SoFar (M.Says glossary.now line) first self.old before written None
             → TakesText (M.Says glossary.now line) first result self.new before text.now written }
     {
         let mut rest = text;
@@ -158,8 +168,10 @@ impl<M: Manner> Reading<M> {
     /// Ends with the input: a digit that is left over is bad, and octets that are left over are a message.
     pub(crate) fn end(&mut self, glossary: &Glossary, line: Option<u64>) -> End
         ensures last { IsLast result }
-        ensures printed { (first : ℕ) (text written : List ℕ) → SoFar (M.Says glossary.now line) first self.old text written None
-            → IsPrintedOf (M.Says glossary.now line) first (Unit {0}) text (written ++ self.new.report.out.items) result self.new.report.refused (place_of self.new) }
+        ensures printed { (first : ℕ) (text written : List ℕ)
+            → SoFar (M.Says glossary.now line) first self.old text written None
+            → IsPrintedOf (M.Says glossary.now line) first (Unit {0}) text (written ++ self.new.report.out.items)
+            result self.new.report.refused (place_of self.new) }
     {
         match self.finish(glossary, line) {
             Ok(()) => End::Whole,
@@ -168,7 +180,9 @@ impl<M: Manner> Reading<M> {
     }
 
     fn finish(&mut self, glossary: &Glossary, line: Option<u64>) -> Result<(), Refusal>
-        ensures { (first : ℕ) (text written : List ℕ) → SoFar (M.Says glossary.now line) first self.old text written None → Finishes (M.Says glossary.now line) first result self.new text written }
+        ensures { (first : ℕ) (text written : List ℕ)
+            → SoFar (M.Says glossary.now line) first self.old text written None
+            → Finishes (M.Says glossary.now line) first result self.new text written }
     {
         if self.half.is_some() {
             return Err(Refusal::BadHex);

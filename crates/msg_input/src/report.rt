@@ -1,14 +1,14 @@
 //! What is printed of messages, kept until it is written out.
 ghost use Rattle.std.specs.Prelude.{◌≡◌, ◌+◌, ℕ, List, [], ◌∷◌, false, Bool, IfOk, OnOk, OnErr};
 
-use crate::manner::Manner;
+use crate::printer::Printer;
 use dia_show::Glossary;
 use std::alloc::{AllocError, Global};
 
 /// Reads messages and keeps what is printed of them.
 #[derive(Drop)]
 pub struct Report<M> {
-    manner: M,
+    printer: M,
     /// The lines of the message that is being printed.
     lines: Vec<u8>,
     /// What is to be written out.
@@ -30,7 +30,7 @@ pub(crate) fn counted(count: u64, more: usize) -> Result<u64, AllocError>
     }
 }
 
-impl<M: Manner> Report<M> {
+impl<M: Printer> Report<M> {
     ghost use Rattle.msg_input.specs.Reports.{Gains, Stays};
 
     /// A report without text.
@@ -39,7 +39,7 @@ impl<M: Manner> Report<M> {
         ensures counts { IfOk result (λ r. (r.messages ≡ 0) × (r.octets ≡ 0)) }
     {
         Ok(Report {
-            manner: M::new(alloc)?,
+            printer: M::new(alloc)?,
             lines: Vec::new(alloc),
             out: Vec::new(alloc),
             refused: false,
@@ -97,7 +97,8 @@ impl<M: Manner> Report<M> {
         self.octets
     }
 
-    /// Reads the octets of the next message, which stands in this line where lines are read, and keeps what is printed of it. Without memory nothing of it is kept.
+    /// Reads the octets of the next message, which stands in this line where lines are read,
+    /// and keeps what is printed of it. Without memory nothing of it is kept.
     pub fn message(
         &mut self,
         glossary: &Glossary,
@@ -112,7 +113,7 @@ impl<M: Manner> Report<M> {
         let number = counted(self.messages, 1)?;
         let end = counted(self.octets, octets.len())?;
         self.lines.clear();
-        let refused = self.manner.put(
+        let refused = self.printer.put(
             glossary,
             line,
             &mut self.lines,

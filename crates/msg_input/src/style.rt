@@ -1,9 +1,9 @@
-//! The names of the manners in which the program prints messages.
+//! The styles in which the program prints messages.
 
-/// In which of the program's manners messages are printed.
+/// In which style the program prints messages.
 ///
-/// A style is a name that words on a command line ask for. A [`crate::Manner`] does the printing: `msg_text` has one for
-/// each style.
+/// A style is a name that words on a command line ask for.
+/// A [`crate::Printer`] does the printing: `msg_text` has one for each style.
 #[derive(Clone, Copy, PartialEq, Eq)]
 pub enum Style {
     /// Numbers and hexadecimal: a line for the header, for each AVP and for the encoding; `fault` with its Result-Code.

@@ -81,9 +81,9 @@ fn put_message<'a>(
     put_line(out, &message)
 }
 
-/// Puts what a message says, the `number`th of an input, which begins at `offset` in it or in this line of it, as one object of JSON and the end of its
-/// line: its header, its AVPs in the order of the octets, those of a group inside it, and its fault, or null. Says whether it has
-/// one.
+/// Puts what a message says, the `number`th of an input, which begins at `offset` in it or in this line of it, as one
+/// object of JSON and the end of its line: its header, its AVPs in the order of the octets, those of a group inside it,
+/// and its fault, or null. Says whether it has one.
 pub fn put_json(
     out: &mut Vec<u8>,
     glossary: &Glossary,
@@ -93,7 +93,8 @@ pub fn put_json(
     octets: &[u8],
 ) -> Result<bool, AllocError>
     requires { length octets.now < 2 ^ 32 }
-    ensures { IfOk result (λ refused. (text : List ℕ) × SaysInJson (known glossary.now.definitions) octets.now text refused
+    ensures { IfOk result (λ refused. (text : List ℕ)
+        × SaysInJson (known glossary.now.definitions) octets.now text refused
         × (out.new.items ≡ out.old.items ++ text)) }
 {
     let alloc = *out.allocator();

@@ -4,6 +4,7 @@ use Rattle.std.specs.Prelude.{slice_get, unwrap_or}
 use Rattle.std.specs.Option.{option_and_then, option_to_list}
 use Rattle.dia_avp.specs.declared.avp.Avp.{Avp}
 use Rattle.dia_avp.specs.Reading.{avps_in}
+use Rattle.dia_avp.specs.Look.{number_in}
 use Rattle.dia_avp.proofs.PartLaws.{avps_in-only}
 use Rattle.dia_dict.specs.declared.definition.Definition.{Definition}
 use Rattle.dia_dict.specs.Dictionary.{known}
@@ -18,7 +19,7 @@ use Rattle.dia_command.specs.declared.typed.TypedAvp.{TypedAvp}
 use Rattle.dia_command.specs.declared.value.RequestType.TheVariants.{Initial}
 use Rattle.dia_command.specs.declared.value.RequestedAction.TheVariants.{DirectDebiting}
 use Rattle.dia_command.specs.Command.{kind_of, header_of, rest_of, fields}
-use Rattle.dia_command.specs.Field.{Field, Octets, Numbers, Types, Actions, Groups, number_in, type_in, action_in, IsOctets, IsNumber, IsType, IsAction, IsGroup, IsTypedOf, AreTypedOf, IsFieldOf}
+use Rattle.dia_command.specs.Field.{Field, Octets, Numbers, Types, Actions, Groups, type_in, action_in, IsOctets, IsNumber, IsType, IsAction, IsGroup, IsTypedOf, AreTypedOf, IsFieldOf}
 use Rattle.dia_command.specs.Forms.{Form, form_of, forms, command_of}
 use Rattle.dia_command.specs.Header.{header_in}
 use Rattle.dia_command.proofs.SameLaws.{command_again, forms_are}
@@ -42,8 +43,8 @@ unwrapped o x other e = rw e refl
 gives_octets : Gives IsOctets (λ octets. octets)
 gives_octets octets x h = h
 
-gives_number : Gives IsNumber (λ octets. unwrap_or (number_in octets) 0)
-gives_number octets x h = unwrapped (number_in octets) x 0 h
+gives_number : Gives IsNumber (λ octets. unwrap_or (number_in 4 octets) 0)
+gives_number octets x h = unwrapped (number_in 4 octets) x 0 h
 
 gives_type : Gives IsType (λ octets. unwrap_or (type_in octets) Initial)
 gives_type octets x h = unwrapped (type_in octets) x Initial h
@@ -68,7 +69,7 @@ values_are Is value (v ∷ vs) (a ∷ list) gives h = rw (value_is Is value v a 
 
 field_is : (d : List Definition) (field : Field) (list : List Avp) → IsFieldOf d field list → field ≡ field_of d (form_of field) list
 field_is d (Octets vs) list h = ap (λ l. Octets l) (values_are IsOctets (λ octets. octets) vs list gives_octets h)
-field_is d (Numbers vs) list h = ap (λ l. Numbers l) (values_are IsNumber (λ octets. unwrap_or (number_in octets) 0) vs list gives_number h)
+field_is d (Numbers vs) list h = ap (λ l. Numbers l) (values_are IsNumber (λ octets. unwrap_or (number_in 4 octets) 0) vs list gives_number h)
 field_is d (Types vs) list h = ap (λ l. Types l) (values_are IsType (λ octets. unwrap_or (type_in octets) Initial) vs list gives_type h)
 field_is d (Actions vs) list h = ap (λ l. Actions l) (values_are IsAction (λ octets. unwrap_or (action_in octets) DirectDebiting) vs list gives_action h)
 field_is d (Groups vs) list h = ap (λ l. Groups l) (values_are (IsGroup d) (group_in d) vs list (gives_group d) h)

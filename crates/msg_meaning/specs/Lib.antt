@@ -1,1 +1,2 @@
+-- The definitions that the contracts of msg_meaning speak of.
 pub mod Meaning

@@ -1,4 +1,5 @@
-//! What a message means, as one function of its octets: `dia_msg` says it as a relation, of which there is one answer for all octets.
+//! What a message means, as one function of its octets:
+//! `dia_msg` says it as a relation, of which there is one answer for all octets.
 //!
 //! | File of `specs/` | What it has |
 //! |---|---|
@@ -16,7 +17,8 @@ use dia_msg::{MsgError, read_message};
 use dia_tree::MsgFault;
 use std::alloc::{AllocError, Global};
 
-/// What the octets of one message mean (RFC 6733 sections 3 and 4): a command, or their first fault. Only memory can be wanting.
+/// What the octets of one message mean (RFC 6733 sections 3 and 4): a command, or their first fault.
+/// Only memory can be wanting.
 pub fn meant(
     alloc: Global,
     dictionary: &Dictionary,

@@ -1,5 +1,6 @@
 -- What is printed of a message, line by line.
-use Rattle.std.specs.Prelude.{◌≡◌, ℕ, ◌+◌, Bool, List, [], ◌∷◌, ◌++◌, length, drop, codes, decimal, is_some, Option, Some, None, if◌then◌else◌}
+use Rattle.std.specs.Prelude.{◌≡◌, ℕ, ◌+◌, Bool, List, [], ◌∷◌, ◌++◌, length, drop, codes, decimal, is_some, Option}
+use Rattle.std.specs.Prelude.{Some, None, if◌then◌else◌}
 use Rattle.std.specs.List.{flat_map}
 use Rattle.hex.specs.Hex.{encode_lower}
 use Rattle.base_text.specs.Contents.{content_text}
@@ -38,7 +39,12 @@ printed_length a = (if is_some a.vendor then 12 else 8) + length a.octets
 
 -- `  264 -M-`
 abbrev pub avp_name : Avp → List ℕ
-avp_name a = codes "  " ++ decimal a.code ++ vendor_text a.vendor ++ codes " " ++ avp_letters a.vendor a.mandatory a.protected
+avp_name a =
+    codes "  " ++ decimal a.code ++ vendor_text a.vendor ++ codes " " ++ avp_letters a.vendor a.mandatory a.protected
+
+-- `  264 -M- 17`
+abbrev pub avp_head : Avp → List ℕ
+avp_head a = avp_name a ++ codes " " ++ decimal (printed_length a)
 
 -- `  264 -M- 17 612e6578616d706c65`
 abbrev pub avp_line : Avp → List ℕ

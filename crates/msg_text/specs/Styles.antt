@@ -1,5 +1,6 @@
 -- In which styles messages are printed, and how reading them ended.
-use Rattle.std.specs.Prelude.{◌≡◌, ◌⊎◌, ◌≤◌, ◌^◌, ◌++◌, ℕ, Bool, List, [], length, drop, true, false, Option, None, codes, decimal}
+use Rattle.std.specs.Prelude.{◌≡◌, ◌⊎◌, ◌≤◌, ◌^◌, ◌++◌, ℕ, Bool, List, [], length, drop, true, false, Option}
+use Rattle.std.specs.Prelude.{None, codes, decimal}
 use Rattle.dia_dict.specs.Dictionary.{known}
 use Rattle.dia_show.specs.Glossary.{Meanings}
 use Rattle.dia_frame.specs.declared.fault.FrameFault.{FrameFault}
@@ -35,9 +36,11 @@ IsExplained g line number offset octets text refused =
 -- what a frame fault is, at an octet of the input (RFC 6733 section 3)
 abbrev pub frame_words : FrameFault → ℕ → List ℕ
 frame_words Version octet =
-    codes "frame fault 1 at octet " ++ decimal octet ++ codes ": no message begins here, its first octet would be version 1\n"
+    codes "frame fault 1 at octet " ++ decimal octet
+    ++ codes ": no message begins here, its first octet would be version 1\n"
 frame_words Length octet =
-    codes "frame fault 2 at octet " ++ decimal octet ++ codes ": the length in this header is below 20, no multiple of 4 or over 4096\n"
+    codes "frame fault 2 at octet " ++ decimal octet
+    ++ codes ": the length in this header is below 20, no multiple of 4 or over 4096\n"
 frame_words Broken octet =
     codes "frame fault 3 at octet " ++ decimal octet ++ codes ": a frame fault came before\n"
 
@@ -61,12 +64,14 @@ IsJson g line number offset octets text refused =
 -- the object of a frame fault, at an octet of the input (RFC 6733 section 3)
 abbrev pub json_fault : FrameFault → ℕ → List ℕ
 json_fault Version octet =
-    codes "{\"stop\":\"frame fault 1\",\"octet\":" ++ decimal octet ++ codes ",\"reason\":\"no message begins here, its first octet would be version 1\"}\n"
+    codes "{\"stop\":\"frame fault 1\",\"octet\":"
+    ++ decimal octet ++ codes ",\"reason\":\"no message begins here, its first octet would be version 1\"}\n"
 json_fault Length octet =
     codes "{\"stop\":\"frame fault 2\",\"octet\":" ++ decimal octet
     ++ codes ",\"reason\":\"the length in this header is below 20, no multiple of 4 or over 4096\"}\n"
 json_fault Broken octet =
-    codes "{\"stop\":\"frame fault 3\",\"octet\":" ++ decimal octet ++ codes ",\"reason\":\"a frame fault came before\"}\n"
+    codes "{\"stop\":\"frame fault 3\",\"octet\":"
+    ++ decimal octet ++ codes ",\"reason\":\"a frame fault came before\"}\n"
 
 -- and the end as one more object, nothing where the input was read whole
 abbrev pub json_end : End → Place → List ℕ
@@ -121,7 +126,8 @@ line_in Plain = plain_line
 line_in Explained = explained_line
 line_in Json = json_line
 
--- what is printed of a text, by the style, by whether each line is read by itself, and by what was added to the dictionary
+-- what is printed of a text, by the style, by whether each line is read by itself,
+-- and by what was added to the dictionary
 abbrev pub printed_in : Style → Bool → Meanings → Printing
 printed_in style false g = IsPrintedOf (says_in style g None) 0
 printed_in style true g = AreLinesOf (says_by (says_in style g)) (line_in style)

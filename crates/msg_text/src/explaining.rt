@@ -7,7 +7,7 @@ use crate::line_ends::put_line_words;
 use dia_frame::FrameFault;
 use dia_show::Glossary;
 use msg_explain::explain;
-use msg_input::{End, EndWords, Manner, Place, Refusal, placed, unplaced};
+use msg_input::{End, EndWords, Place, Printer, Refusal, placed, unplaced};
 use std::alloc::{AllocError, Global};
 
 /// Prints what a message says, in names.
@@ -37,7 +37,7 @@ fn frame_words(fault: FrameFault, octet: u64) -> EndWords
     }
 }
 
-impl Manner for Explaining {
+impl Printer for Explaining {
     ghost Says = { IsExplained };
 
     ghost end_text = { explained_end };

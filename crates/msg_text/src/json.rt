@@ -7,7 +7,7 @@ use crate::line_ends::put_words;
 use base_text::put_number;
 use dia_frame::FrameFault;
 use dia_show::Glossary;
-use msg_input::{End, EndWords, Manner, Place, Refusal, placed, unplaced};
+use msg_input::{End, EndWords, Place, Printer, Refusal, placed, unplaced};
 use msg_json::put_json;
 use std::alloc::{AllocError, Global};
 
@@ -69,7 +69,7 @@ fn put_json_line(
     }
 }
 
-impl Manner for Json {
+impl Printer for Json {
     ghost Says = { IsJson };
 
     ghost end_text = { json_end };

@@ -9,7 +9,7 @@ use dia_avp::{WriteError, write_avp};
 use dia_dict::Dictionary;
 use dia_msg::{Command, MsgError, MsgFault, read_message, write_message};
 use dia_show::Glossary;
-use msg_input::{End, EndWords, Manner, Place, unplaced};
+use msg_input::{End, EndWords, Place, Printer, unplaced};
 use std::alloc::{AllocError, Global};
 
 /// Prints the lines of a message, header, AVPs and encoding, or the line of its fault.
@@ -44,7 +44,8 @@ impl Plain {
     }
 
     fn command(&mut self, out: &mut Vec<u8>, command: &Command) -> Result<(), AllocError>
-        ensures { OnOk result ((text : List ℕ) × CommandText command.now text × (out.new.items ≡ out.old.items ++ text)) }
+        ensures { OnOk result ((text : List ℕ) × CommandText command.now text
+            × (out.new.items ≡ out.old.items ++ text)) }
     {
         self.encoding.clear();
         match write_message(command, &mut self.encoding) {
@@ -69,7 +70,7 @@ impl Plain {
     }
 }
 
-impl Manner for Plain {
+impl Printer for Plain {
     ghost Says = { IsPlain };
 
     ghost end_text = { plain_end };

@@ -35,7 +35,8 @@ pub fn read_on<I: ByteSource, O: ByteSink>(
     ensures run { IsRun I.reads I.failures O.failures O.idle source.old source.new sink.old sink.new result }
 
     // What was written out is what the text that was read prints: its messages in order, and then its end.
-    ensures report { IsReport (printed_in style false glossary.now) (end_in style) I.remaining O.contents source.old source.new sink.old sink.new result
+    ensures report { IsReport (printed_in style false glossary.now) (end_in style) I.remaining O.contents
+        source.old source.new sink.old sink.new result
         ⊎ (HasWriteCause O.failures O.idle sink.old sink.new × (result ≡ Status.Fault)) }
 
     // It is done only where nothing is left to read, and refused only where something was read.
@@ -50,8 +51,8 @@ pub fn read_on<I: ByteSource, O: ByteSink>(
     }
 }
 
-/// Reads lines to the end of `source`, each of which is messages in hexadecimal by itself, and prints them to `sink` in a style, by a
-/// glossary.
+/// Reads lines to the end of `source`, each of which is messages in hexadecimal by itself,
+/// and prints them to `sink` in a style, by a glossary.
 pub fn read_lines<I: ByteSource, O: ByteSink>(
     style: Style,
     alloc: Global,
@@ -72,7 +73,8 @@ pub fn read_lines<I: ByteSource, O: ByteSink>(
     ensures run { IsRun I.reads I.failures O.failures O.idle source.old source.new sink.old sink.new result }
 
     // What was written out is what each line of the text that was read prints by itself, in order, and then its end.
-    ensures report { IsReport (printed_in style true glossary.now) (end_in style) I.remaining O.contents source.old source.new sink.old sink.new result
+    ensures report { IsReport (printed_in style true glossary.now) (end_in style) I.remaining O.contents
+        source.old source.new sink.old sink.new result
         ⊎ (HasWriteCause O.failures O.idle sink.old sink.new × (result ≡ Status.Fault)) }
 
     // It is done only where nothing is left to read, and refused only where something was read.

@@ -1,1 +1,2 @@
+-- The definitions that the contracts of node_port speak of.
 pub mod Happened

@@ -20,8 +20,8 @@ from_side R name = Some (codes "R-Rcv-" ++ name)
 abbrev pub is_message : Answer → Bool
 is_message c = (c.header.command == number_of CreditControl) && is_some c.session_id
 
--- the name of the kind that a command is (RFC 6733 section 5.6.2); a CEA is one with success or another, and of the error
--- answers those of credit control with a Session-Id are messages
+-- the name of the kind that a command is (RFC 6733 section 5.6.2);
+-- a CEA is one with success or another, and of the error answers those of credit control with a Session-Id are messages
 abbrev pub event_name : Command → Side → Option (List ℕ)
 event_name (Dwr c) side = from_side side (codes "DWR")
 event_name (Dwa c) side = from_side side (codes "DWA")

@@ -1,9 +1,14 @@
--- The kinds of events of a peer's machine (RFC 6733 section 5.6.2), in the order of their first appearance in the table.
+-- The kinds of events of a peer's machine (RFC 6733 section 5.6.2),
+-- in the order of their first appearance in the table.
 use Rattle.std.specs.Prelude.{ℕ, List, [], ◌∷◌, codes}
 use Rattle.base_list.specs.declared.named.Named.{Named}
-use Rattle.tab_role.specs.Lines.{kind}
+use Rattle.tab_role.specs.Entries.{kind}
 use Rattle.peer_rules.specs.declared.kind.PeerKind.{PeerKind}
-use Rattle.peer_rules.specs.declared.kind.PeerKind.TheVariants.{Start, RConnCer, IRcvConnAck, IRcvConnNack, Timeout, IRcvCea, IPeerDisc, IRcvNonCea, RPeerDisc, WinElection, SendMessage, RRcvMessage, RRcvDwr, RRcvDwa, Stop, RRcvDpr, IRcvMessage, IRcvDwr, IRcvDwa, IRcvDpr, IRcvDpa, RRcvDpa}
+use Rattle.peer_rules.specs.declared.kind.PeerKind.TheVariants.{Start, RConnCer, IRcvConnAck, IRcvConnNack, Timeout}
+use Rattle.peer_rules.specs.declared.kind.PeerKind.TheVariants.{IRcvCea, IPeerDisc, IRcvNonCea, RPeerDisc, WinElection}
+use Rattle.peer_rules.specs.declared.kind.PeerKind.TheVariants.{SendMessage, RRcvMessage, RRcvDwr, RRcvDwa, Stop}
+use Rattle.peer_rules.specs.declared.kind.PeerKind.TheVariants.{RRcvDpr, IRcvMessage, IRcvDwr, IRcvDwa}
+use Rattle.peer_rules.specs.declared.kind.PeerKind.TheVariants.{IRcvDpr, IRcvDpa, RRcvDpa}
 
 -- the name of each
 abbrev pub name_of : PeerKind → List ℕ

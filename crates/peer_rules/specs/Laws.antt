@@ -1,8 +1,10 @@
--- The laws of a peer's machine: its actions, a line each (RFC 6733 sections 5.6.1 and 5.6.3, in this project's profile).
+-- The laws of a peer's machine: its actions, a line each (RFC 6733 sections 5.6.1 and 5.6.3,
+-- in this project's profile).
 use Rattle.std.specs.Prelude.{ℕ, ◌+◌, ◌*◌, ◌==◌, if◌then◌else◌, List, [], ◌∷◌, map, codes}
 use Rattle.std.specs.List.{range_with_len}
 use Rattle.base_codes.specs.declared.deed_code.DeedCode.{DeedCode}
-use Rattle.base_codes.specs.declared.deed_code.DeedCode.TheVariants.{ToSession, SndCer, SndCea, SndDwa, SndDpr, SndDpa, SndMsg}
+use Rattle.base_codes.specs.declared.deed_code.DeedCode.TheVariants.{ToSession, SndCer, SndCea, SndDwa}
+use Rattle.base_codes.specs.declared.deed_code.DeedCode.TheVariants.{SndDpr, SndDpa, SndMsg}
 use Rattle.base_codes.specs.declared.deed_code.DeedCode.TheVariants as deeds
 use Rattle.base_codes.specs.declared.peer_register.TheConstants as r
 use Rattle.base_codes.specs.declared.peer_fact.TheConstants as f
@@ -12,7 +14,7 @@ use Rattle.tab_law.specs.Books.{Laws}
 use Rattle.tab_law.specs.declared.law.Atom.{Atom}
 use Rattle.tab_law.specs.declared.law.Atom.TheVariants.{Constant, Register, Fact, NewRegister}
 use Rattle.tab_law.specs.declared.law.Change.{Change}
-use Rattle.tab_role.specs.Lines.{set, next, deed, act}
+use Rattle.tab_role.specs.Entries.{set, next, deed, act}
 use Rattle.peer_rules.specs.Kinds.{kinds}
 
 -- the timer fires after 30 ticks, or is stopped: either way with a new generation
@@ -58,11 +60,14 @@ abbrev pub acts : List (Named (List Change))
 acts =
     act (codes "I-Snd-Conn-Req") (next r.DIAL ∷ next r.TIMER ∷ dial ∷ arm ∷ [])
     ∷ act (codes "R-Accept") (set r.R_LINE (Fact f.LINE) ∷ [])
-    ∷ act (codes "Process-CER") (set r.WIN (Fact f.LOCAL_WINS) ∷ set r.HOP_BY_HOP (Fact f.HOP_BY_HOP) ∷ set r.END_TO_END (Fact f.END_TO_END) ∷ [])
-    ∷ act (codes "R-Snd-CEA") (next r.TIMER ∷ answer SndCea (Register r.R_LINE) (Register r.HOP_BY_HOP) (Register r.END_TO_END) ∷ disarm ∷ [])
+    ∷ act (codes "Process-CER") (set r.WIN (Fact f.LOCAL_WINS)
+    ∷ set r.HOP_BY_HOP (Fact f.HOP_BY_HOP) ∷ set r.END_TO_END (Fact f.END_TO_END) ∷ [])
+    ∷ act (codes "R-Snd-CEA") (next r.TIMER
+    ∷ answer SndCea (Register r.R_LINE) (Register r.HOP_BY_HOP) (Register r.END_TO_END) ∷ disarm ∷ [])
     ∷ act (codes "I-Snd-CER") (set r.I_LINE (Fact f.LINE) ∷ next r.REQUESTS ∷ request SndCer (Fact f.LINE) ∷ [])
     ∷ act (codes "Cleanup") (set r.I_LINE (Constant 0) ∷ next r.TIMER ∷ disarm ∷ [])
-    ∷ act (codes "Error") (set r.I_LINE (Constant 0) ∷ set r.R_LINE (Constant 0) ∷ next r.DIAL ∷ next r.TIMER ∷ close (Register r.I_LINE) ∷ close (Register r.R_LINE) ∷ undial ∷ disarm ∷ [])
+    ∷ act (codes "Error") (set r.I_LINE (Constant 0) ∷ set r.R_LINE (Constant 0)
+    ∷ next r.DIAL ∷ next r.TIMER ∷ close (Register r.I_LINE) ∷ close (Register r.R_LINE) ∷ undial ∷ disarm ∷ [])
     ∷ act (codes "Process-CEA") (next r.TIMER ∷ disarm ∷ [])
     ∷ act (codes "Elect") (elect ∷ [])
     ∷ act (codes "I-Disc") (set r.I_LINE (Constant 0) ∷ close (Register r.I_LINE) ∷ [])
@@ -74,11 +79,13 @@ acts =
     ∷ act (codes "R-Snd-DWA") (answer SndDwa (Register r.R_LINE) (Fact f.HOP_BY_HOP) (Fact f.END_TO_END) ∷ [])
     ∷ act (codes "Process-DWA") []
     ∷ act (codes "R-Snd-DPR") (next r.REQUESTS ∷ next r.TIMER ∷ request SndDpr (Register r.R_LINE) ∷ arm ∷ [])
-    ∷ act (codes "R-Snd-DPA") (next r.TIMER ∷ answer SndDpa (Register r.R_LINE) (Fact f.HOP_BY_HOP) (Fact f.END_TO_END) ∷ arm ∷ [])
+    ∷ act (codes "R-Snd-DPA") (next r.TIMER ∷ answer SndDpa (Register r.R_LINE) (Fact f.HOP_BY_HOP) (Fact f.END_TO_END)
+    ∷ arm ∷ [])
     ∷ act (codes "I-Snd-Message") (forward SndMsg (Register r.I_LINE) ∷ [])
     ∷ act (codes "I-Snd-DWA") (answer SndDwa (Register r.I_LINE) (Fact f.HOP_BY_HOP) (Fact f.END_TO_END) ∷ [])
     ∷ act (codes "I-Snd-DPR") (next r.REQUESTS ∷ next r.TIMER ∷ request SndDpr (Register r.I_LINE) ∷ arm ∷ [])
-    ∷ act (codes "I-Snd-DPA") (next r.TIMER ∷ answer SndDpa (Register r.I_LINE) (Fact f.HOP_BY_HOP) (Fact f.END_TO_END) ∷ arm ∷ [])
+    ∷ act (codes "I-Snd-DPA") (next r.TIMER ∷ answer SndDpa (Register r.I_LINE) (Fact f.HOP_BY_HOP) (Fact f.END_TO_END)
+    ∷ arm ∷ [])
     ∷ []
 
 -- the laws of a peer's machine

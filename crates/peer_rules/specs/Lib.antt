@@ -1,3 +1,4 @@
+-- The definitions that the contracts of peer_rules speak of.
 pub mod Kinds
 pub mod Laws
 pub mod Sides

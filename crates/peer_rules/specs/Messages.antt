@@ -5,7 +5,8 @@ use Rattle.base_codes.specs.declared.deed_code.DeedCode.{DeedCode}
 use Rattle.base_codes.specs.declared.deed_code.DeedCode.TheVariants.{SndCer, SndCea, SndDwa, SndDpr, SndDpa}
 use Rattle.base_codes.specs.DeedCodes.{coded}
 use Rattle.base_codes.specs.declared.command_code.CommandCode.{CommandCode}
-use Rattle.base_codes.specs.declared.command_code.CommandCode.TheVariants.{CapabilitiesExchange, DeviceWatchdog, DisconnectPeer}
+use Rattle.base_codes.specs.declared.command_code.CommandCode.TheVariants.{CapabilitiesExchange, DeviceWatchdog}
+use Rattle.base_codes.specs.declared.command_code.CommandCode.TheVariants.{DisconnectPeer}
 use Rattle.deed_message.specs.Headers.{lowest, request_header, answer_header}
 use Rattle.dia_command.specs.declared.typed.TypedAvp.{TypedAvp}
 use Rattle.dia_write.specs.declared.answer.Identity.{Identity}

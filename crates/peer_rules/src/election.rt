@@ -11,9 +11,9 @@ fn lowered(octet: u8) -> u8
     octet.to_ascii_lowercase()
 }
 
-/// Whether the local host wins an election against the remote one (RFC 6733 section 5.6.4): its Origin-Host is the greater
-/// one. Ours is that both are compared octet by octet with ASCII letters lowered, and that a host is greater than a front
-/// of it.
+/// Whether the local host wins an election against the remote one (RFC 6733 section 5.6.4): its Origin-Host is the
+/// greater one. Ours is that both are compared octet by octet with ASCII letters lowered, and that a host is
+/// greater than a front of it.
 pub fn elect(local: &[u8], remote: &[u8]) -> bool
     ensures { IsTrue result ↔ IsGreater (lowered local.now) (lowered remote.now) }
 {

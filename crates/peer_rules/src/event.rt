@@ -65,12 +65,12 @@ fn kind_of(command: &Command, side: Side) -> Option<PeerKind>
     Some(kind)
 }
 
-/// The kind of event that a command is where it comes on a connection of that side, as its place in the laws of a peer's
-/// machine; none where it is no event (RFC 6733 section 5.6.2). Takes no memory.
+/// The kind of event that a command is where it comes on a connection of that side, as its place in the laws of a
+/// peer's machine; none where it is no event (RFC 6733 section 5.6.2). Takes no memory.
 ///
-/// DWR, DWA, DPR and DPA are events of their own, CCR, CCA and the error answers of credit control with a Session-Id are
-/// messages; the connection must have exchanged capabilities, which is not looked at. A CER is one from the responder's
-/// side alone, a CEA from the initiator's.
+/// DWR, DWA, DPR and DPA are events of their own, CCR, CCA and the error answers of credit control with a Session-Id
+/// are messages; the connection must have exchanged capabilities, which is not looked at. A CER is one from the
+/// responder's side alone, a CEA from the initiator's.
 pub fn peer_event(command: &Command, side: Side) -> Option<u8>
     ensures { result ≡ event_place command.now side }
 {

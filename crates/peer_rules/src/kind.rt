@@ -4,8 +4,8 @@ ghost use Rattle.std.specs.Prelude.{◌≡◌, Some};
 ghost use Rattle.base_list.specs.Named.{place_of};
 ghost use Rattle.peer_rules.specs.Kinds.{name_of, kinds};
 
-/// A kind of events (RFC 6733 section 5.6.2, where most of these names come from), in the order of the first appearance in
-/// the table. `I` is the initiator's connection, which this node opened, `R` the responder's, which its peer opened.
+/// A kind of events (RFC 6733 section 5.6.2, where most of these names come from), in the order of the first appearance
+/// in the table. `I` is the initiator's connection, which this node opened, `R` the responder's, which its peer opened.
 #[derive(Clone, Copy, PartialEq, Eq)]
 pub enum PeerKind {
     /// The node is told to open a connection.

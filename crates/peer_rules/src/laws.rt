@@ -5,14 +5,14 @@ ghost use Rattle.tab_role.specs.Roles.{joined};
 ghost use Rattle.tab_role.specs.Registering.{IsToldOf};
 ghost use Rattle.peer_rules.specs.Laws.{peer_laws};
 
+use crate::entries::ACTS;
 use crate::kind::NAMES;
-use crate::lines::ACTS;
 use std::alloc::{AllocError, Global};
 use tab_law::LawBook;
 use tab_role::{RegisterError, TakesRoles, laws_of};
 
-/// The kinds of events of a peer's machine and the laws of its actions, in the order of their first appearance in the table
-/// (RFC 6733 section 5.6). It has no guards.
+/// The kinds of events of a peer's machine and the laws of its actions,
+/// in the order of their first appearance in the table (RFC 6733 section 5.6). It has no guards.
 pub fn peer_laws(alloc: Global) -> Result<LawBook, AllocError>
     ensures { IfOk result (λ book. book ≡ peer_laws) }
 {

@@ -4,7 +4,7 @@
 //! | File | What it has |
 //! |---|---|
 //! | `kind` | the kinds of events, in the order of their first appearance in the table |
-//! | `lines` | the actions, a line each |
+//! | `entries` | the actions, an entry each |
 //! | `laws` | both as laws, and a registry that takes them |
 //! | `event` | from a command to the kind of its event |
 //! | `election` | who wins an election |
@@ -14,10 +14,10 @@
 #![tactic(auto)]
 
 mod election;
+mod entries;
 mod event;
 mod kind;
 mod laws;
-mod lines;
 mod message;
 
 pub use deed_message::Names;

@@ -147,11 +147,11 @@ fn dpa(alloc: Global, deed: &Deed, identity: &Identity) -> Result<Command, Alloc
     }))
 }
 
-/// The message that a deed of a peer's machine sends: a CER, CEA, DWA, DPR or DPA of the node that `names` tells, and none
-/// for any other deed (RFC 6733 sections 5.3 to 5.5). Arguments 2 and 3 give the identifiers: in a request both are the
-/// machine's number times 65,536 and the count of its requests modulo 65,536, in an answer they are those of its request,
-/// and argument 4 is the Result-Code; all modulo 2^32. `length` is 0: writing computes it. All AVPs have flag M but
-/// Product-Name.
+/// The message that a deed of a peer's machine sends: a CER, CEA, DWA, DPR or DPA of the node that `names` tells,
+/// and none for any other deed (RFC 6733 sections 5.3 to 5.5). Arguments 2 and 3 give the identifiers: in a request
+/// both are the machine's number times 65,536 and the count of its requests modulo 65,536, in an answer they are
+/// those of its request, and argument 4 is the Result-Code; all modulo 2^32. `length` is 0: writing computes it. All
+/// AVPs have flag M but Product-Name.
 pub fn peer_message(
     alloc: Global,
     deed: &Deed,

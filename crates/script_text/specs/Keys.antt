@@ -30,11 +30,13 @@ abbrev pub name_of : List ℕ → Option (List ℕ)
 name_of [] = Some []
 name_of (c ∷ []) = before (plain c) (Some [])
 name_of (c ∷ d ∷ []) = before (plain c) (name_of (d ∷ []))
-name_of (c ∷ d ∷ e ∷ rest) = if c == 37 then before (octet_of d e) (name_of rest) else before (plain c) (name_of (d ∷ e ∷ rest))
+name_of (c ∷ d ∷ e ∷ rest) =
+    if c == 37 then before (octet_of d e) (name_of rest) else before (plain c) (name_of (d ∷ e ∷ rest))
 
 -- `p`, `c`, `s`
 abbrev pub role_of : ℕ → Option Role
-role_of mark = if mark == 112 then Some Peer else (if mark == 99 then Some Client else (if mark == 115 then Some Server else None))
+role_of mark =
+    if mark == 112 then Some Peer else (if mark == 99 then Some Client else (if mark == 115 then Some Server else None))
 
 abbrev pub key_with : Option Role → Option (List ℕ) → Option Key
 key_with (Some role) (Some name) = Some (record { role = role; name = name })

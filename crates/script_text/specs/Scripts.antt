@@ -1,5 +1,6 @@
 -- What the lines of a script ask for.
-use Rattle.std.specs.Prelude.{ℕ, ◌^◌, ◌&&◌, not, nat_lt, Bool, true, false, List, [], ◌∷◌, filter, Option, Some, None, Result, Ok, Err, is_none, is_some, option_map, unwrap_or, codes, if◌then◌else◌}
+use Rattle.std.specs.Prelude.{ℕ, ◌^◌, ◌&&◌, not, nat_lt, Bool, true, false, List, [], ◌∷◌, filter, Option, Some, None}
+use Rattle.std.specs.Prelude.{Result, Ok, Err, is_none, is_some, option_map, unwrap_or, codes, if◌then◌else◌}
 use Rattle.std.specs.List.{filter_map, find}
 use Rattle.std.specs.Str.{bytes_eq}
 use Rattle.hex.specs.Hex.{decode_of}
@@ -16,8 +17,8 @@ use Rattle.bench_item.specs.declared.source.Source.TheVariants as sources
 use Rattle.bench_item.specs.declared.step.Step.{Step}
 use Rattle.bench_item.specs.declared.step.Step.TheVariants.{Joined, Dialled, Came, Lost, Told, Lift, Drop, Work}
 use Rattle.script_text.specs.Keys.{key_of, octet_of}
-use Rattle.script_text.specs.declared.asked.Asked.{Asked}
-use Rattle.script_text.specs.declared.asked.Asked.TheVariants as asked
+use Rattle.script_text.specs.declared.asked.ScriptStep.{ScriptStep}
+use Rattle.script_text.specs.declared.asked.ScriptStep.TheVariants as asked
 use Rattle.script_text.specs.declared.asked.TheConstants.{NO_KIND}
 
 -- a number below 2^32
@@ -89,15 +90,16 @@ abbrev pub told_from : Laws → List Word → Option Step
 told_from laws [] = None
 told_from laws (desk ∷ []) = None
 told_from laws (desk ∷ key ∷ []) = None
-told_from laws (desk ∷ key ∷ kind ∷ facts) = told_with (short_of desk.octets) (key_of key.octets) (kind_of laws kind.octets) (facts_of facts)
+told_from laws (desk ∷ key ∷ kind ∷ facts) =
+    told_with (short_of desk.octets) (key_of key.octets) (kind_of laws kind.octets) (facts_of facts)
 
 -- a timer that fires: the key of its machine, and the generation
-abbrev pub fired_with : Option Key → Option ℕ → Option Asked
+abbrev pub fired_with : Option Key → Option ℕ → Option ScriptStep
 fired_with (Some key) (Some generation) = Some (asked.Fired key generation)
 fired_with (Some key) None = None
 fired_with None generation = None
 
-abbrev pub fired_from : List Word → Option Asked
+abbrev pub fired_from : List Word → Option ScriptStep
 fired_from [] = None
 fired_from (key ∷ []) = None
 fired_from (key ∷ generation ∷ []) = fired_with (key_of key.octets) (number_of generation.octets)
@@ -121,28 +123,28 @@ step_from laws verb others =
     else (if bytes_eq verb (codes "work") then option_map (λ shard. Work shard) (only_short others) else None)))))))
 
 -- what words ask for
-abbrev pub asked_from : Laws → List Word → Option Asked
+abbrev pub asked_from : Laws → List Word → Option ScriptStep
 asked_from laws [] = None
 asked_from laws (verb ∷ others) =
     if bytes_eq verb.octets (codes "fired") then fired_from others
     else option_map (λ step. asked.Step step) (step_from laws verb.octets others)
 
 -- what a line asks for
-unfoldable pub asked_of : Laws → List ℕ → Option Asked
+unfoldable pub asked_of : Laws → List ℕ → Option ScriptStep
 asked_of laws line = asked_from laws (words line)
 
 -- the lines that aren't skipped: those that are empty or begin with a blank are
 abbrev pub asking : List Line → List Line
 asking all = filter (λ line. not (is_skipped line.octets)) all
 
-abbrev pub asked_in : Laws → List Line → List Asked
+abbrev pub asked_in : Laws → List Line → List ScriptStep
 asked_in laws all = filter_map (λ line. asked_of laws line.octets) (asking all)
 
 abbrev pub bad_in : Laws → List Line → Option ℕ
 bad_in laws all = option_map (λ line. line.number) (find (λ line. is_none (asked_of laws line.octets)) (asking all))
 
 -- what a script asks for, in order
-abbrev pub script_of : Laws → List ℕ → List Asked
+abbrev pub script_of : Laws → List ℕ → List ScriptStep
 script_of laws text = asked_in laws (lines text)
 
 -- the first line of a script that has another form

@@ -6,10 +6,10 @@ pub const NO_KIND: u8 = 255;
 
 /// What a line of a script asks for.
 #[derive(Drop)]
-pub enum Asked {
+pub enum ScriptStep {
     /// A step.
     Step(Step),
-    /// That the timer of a machine fires. The machine has its number only once it is there: where the key has none, the step is
-    /// refused.
+    /// That the timer of a machine fires. The machine has its number only once it is there:
+    /// where the key has none, the step is refused.
     Fired { key: Key, generation: u64 },
 }

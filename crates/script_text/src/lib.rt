@@ -1,5 +1,5 @@
-//! Scripts of the bench: what each line asks for, as `step_text` prints steps. Empty lines, and lines that begin with a blank, are
-//! skipped, so that a printed log may be pasted as a script.
+//! Scripts of the bench: what each line asks for, as `step_text` prints steps.
+//! Empty lines, and lines that begin with a blank, are skipped, so that a printed log may be pasted as a script.
 //!
 //! | File | What it has |
 //! |---|---|
@@ -19,7 +19,7 @@ mod run_script;
 mod script;
 mod words;
 
-pub use asked::{Asked, NO_KIND};
+pub use asked::{NO_KIND, ScriptStep};
 pub use keys::read_key;
 pub use lines::read_line;
 pub use run_line::RunLine;

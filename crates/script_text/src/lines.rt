@@ -1,9 +1,10 @@
 //! What a line of a script asks for.
 ghost use Rattle.std.specs.Prelude.{◌≡◌, true, is_some, IfOk, OnErr};
-ghost use Rattle.script_text.specs.Scripts.{asked_of, came_from, came_with, fired_from, joined_from, kind_of, step_from, told_from};
+ghost use Rattle.script_text.specs.Scripts.{asked_of, came_from, came_with, fired_from, joined_from};
+ghost use Rattle.script_text.specs.Scripts.{kind_of, step_from, told_from};
 ghost use Rattle.text_parts.specs.Pieces.{words_left};
 
-use crate::asked::{Asked, NO_KIND};
+use crate::asked::{NO_KIND, ScriptStep};
 use crate::keys::read_key;
 use crate::words::{only_short, piece_of, short_of, source_from};
 use base_list::Octets;
@@ -98,7 +99,7 @@ fn told_from(
 
 /// A timer that fires.
 #[tactic(auto, using(crate::proofs::LineLemmas::lines))]
-fn fired_from(alloc: Global, words: &mut Words<'_>) -> Result<Option<Asked>, AllocError>
+fn fired_from(alloc: Global, words: &mut Words<'_>) -> Result<Option<ScriptStep>, AllocError>
     ensures asked { IfOk result (λ asked. asked ≡ fired_from (words_left words.old)) }
     ensures memory { OnErr result (is_some (fired_from (words_left words.old)) ≡ true) }
 {
@@ -109,7 +110,7 @@ fn fired_from(alloc: Global, words: &mut Words<'_>) -> Result<Option<Asked>, All
         return Ok(None);
     };
     match read_key(alloc, key.octets)? {
-        Some(key) => Ok(Some(Asked::Fired { key, generation })),
+        Some(key) => Ok(Some(ScriptStep::Fired { key, generation })),
         None => Ok(None),
     }
 }
@@ -148,7 +149,11 @@ fn step_from(
 
 /// What a line asks for. None where it has another form.
 #[tactic(auto, unfolding(crate::specs::Scripts::asked_of))]
-pub fn read_line(alloc: Global, book: &LawBook, line: &[u8]) -> Result<Option<Asked>, AllocError>
+pub fn read_line(
+    alloc: Global,
+    book: &LawBook,
+    line: &[u8],
+) -> Result<Option<ScriptStep>, AllocError>
     ensures asked { IfOk result (λ asked. asked ≡ asked_of book.now line.now) }
 
     // Memory can be wanting only for what a line asks for.
@@ -162,7 +167,7 @@ pub fn read_line(alloc: Global, book: &LawBook, line: &[u8]) -> Result<Option<As
         return fired_from(alloc, &mut words);
     }
     match step_from(alloc, book, verb.octets, &mut words)? {
-        Some(step) => Ok(Some(Asked::Step(step))),
+        Some(step) => Ok(Some(ScriptStep::Step(step))),
         None => Ok(None),
     }
 }

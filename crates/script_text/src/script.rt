@@ -3,16 +3,20 @@ ghost use Rattle.std.specs.Prelude.{◌≡◌, None, IfOk, IfErr, IsErrOf, OnOk}
 ghost use Rattle.event_text.specs.Events.{IsBadText};
 ghost use Rattle.script_text.specs.Scripts.{first_bad, script_of};
 
-use crate::asked::Asked;
+use crate::asked::ScriptStep;
 use crate::lines::read_line;
 use event_text::{LinesError, is_skipped};
 use std::alloc::{AllocError, Global};
 use tab_law::LawBook;
 use text_parts::Pieces;
 
-/// What the lines of a script ask for, in order. Empty lines, and lines that begin with a blank, are skipped. A line is bad that has
-/// another form.
-pub fn read_script(alloc: Global, book: &LawBook, text: &[u8]) -> Result<Vec<Asked>, LinesError>
+/// What the lines of a script ask for, in order. Empty lines, and lines that begin with a blank, are skipped.
+/// A line is bad that has another form.
+pub fn read_script(
+    alloc: Global,
+    book: &LawBook,
+    text: &[u8],
+) -> Result<Vec<ScriptStep>, LinesError>
     ensures asked { IfOk result (λ asked. asked.items ≡ script_of book.now text.now) }
     ensures sound { OnOk result (first_bad book.now text.now ≡ None) }
     ensures bad { IfErr result (IsBadText (first_bad book.now text.now)) }

@@ -74,8 +74,8 @@ fn put_rest(out: &mut Vec<u8>, rest: &[u8]) -> Result<(), AllocError>
     out.extend_from_slice(b"\n")
 }
 
-/// Puts what a connection has sent behind what `out` holds: each message in the standard's names, as `explain` does, with its number from 1
-/// and the octet at which it begins; and `rest HEX` where octets are left that begin no message.
+/// Puts what a connection has sent behind what `out` holds: each message in the standard's names, as `explain` does,
+/// with its number from 1 and the octet at which it begins; and `rest HEX` where octets are left that begin no message.
 pub fn put_messages(out: &mut Vec<u8>, octets: &[u8]) -> Result<(), AllocError>
     ensures { OnOk result ((text : List ℕ) × Tells octets.now text × (out.new.items ≡ out.old.items ++ text)) }
 {

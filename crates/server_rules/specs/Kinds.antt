@@ -1,7 +1,7 @@
 -- The kinds of events of a server's machine (RFC 8506 section 7), in the order of their first appearance in the table.
 use Rattle.std.specs.Prelude.{ℕ, List, [], ◌∷◌, codes, map}
 use Rattle.base_list.specs.declared.named.Named.{Named}
-use Rattle.tab_role.specs.Lines.{kind}
+use Rattle.tab_role.specs.Entries.{kind}
 use Rattle.server_rules.specs.declared.kind.ServerKind.{ServerKind}
 use Rattle.server_rules.specs.declared.kind.ServerKind.TheVariants.{Initial, Update, Terminate, Event, Tcc}
 

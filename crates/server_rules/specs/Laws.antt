@@ -1,4 +1,5 @@
--- The laws of a server's machine: its guards and its actions, a line each (RFC 8506 section 7, in this project's profile).
+-- The laws of a server's machine: its guards and its actions, a line each (RFC 8506 section 7,
+-- in this project's profile).
 use Rattle.std.specs.Prelude.{ℕ, ◌+◌, ◌*◌, ◌-◌, ◌++◌, List, [], ◌∷◌, codes}
 use Rattle.base_codes.specs.declared.deed_code.DeedCode.TheVariants as deeds
 use Rattle.base_codes.specs.declared.session_fact.TheConstants as f
@@ -13,7 +14,7 @@ use Rattle.tab_law.specs.declared.law.Test.{Test}
 use Rattle.tab_law.specs.declared.law.Test.TheVariants.{Equal, Differing, Below, AtLeast}
 use Rattle.tab_law.specs.declared.law.Change.{Change}
 use Rattle.tab_role.specs.declared.step.Services.TheVariants.{OfMachine}
-use Rattle.tab_role.specs.Lines.{set, next, pick, deed, deed_where, message, kept, guard, act}
+use Rattle.tab_role.specs.Entries.{set, next, pick, deed, deed_where, message, kept, guard, act}
 use Rattle.server_rules.specs.Kinds.{kinds}
 
 -- the request's number and type are kept with this result, and what was granted, checked and served before is cleared
@@ -37,8 +38,9 @@ slot_at k = slot.FIRST + (k - 1) * slot.SIZE
 abbrev pub pay : ℕ → Change
 pay k = deed_where (Fact (slot_at k)) deeds.Debit (Fact (slot_at k + slot.USED) ∷ Fact (slot_at k) ∷ [])
 
--- slot k is served: its group, unit, result and final are kept, the units granted are picked from 1 to the quote's offer; where it
--- has a service, what was used is paid and what is granted reserved. A slot without a service is so cleared, as its facts are 0
+-- slot k is served: its group, unit, result and final are kept, the units granted are picked from 1 to the quote's
+-- offer; where it has a service, what was used is paid and what is granted reserved. A slot without a service is so
+-- cleared, as its facts are 0
 abbrev pub serve : ℕ → List Change
 serve k =
     kept (slot_at k)
@@ -54,13 +56,17 @@ serve k =
 abbrev pub answer : Change
 answer =
     message deeds.ToPeer
-    (Fact f.PEER ∷ Fact f.LINE ∷ Fact f.HOP_BY_HOP ∷ Fact f.END_TO_END ∷ Constant 2 ∷ Register r.REQUEST_TYPE ∷ Register r.REQUEST_NUMBER ∷ Constant 0 ∷ Constant 0 ∷ Constant 0 ∷ Register r.UNIT ∷ Register r.CHECK ∷ Register r.RESULT_CODE ∷ Register r.GRANTED ∷ Register r.FINAL ∷ [])
+    (Fact f.PEER ∷ Fact f.LINE ∷ Fact f.HOP_BY_HOP ∷ Fact f.END_TO_END
+    ∷ Constant 2 ∷ Register r.REQUEST_TYPE ∷ Register r.REQUEST_NUMBER ∷ Constant 0 ∷ Constant 0 ∷ Constant 0
+    ∷ Register r.UNIT ∷ Register r.CHECK ∷ Register r.RESULT_CODE ∷ Register r.GRANTED ∷ Register r.FINAL ∷ [])
     OfMachine
 
 -- an answer with this result goes to the peer, and nothing is kept of the request
 abbrev pub refuse : ℕ → Change
 refuse result =
-    deed deeds.ToPeer (Fact f.PEER ∷ Fact f.LINE ∷ Fact f.HOP_BY_HOP ∷ Fact f.END_TO_END ∷ Constant 2 ∷ Fact f.REQUEST_TYPE ∷ Fact f.REQUEST_NUMBER ∷ Constant 0 ∷ Constant 0 ∷ Constant 0 ∷ Constant 0 ∷ Constant 0 ∷ Constant result ∷ [])
+    deed deeds.ToPeer (Fact f.PEER ∷ Fact f.LINE
+    ∷ Fact f.HOP_BY_HOP ∷ Fact f.END_TO_END ∷ Constant 2 ∷ Fact f.REQUEST_TYPE
+    ∷ Fact f.REQUEST_NUMBER ∷ Constant 0 ∷ Constant 0 ∷ Constant 0 ∷ Constant 0 ∷ Constant 0 ∷ Constant result ∷ [])
 
 -- the guards, in the order of their first appearance in the table
 abbrev pub guards : List (Named (List Test))
@@ -89,10 +95,12 @@ acts =
     ∷ act (codes "Serve-4") (serve 4)
     ∷ act (codes "Keep-Groups") (keep (Constant 2001) ++ set r.SERVICES (Fact f.SERVICES) ∷ [])
     ∷ act (codes "Start-Tcc") (next r.TIMER ∷ deed deeds.Arm (NewRegister r.TIMER ∷ Constant 600 ∷ []) ∷ [])
-    ∷ act (codes "Reserve") (keep (Constant 2001) ++ pick r.GRANTED (Constant 1) (Fact f.GRANTED) ∷ set r.UNIT (Fact f.UNIT) ∷ set r.FINAL (Fact f.FINAL) ∷ deed deeds.Reserve (NewRegister r.GRANTED ∷ []) ∷ [])
+    ∷ act (codes "Reserve") (keep (Constant 2001) ++ pick r.GRANTED (Constant 1) (Fact f.GRANTED)
+    ∷ set r.UNIT (Fact f.UNIT) ∷ set r.FINAL (Fact f.FINAL) ∷ deed deeds.Reserve (NewRegister r.GRANTED ∷ []) ∷ [])
     ∷ act (codes "Keep-Refusal") (keep (Fact f.RESULT_CODE))
     ∷ act (codes "Snd-5002") (refuse 5002 ∷ [])
-    ∷ act (codes "Charge") (keep (Constant 2001) ++ set r.GRANTED (Fact f.WANT) ∷ set r.UNIT (Fact f.UNIT) ∷ deed deeds.Charge (Fact f.WANT ∷ []) ∷ [])
+    ∷ act (codes "Charge") (keep (Constant 2001)
+    ++ set r.GRANTED (Fact f.WANT) ∷ set r.UNIT (Fact f.UNIT) ∷ deed deeds.Charge (Fact f.WANT ∷ []) ∷ [])
     ∷ act (codes "Keep-4012") (keep (Constant 4012))
     ∷ act (codes "Refund") (keep (Constant 2001) ++ deed deeds.Refund (Fact f.WANT ∷ []) ∷ [])
     ∷ act (codes "Check-Yes") (keep (Constant 2001) ++ set r.CHECK (Constant 1) ∷ [])

@@ -5,22 +5,22 @@ ghost use Rattle.tab_role.specs.Roles.{joined};
 ghost use Rattle.tab_role.specs.Registering.{IsToldOf};
 ghost use Rattle.server_rules.specs.Laws.{server_laws};
 
+use crate::entries::{ACTS, GUARDS};
 use crate::kind::NAMES;
-use crate::lines::{ACTS, GUARDS};
 use std::alloc::{AllocError, Global};
 use tab_law::LawBook;
 use tab_role::{RegisterError, TakesRoles, laws_of};
 
-/// The kinds of events of a server's machine and the laws of its guards and actions, in the order of their first appearance in
-/// the table (RFC 8506 section 7).
+/// The kinds of events of a server's machine and the laws of its guards and actions,
+/// in the order of their first appearance in the table (RFC 8506 section 7).
 pub fn server_laws(alloc: Global) -> Result<LawBook, AllocError>
     ensures { IfOk result (λ book. book ≡ server_laws) }
 {
     laws_of(alloc, &NAMES, &GUARDS, &ACTS)
 }
 
-/// Adds the role of a server's machine to a registry, with the callbacks of its laws in their order, all or none. Want of
-/// memory may come before any other refusal, since the laws that the callbacks are compared with take memory.
+/// Adds the role of a server's machine to a registry, with the callbacks of its laws in their order, all or none.
+/// Want of memory may come before any other refusal, since the laws that the callbacks are compared with take memory.
 pub fn register_server<R: TakesRoles>(
     alloc: Global,
     registry: &mut R,

@@ -1,5 +1,6 @@
 //! The directory.
-ghost use Rattle.std.specs.Prelude.{◌≡◌, ◌-◌, ◌<◌, ◌≤◌, ◌↔◌, ◌++◌, ◌∷◌, [], length, take, slice_get, option_copied, Contains, IsTrue, IfSome, IfOk, OnOk, OnErr, IfErr, IsErrOf, IsSome, ◌⊎◌};
+ghost use Rattle.std.specs.Prelude.{◌≡◌, ◌-◌, ◌<◌, ◌≤◌, ◌↔◌, ◌++◌, ◌∷◌, [], length, take, slice_get, option_copied};
+ghost use Rattle.std.specs.Prelude.{Contains, IsTrue, IfSome, IfOk, OnOk, OnErr, IfErr, IsErrOf, IsSome, ◌⊎◌};
 ghost use Rattle.std.specs.Option.{IfNone};
 ghost use Rattle.sess_dir.specs.Names.{place_of, NoNameTwice};
 
@@ -11,8 +12,8 @@ use std::marker::Model;
 /// The most names that a directory has.
 pub const MAX_NAMES: usize = 4096;
 
-/// Names, which are octet strings, in the order in which they were added. Each has its place, from 0, and keeps it. Look-ups go by
-/// a hash of the name, so their time does not grow with the directory.
+/// Names, which are octet strings, in the order in which they were added. Each has its place, from 0, and keeps it.
+/// Look-ups go by a hash of the name, so their time does not grow with the directory.
 #[derive(Drop)]
 pub struct Directory {
     names: IndexSet<Vec<u8>>,

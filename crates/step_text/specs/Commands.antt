@@ -4,7 +4,8 @@ use Rattle.std.specs.Str.{bytes_eq}
 use Rattle.bench_item.specs.declared.step.Step.{Step}
 use Rattle.bench_item.specs.declared.step.Step.TheVariants as step
 use Rattle.step_text.specs.declared.command.Command.{Command}
-use Rattle.step_text.specs.declared.command.Command.TheVariants.{Join, Dialled, Came, Lost, Told, Fired, Lift, Drop, Work}
+use Rattle.step_text.specs.declared.command.Command.TheVariants.{Join, Dialled, Came, Lost, Told, Fired}
+use Rattle.step_text.specs.declared.command.Command.TheVariants.{Lift, Drop, Work}
 
 abbrev pub name_of : Command → List ℕ
 name_of Join = codes "join"

@@ -1,5 +1,6 @@
 -- The one step that a line can be, if it is one: it is read without looking whether it prints so.
-use Rattle.std.specs.Prelude.{ℕ, ◌+◌, ◌*◌, ◌^◌, ◌==◌, nat_lt, List, [], ◌∷◌, replicate, slice_set, Option, Some, None, Result, Ok, Err, option_map, option_and_then, unwrap_or, codes, if◌then◌else◌}
+use Rattle.std.specs.Prelude.{ℕ, ◌+◌, ◌*◌, ◌^◌, ◌==◌, nat_lt, List, [], ◌∷◌, replicate, slice_set, Option, Some, None}
+use Rattle.std.specs.Prelude.{Result, Ok, Err, option_map, option_and_then, unwrap_or, codes, if◌then◌else◌}
 use Rattle.std.specs.Str.{bytes_eq}
 use Rattle.hex.specs.Hex.{decode_of, hex_digit_value}
 use Rattle.base_list.specs.Named.{entry_of, place_of}
@@ -15,7 +16,8 @@ use Rattle.bench_item.specs.declared.source.Source.TheVariants as source
 use Rattle.bench_item.specs.declared.step.Step.{Step}
 use Rattle.bench_item.specs.declared.step.Step.TheVariants as step
 use Rattle.step_text.specs.declared.command.Command.{Command}
-use Rattle.step_text.specs.declared.command.Command.TheVariants.{Join, Dialled, Came, Lost, Told, Fired, Lift, Drop, Work}
+use Rattle.step_text.specs.declared.command.Command.TheVariants.{Join, Dialled, Came, Lost, Told, Fired}
+use Rattle.step_text.specs.declared.command.Command.TheVariants.{Lift, Drop, Work}
 use Rattle.step_text.specs.Names.{Names}
 
 -- the words behind the first
@@ -113,11 +115,13 @@ told_with None key kind facts = None
 
 abbrev pub told_of : List (Named (Unit {0})) → List (List ℕ) → Option Step
 told_of kinds words =
-    told_with (small words) (first_key (rest_of words)) (kind_of kinds (rest_of (rest_of words))) (facts_in (rest_of (rest_of (rest_of words))))
+    told_with (small words) (first_key (rest_of words)) (kind_of kinds (rest_of (rest_of words)))
+    (facts_in (rest_of (rest_of (rest_of words))))
 
 -- the number of the machine that the first word names
 abbrev pub machine_of : List (Named ℕ) → List (List ℕ) → Option ℕ
-machine_of machines words = option_and_then (λ name. option_map (λ entry. entry.value) (entry_of name machines)) (first_name words)
+machine_of machines words =
+    option_and_then (λ name. option_map (λ entry. entry.value) (entry_of name machines)) (first_name words)
 
 -- which timer fires
 abbrev pub fired_with : Option ℕ → Option ℕ → Option Step

@@ -1,3 +1,4 @@
+-- The definitions that the contracts of step_text speak of.
 pub mod Commands
 pub mod Names
 pub mod Lines

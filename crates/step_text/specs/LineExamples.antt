@@ -31,7 +31,8 @@ unfolding digits
 came_nothing = refl
 
 -- facts 0 and 5; the others are 0
-pub told : line_of names (step.Told 0 (record { role = role.Peer; name = codes "c.example" }) (record { kind = 1; facts = 7 ∷ 0 ∷ 0 ∷ 0 ∷ 0 ∷ 1 ∷ replicate 58 0 }))
+pub told : line_of names (step.Told 0 (record { role = role.Peer; name = codes "c.example" })
+    (record { kind = 1; facts = 7 ∷ 0 ∷ 0 ∷ 0 ∷ 0 ∷ 1 ∷ replicate 58 0 }))
     ≡ codes "told 0 p:c.example Stop 0=7 5=1"
 unfolding digits
 told = refl

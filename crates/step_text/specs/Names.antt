@@ -1,5 +1,6 @@
 -- Names as words.
-use Rattle.std.specs.Prelude.{All, ℕ, ◌≤◌, ◌==◌, ◌&&◌, not, nat_le, Bool, List, [], ◌∷◌, ◌++◌, codes, find, length, slice_get, if◌then◌else◌}
+use Rattle.std.specs.Prelude.{All, ℕ, ◌≤◌, ◌==◌, ◌&&◌, not, nat_le, Bool, List, [], ◌∷◌, ◌++◌, codes, find}
+use Rattle.std.specs.Prelude.{length, slice_get, if◌then◌else◌}
 use Rattle.std.specs.List.{flat_map}
 use Rattle.std.specs.Option.{option_map_or}
 use Rattle.hex.specs.Hex.{IsBytes, encode_lower}
@@ -46,7 +47,8 @@ kind_word names kind = option_map_or (λ entry. shown entry.name) (slice_get nam
 
 -- the word for a machine, `-` where none has that number
 abbrev pub machine_word : Names → ℕ → List ℕ
-machine_word names machine = option_map_or (λ entry. shown entry.name) (find (λ entry. entry.value == machine) names.machines) (codes "-")
+machine_word names machine =
+    option_map_or (λ entry. shown entry.name) (find (λ entry. entry.value == machine) names.machines) (codes "-")
 
 -- no two machines have one key, there are no more than a node has, and keys are octets
 pub record AreMachines (machines : List (Named ℕ)) : Type 0 where

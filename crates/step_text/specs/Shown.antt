@@ -1,4 +1,5 @@
--- The parts of a line as they stand there, and what they are: names in which octets are `%` and two digits, octets in hexadecimal.
+-- The parts of a line as they stand there, and what they are:
+-- names in which octets are `%` and two digits, octets in hexadecimal.
 use Rattle.std.specs.Prelude.{ℕ, ◌+◌, ◌*◌, ◌&&◌, Bool, true, false, List, [], ◌∷◌, is_some}
 use Rattle.hex.specs.Hex.{hex_digit_value}
 use Rattle.bench_item.specs.declared.key.Key.{Key}
@@ -7,7 +8,8 @@ use Rattle.bench_item.specs.declared.step.Step.TheVariants as step
 use Rattle.step_text.specs.Guess.{nibble, unshown}
 use Rattle.step_text.specs.declared.shown.ShownKey.{ShownKey}
 use Rattle.step_text.specs.declared.shown.ShownStep.{ShownStep}
-use Rattle.step_text.specs.declared.shown.ShownStep.TheVariants.{Joined, Dialled, Came, Lost, Told, Fired, Lift, Drop, Work}
+use Rattle.step_text.specs.declared.shown.ShownStep.TheVariants.{Joined, Dialled, Came, Lost, Told, Fired}
+use Rattle.step_text.specs.declared.shown.ShownStep.TheVariants.{Lift, Drop, Work}
 
 -- pairs of hexadecimal digits
 abbrev pub are_pairs : List ℕ → Bool

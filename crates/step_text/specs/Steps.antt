@@ -1,5 +1,6 @@
 -- Which steps have lines, and what is read of a line.
-use Rattle.std.specs.Prelude.{◌≡◌, ◌<◌, ℕ, ◌^◌, List, [], ◌∷◌, length, All, Option, None, IsSomeAnd, slice_get, find, ◌==◌, option_and_then}
+use Rattle.std.specs.Prelude.{◌≡◌, ◌<◌, ℕ, ◌^◌, List, [], ◌∷◌, length, All, Option, None, IsSomeAnd, slice_get}
+use Rattle.std.specs.Prelude.{find, ◌==◌, option_and_then}
 use Rattle.hex.specs.Hex.{IsBytes}
 use Rattle.tab_law.specs.declared.limits.TheConstants.{PLACES}
 use Rattle.tab_step.specs.declared.machine.Event.{Event}

@@ -140,7 +140,8 @@ fn compare_octets(matcher: &mut Matcher<'_>, digits: &[u8])
 
 /// What a connection was handed.
 fn compare_came(matcher: &mut Matcher<'_>, line: u32, digits: &[u8])
-    ensures { left_of matcher.new ≡ without (behind (decimal line ∷ piece_words (octets_in digits.now))) (left_of matcher.old) }
+    ensures { left_of matcher.new
+        ≡ without (behind (decimal line ∷ piece_words (octets_in digits.now))) (left_of matcher.old) }
 {
     matcher.put_number(b" ", u64::from(line));
     if digits.len() > 1 {
@@ -159,7 +160,8 @@ fn compare_told(
     event: &Event,
 )
     ensures { let names = names_of laws.now machines.now in
-        let words = decimal desk ∷ shown (key_name (key_shown key.now)) ∷ kind_word names event.now.kind ∷ fact_words 0 event.now.facts in
+        let words = decimal desk ∷ shown (key_name (key_shown key.now))
+        ∷ kind_word names event.now.kind ∷ fact_words 0 event.now.facts in
         left_of matcher.new ≡ without (behind words) (left_of matcher.old) }
 {
     matcher.put_number(b" ", u64::from(desk));

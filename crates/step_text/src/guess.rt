@@ -4,7 +4,8 @@ ghost use Rattle.std.specs.Prelude.{◌≡◌, OnSome, option_map};
 ghost use Rattle.std.specs.Str.{bytes_eq};
 ghost use Rattle.base_list.specs.Named.{entry_of, place_of};
 ghost use Rattle.text_parts.specs.Pieces.{pieces_left};
-ghost use Rattle.step_text.specs.Guess.{came_of, fired_of, guess_of, kind_of, machine_of, piece_of, rest_of, told_of, unshown};
+ghost use Rattle.step_text.specs.Guess.{came_of, fired_of, guess_of, kind_of, machine_of, piece_of};
+ghost use Rattle.step_text.specs.Guess.{rest_of, told_of, unshown};
 ghost use Rattle.step_text.specs.Names.{names_of};
 ghost use Rattle.step_text.specs.Shown.{are_pairs, octets_in, step_shown};
 

@@ -13,8 +13,8 @@ use std::marker::Model;
 /// The most machines of a node.
 const MAX_NUMBERED: usize = MAX_SHARDS * MAX_MACHINES;
 
-/// The machines' numbers by their keys. A contract sees them as a list under the keys' names, `p:`, `c:` or `s:` and the machine's
-/// name.
+/// The machines' numbers by their keys. A contract sees them as a list under the keys' names, `p:`,
+/// `c:` or `s:` and the machine's name.
 ///
 /// In: `add`. Looks: `known`.
 pub struct Machines {

@@ -61,9 +61,9 @@ pub fn find_step<'a>(laws: &LawBook, machines: &Machines, line: &'a [u8]) -> Opt
     }
 }
 
-/// The step of a line without its newline, in the one spelling in which `write_step` prints it: one blank between words, facts in
-/// order and none of them 0, digits and letters as they are printed. A kind is one of the book, a machine one of those that are given;
-/// of kinds with one name the first is meant.
+/// The step of a line without its newline, in the one spelling in which `write_step` prints it: one blank between
+/// words, facts in order and none of them 0, digits and letters as they are printed. A kind is one of the book, a
+/// machine one of those that are given; of kinds with one name the first is meant.
 pub fn read_step(
     alloc: Global,
     laws: &LawBook,

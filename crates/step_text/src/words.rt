@@ -1,10 +1,12 @@
 //! Numbers and names from words.
 
-ghost use Rattle.std.specs.Prelude.{◌≡◌, ◌<◌, ◌∷◌, [], None, OnSome, IfOk, IfSome, IfNone, codes, length, option_map, Some, if◌then◌else◌};
+ghost use Rattle.std.specs.Prelude.{◌≡◌, ◌<◌, ◌∷◌, [], None, OnSome, IfOk, IfSome, IfNone, codes, length};
+ghost use Rattle.std.specs.Prelude.{option_map, Some, if◌then◌else◌};
 ghost use Rattle.std.specs.Str.{bytes_eq};
 ghost use Rattle.bench_item.specs.declared.source.Source.TheVariants as source;
 ghost use Rattle.text_parts.specs.Pieces.{pieces_left};
-ghost use Rattle.step_text.specs.Guess.{facts_in, first_key, key_of, large, nibble, rest_of, role_of, small, source_of, unshown};
+ghost use Rattle.step_text.specs.Guess.{facts_in, first_key, key_of, large, nibble, rest_of, role_of};
+ghost use Rattle.step_text.specs.Guess.{small, source_of, unshown};
 ghost use Rattle.step_text.specs.Shown.{key_shown};
 
 use crate::shown::ShownKey;
@@ -151,7 +153,9 @@ pub(crate) fn facts_in(words: &mut Pieces<'_>) -> [u64; PLACES]
 
 /// The source of that name and number.
 fn numbered(word: &[u8], number: u32) -> Option<Source>
-    ensures { result ≡ (if bytes_eq word.now (codes "line") then Some (source.Line number) else if bytes_eq word.now (codes "shard") then Some (source.Shard number) else if bytes_eq word.now (codes "desk") then Some (source.Desk number) else None) }
+    ensures { result ≡ (if bytes_eq word.now (codes "line") then Some (source.Line number)
+        else if bytes_eq word.now (codes "shard") then Some (source.Shard number)
+        else if bytes_eq word.now (codes "desk") then Some (source.Desk number) else None) }
 {
     if word == b"line".as_slice() {
         Some(Source::Line(number))

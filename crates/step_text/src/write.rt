@@ -37,7 +37,8 @@ pub fn put_kind(
     machines: &Machines,
     kind: u8,
 ) -> Result<(), AllocError>
-    ensures { OnOk result (out.new.items ≡ out.old.items ++ behind (kind_word (names_of laws.now machines.now) kind ∷ [])) }
+    ensures { OnOk result (out.new.items
+        ≡ out.old.items ++ behind (kind_word (names_of laws.now machines.now) kind ∷ [])) }
 {
     match laws.kinds().as_slice().get(usize::from(kind)) {
         Some(entry) => put_word(out, entry.name.as_slice()),
@@ -52,7 +53,8 @@ fn put_machine(
     machines: &Machines,
     machine: u64,
 ) -> Result<(), AllocError>
-    ensures { OnOk result (out.new.items ≡ out.old.items ++ behind (machine_word (names_of laws.now machines.now) machine ∷ [])) }
+    ensures { OnOk result (out.new.items
+        ≡ out.old.items ++ behind (machine_word (names_of laws.now machines.now) machine ∷ [])) }
 {
     for entry in machines.numbers.as_slice() {
         if entry.value == machine {
@@ -104,7 +106,8 @@ fn put_told(
     key: &Key,
     event: &Event,
 ) -> Result<(), AllocError>
-    ensures { OnOk result (out.new.items ≡ out.old.items ++ behind (decimal desk ∷ shown (key_name key.now) ∷ kind_word (names_of laws.now machines.now) event.now.kind ∷ fact_words 0 event.now.facts)) }
+    ensures { OnOk result (out.new.items ≡ out.old.items ++ behind (decimal desk ∷ shown (key_name key.now)
+        ∷ kind_word (names_of laws.now machines.now) event.now.kind ∷ fact_words 0 event.now.facts)) }
 {
     put_number(out, b" ", u64::from(desk))?;
     put_key(out, key)?;
@@ -120,7 +123,8 @@ fn put_fired(
     machine: u64,
     generation: u64,
 ) -> Result<(), AllocError>
-    ensures { OnOk result (out.new.items ≡ out.old.items ++ behind (machine_word (names_of laws.now machines.now) machine ∷ decimal generation ∷ [])) }
+    ensures { OnOk result (out.new.items
+        ≡ out.old.items ++ behind (machine_word (names_of laws.now machines.now) machine ∷ decimal generation ∷ [])) }
 {
     put_machine(out, laws, machines, machine)?;
     put_number(out, b" ", generation)
@@ -133,7 +137,8 @@ fn put_others(
     machines: &Machines,
     step: &Step,
 ) -> Result<(), AllocError>
-    ensures { OnOk result (out.new.items ≡ out.old.items ++ behind (others_of (names_of laws.now machines.now) step.now)) }
+    ensures { OnOk result (out.new.items
+        ≡ out.old.items ++ behind (others_of (names_of laws.now machines.now) step.now)) }
 {
     match step {
         Step::Joined => Ok(()),
@@ -150,8 +155,8 @@ fn put_others(
     }
 }
 
-/// Puts the line of a step, without a newline, behind what is there: the command and its words with one blank between. A kind or a
-/// machine without a name is `-`.
+/// Puts the line of a step, without a newline, behind what is there: the command and its words with one blank between.
+/// A kind or a machine without a name is `-`.
 pub fn write_step(
     out: &mut Vec<u8>,
     laws: &LawBook,

@@ -1,3 +1,4 @@
+-- The definitions that the contracts of tab_asm speak of.
 pub mod Formats
 pub mod Images
 pub mod Paths

@@ -38,7 +38,8 @@ arrow_label table from to =
 unfoldable pub arrow : Contents → ℕ × List ℕ → ℕ × List ℕ → List ℕ
 arrow table (from, from_name) (to, to_name) =
     if list_any (goes from to) table.rows
-    then codes "  \"" ++ from_name ++ codes "\" -> \"" ++ to_name ++ codes "\"" ++ arrow_label table from to ++ codes ";\n"
+    then codes "  \"" ++ from_name ++ codes "\" -> \"" ++ to_name ++ codes "\"" ++ arrow_label table from to
+    ++ codes ";\n"
     else []
 
 -- the arrows that begin at a state, by where they end

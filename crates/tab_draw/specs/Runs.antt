@@ -1,7 +1,8 @@
 -- What is told where a table's text is drawn.
-use Rattle.std.specs.Prelude.{◌≡◌, ◌⊎◌, ℕ, List, Option, Some, None, codes}
+use Rattle.std.specs.Prelude.{◌≡◌, ◌⊎◌, ℕ, Bool, List, Option, codes, is_some}
 use Rattle.std.specs.Option.{option_map_or}
 use Rattle.base_device.specs.Devices.{Tells}
+use Rattle.base_device.specs.Tellings.{told_status}
 use Rattle.base_device.specs.declared.status.Status.{Status}
 use Rattle.base_device.specs.declared.status.Status.TheVariants as statuses
 use Rattle.fault_text.specs.Faults.{table_fault}
@@ -14,14 +15,13 @@ use Rattle.tab_draw.specs.Drawing.{drawing}
 unfoldable pub graph_text : List ℕ → List ℕ
 graph_text table = option_map_or (table_fault table) (first_fault table) (drawing (table_of table))
 
--- and with which status
+-- and with which status: a fault is a refusal
 abbrev pub graph_status : Option TextFault → Status
-graph_status None = statuses.Done
-graph_status (Some fault) = statuses.Refused
+graph_status fault = told_status (is_some fault)
 
--- a text and a status are those that are told
-abbrev pub IsTold : List ℕ → List ℕ → Status → Type 0
-IsTold table text status = (text ≡ graph_text table) × (status ≡ graph_status (first_fault table))
+-- what is told, and whether it is a refusal
+abbrev pub IsTold : (table text : List ℕ) → Bool → Type 0
+IsTold table text refused = (text ≡ graph_text table) × (refused ≡ is_some (first_fault table))
 
 -- that is told, or memory ran out, and that is
 abbrev pub IsDrawnOn : {O : Type 0} → (contents : O → Option (List ℕ)) → (failures idle : O → ℕ) → (table : List ℕ)

@@ -87,7 +87,8 @@ fn has_row(table: &Table, from: usize, to: usize) -> bool
     table.rows().iter().any(|row| goes(row, from, to))
 }
 
-/// Puts the label of an arrow: a line for each of its rows, but at an arrow from a state to itself, whose rows stand in the box.
+/// Puts the label of an arrow: a line for each of its rows, but at an arrow from a state to itself,
+/// whose rows stand in the box.
 #[tactic(auto, unfolding(crate::specs::Drawing::arrow_label))]
 fn put_arrow_label(
     out: &mut Vec<u8>,
@@ -156,9 +157,10 @@ fn put_arrows(out: &mut Vec<u8>, table: &Table) -> Result<(), AllocError>
     Ok(())
 }
 
-/// The graph of a table: a box for each state, in order, in which each row stands that stays in the state; and from a state to a state
-/// to which rows go one arrow, with a line for each of those rows: its number, kind and guards. Rows stand in order, and so do arrows,
-/// by where they begin and then by where they end. A state in which rows stay has an arrow to itself, without lines.
+/// The graph of a table: a box for each state, in order, in which each row stands that stays in the state; and from a
+/// state to a state to which rows go one arrow, with a line for each of those rows: its number, kind and guards. Rows
+/// stand in order, and so do arrows, by where they begin and then by where they end. A state in which rows stay has an
+/// arrow to itself, without lines.
 ///
 /// Names have no character that would need an escape.
 #[tactic(auto, unfolding(crate::specs::Drawing::drawing))]

@@ -4,31 +4,24 @@ ghost use Rattle.base_device.specs.Devices.{HasWriteCause};
 ghost use Rattle.tab_draw.specs.Runs.{IsDrawnOn, IsTold};
 
 use crate::graph::draw;
-use base_device::{ByteSink, MAX_IDLE_WRITES, Status, tell};
+use base_device::{ByteSink, MAX_IDLE_WRITES, Status, Told, tell};
 use fault_text::table_fault;
 use std::alloc::{AllocError, Global};
 use tab_text::{ParseError, parse};
 
-/// What is told, and with which status.
-#[derive(Drop)]
-struct Told {
-    text: Vec<u8>,
-    status: Status,
-}
-
 /// The graph of a table's text, or its first fault.
 #[tactic(auto, unfolding(crate::specs::Runs::graph_text))]
 fn graph_of(alloc: Global, text: &[u8]) -> Result<Told, AllocError>
-    ensures { IfOk result (λ told. IsTold text.now told.text.items told.status) }
+    ensures { IfOk result (λ told. IsTold text.now told.text.items told.refused) }
 {
     match parse(alloc, text) {
         Ok(table) => Ok(Told {
             text: draw(alloc, &table)?,
-            status: Status::Done,
+            refused: false,
         }),
         Err(ParseError::Fault(fault)) => Ok(Told {
             text: table_fault(alloc, text, &fault)?,
-            status: Status::Refused,
+            refused: true,
         }),
         Err(ParseError::NoMemory) => Err(AllocError),
     }
@@ -51,7 +44,7 @@ pub fn draw_on<O: ByteSink>(alloc: Global, table: &[u8], sink: &mut O) -> Status
     ensures row { O.most_idle sink.new ≤ max (O.most_idle sink.old) MAX_IDLE_WRITES }
 {
     match graph_of(alloc, table) {
-        Ok(told) => tell(sink, &told.text, told.status),
+        Ok(told) => tell(sink, &told.text, told.status()),
         Err(AllocError) => tell(sink, b"no memory\n", Status::NoMemory),
     }
 }

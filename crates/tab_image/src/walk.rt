@@ -7,7 +7,7 @@ ghost use Rattle.tab_image.specs.Walks.{IsAt, IsEnd};
 
 use tab_call::Registry;
 use tab_law::Scene;
-use tab_load::{Program, Step, step_in, width_of};
+use tab_load::{CodeInstruction, Program, step_in, width_of};
 use tab_text::Places;
 
 /// How a walk ends: by a row and its Next, or without a row.
@@ -66,13 +66,13 @@ fn advance(walk: &mut Walk, program: &Program, registry: &Registry, scene: &Scen
     let format = program.format();
     let code = program.code();
     match step_in(format, &code[walk.at..]) {
-        Step::Begin(row) => {
+        CodeInstruction::Begin(row) => {
             walk.row = row;
             walk.acts.clear();
             walk.at += 3;
             None
         }
-        Step::Test(guard, otherwise) => {
+        CodeInstruction::Test(guard, otherwise) => {
             if says(program, registry, scene, guard) {
                 walk.at += 2 + width_of(format);
                 return None;
@@ -80,14 +80,14 @@ fn advance(walk: &mut Walk, program: &Program, registry: &Registry, scene: &Scen
             walk.at = otherwise as usize;
             None
         }
-        Step::Act(action) => {
+        CodeInstruction::Act(action) => {
             let place = program.names().actions.places[action as usize];
             walk.acts.push(place);
             walk.at += 2;
             None
         }
-        Step::Go(state) => Some(Ending::Row(walk.row, state)),
-        Step::End => Some(Ending::NoRow),
+        CodeInstruction::Go(state) => Some(Ending::Row(walk.row, state)),
+        CodeInstruction::End => Some(Ending::NoRow),
     }
 }
 

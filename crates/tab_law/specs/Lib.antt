@@ -1,3 +1,4 @@
+-- The definitions that the contracts of tab_law speak of.
 pub mod Scenes
 pub mod Values
 pub mod Guards

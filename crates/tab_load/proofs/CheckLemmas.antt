@@ -5,10 +5,10 @@ use Rattle.tab_asm.specs.Formats.{Instruction, octets_of, code_of}
 use Rattle.tab_load.specs.Faults.{format_of}
 use Rattle.tab_load.specs.Code.{instruction_of, instructions_of, is_end, IsEnded}
 use Rattle.tab_load.specs.declared.counts.Format.{Format}
-use Rattle.tab_load.specs.declared.instruction.Step.{Step}
+use Rattle.tab_load.specs.declared.instruction.CodeInstruction.{CodeInstruction}
 
 -- instructions apart at the one of that number
-pub split-at : (steps : List Step) (i : ℕ) (d : Step) → i < length steps → (after : List Instruction) × (instructions_of steps ≡ instructions_of (take i steps) ++ instruction_of (get_or steps i d) ∷ after)
+pub split-at : (steps : List CodeInstruction) (i : ℕ) (d : CodeInstruction) → i < length steps → (after : List Instruction) × (instructions_of steps ≡ instructions_of (take i steps) ++ instruction_of (get_or steps i d) ∷ after)
 split-at [] i d below = absurd (omega arith)
 split-at (step ∷ steps) zero d below = (instructions_of steps, refl)
 split-at (step ∷ steps) (suc i) d below =
@@ -16,7 +16,7 @@ split-at (step ∷ steps) (suc i) d below =
     (rest.0, ap (λ (r : List Instruction). instruction_of step ∷ r) rest.1)
 
 -- and at the last one
-pub last-at : (steps : List Step) (i : ℕ) (d : Step) → i + 1 ≡ length steps → (before : List Instruction) × (instructions_of steps ≡ before ++ instruction_of (get_or steps i d) ∷ [])
+pub last-at : (steps : List CodeInstruction) (i : ℕ) (d : CodeInstruction) → i + 1 ≡ length steps → (before : List Instruction) × (instructions_of steps ≡ before ++ instruction_of (get_or steps i d) ∷ [])
 last-at [] i d long = absurd (omega (arith, long))
 last-at (step ∷ []) zero d long = ([], refl)
 last-at (step ∷ []) (suc i) d long = absurd (omega (arith, long))
@@ -26,7 +26,7 @@ last-at (step ∷ next ∷ steps) (suc i) d long =
     (instruction_of step ∷ rest.0, ap (λ (r : List Instruction). instruction_of step ∷ r) rest.1)
 
 -- instructions that end with an end
-pub ended-at : (steps : List Step) (i : ℕ) (d : Step) → i + 1 ≡ length steps → is_end (instruction_of (get_or steps i d)) ≡ true → IsEnded (instructions_of steps)
+pub ended-at : (steps : List CodeInstruction) (i : ℕ) (d : CodeInstruction) → i + 1 ≡ length steps → is_end (instruction_of (get_or steps i d)) ≡ true → IsEnded (instructions_of steps)
 ended-at [] i d long is = absurd (omega (arith, long))
 ended-at (step ∷ []) zero d long is = is
 ended-at (step ∷ []) (suc i) d long is = absurd (omega (arith, long))

@@ -9,7 +9,7 @@ use Rattle.tab_load.specs.Code.{instruction_of, Fits, instructions_of, size_of, 
 use Rattle.tab_load.specs.declared.counts.Counts.{Counts}
 use Rattle.tab_load.specs.declared.counts.Format.{Format}
 use Rattle.tab_load.specs.declared.counts.Format.TheVariants.{One, Two}
-use Rattle.tab_load.specs.declared.instruction.Step.{Step}
+use Rattle.tab_load.specs.declared.instruction.CodeInstruction.{CodeInstruction}
 use Rattle.tab_load.specs.declared.fault.ImageFault.{ImageFault}
 use Rattle.tab_load.specs.declared.fault.ImageFault.TheVariants.{Count, BackJump}
 
@@ -81,7 +81,7 @@ pub code-more : (format : Format) (instructions : List Instruction) (instruction
 code-more format instructions instruction = sym (flat_map_more (octets_of (format_of format)) [] instructions instruction)
 
 -- the code as far as it was read, with one more instruction
-pub record IsMore (format : Format) (counts : Counts) (code : List ℕ) (at size : ℕ) (steps : List Step) (step : Step) : Type 0 where
+pub record IsMore (format : Format) (counts : Counts) (code : List ℕ) (at size : ℕ) (steps : List CodeInstruction) (step : CodeInstruction) : Type 0 where
   pub front : take (at + size) code ≡ code_of (format_of format) (instructions_of (steps ++ step ∷ []))
   pub fine : AreFine format counts (instructions_of (steps ++ step ∷ []))
   pub count : count_behind None (instructions_of (steps ++ step ∷ [])) ≡ counted (count_behind None (instructions_of steps)) (instruction_of step)
@@ -93,7 +93,7 @@ ends-at format code at size instructions instruction front inside long =
     let before : length (code_of (format_of format) instructions) ≡ at = sym (ap length front) ∙ length-take-le at code inside in
     ap length (code-more format instructions instruction) ∙ length-append (code_of (format_of format) instructions) (octets_of (format_of format) instruction) ∙ rw (before, long) refl
 
-pub is-more : (format : Format) (counts : Counts) (code : List ℕ) (at size : ℕ) (steps : List Step) (step : Step) (rest : List ℕ) (count : Option ℕ) → take at code ≡ code_of (format_of format) (instructions_of steps) → at ≤ length code → AreFine format counts (instructions_of steps) → count ≡ count_behind None (instructions_of steps) → size ≡ size_of format (slice_index_or code at 0) → drop at code ≡ octets_of (format_of format) (instruction_of step) ++ rest → instruction_fault counts count (at + size) (instruction_of step) ≡ None → IsMore format counts code at size steps step
+pub is-more : (format : Format) (counts : Counts) (code : List ℕ) (at size : ℕ) (steps : List CodeInstruction) (step : CodeInstruction) (rest : List ℕ) (count : Option ℕ) → take at code ≡ code_of (format_of format) (instructions_of steps) → at ≤ length code → AreFine format counts (instructions_of steps) → count ≡ count_behind None (instructions_of steps) → size ≡ size_of format (slice_index_or code at 0) → drop at code ≡ octets_of (format_of format) (instruction_of step) ++ rest → instruction_fault counts count (at + size) (instruction_of step) ≡ None → IsMore format counts code at size steps step
 is-more format counts code at size steps step rest count front inside fine counts_to sized stands none =
     let i = instruction_of step in
     let before = instructions_of steps in
@@ -109,13 +109,13 @@ is-more format counts code at size steps step rest count front inside fine count
     }
 
 -- the numbers of instructions with one more
-pub fits-more : (format : Format) (steps : List Step) (step : Step) → All (Fits format) (instructions_of steps) → Fits format (instruction_of step) → All (Fits format) (instructions_of (steps ++ step ∷ []))
+pub fits-more : (format : Format) (steps : List CodeInstruction) (step : CodeInstruction) → All (Fits format) (instructions_of steps) → Fits format (instruction_of step) → All (Fits format) (instructions_of (steps ++ step ∷ []))
 fits-more format steps step before fits =
     rw (map-more instruction_of steps step)
     (All-append (Fits format) (instructions_of steps) (instruction_of step ∷ []) before (All-cons (Fits format) (instruction_of step) [] fits (All-nil (Fits format))))
 
 -- what is wrong with the next instruction
-pub next-wrong : (format : Format) (counts : Counts) (code : List ℕ) (at : ℕ) (steps : List Step) (count : Option ℕ) (fault : ImageFault) → take at code ≡ code_of (format_of format) (instructions_of steps) → at ≤ length code → count ≡ count_behind None (instructions_of steps) → (octets_fault format (drop at code) ≡ Some fault) ⊎ ((step : Step) × (octets_fault format (drop at code) ≡ None) × (drop at code ≡ octets_of (format_of format) (instruction_of step) ++ drop (size_of format (slice_index_or code at 0)) (drop at code)) × Fits format (instruction_of step) × (instruction_fault counts count (at + size_of format (slice_index_or code at 0)) (instruction_of step) ≡ Some fault)) → NextWrong format counts (instructions_of steps) (drop at code) fault
+pub next-wrong : (format : Format) (counts : Counts) (code : List ℕ) (at : ℕ) (steps : List CodeInstruction) (count : Option ℕ) (fault : ImageFault) → take at code ≡ code_of (format_of format) (instructions_of steps) → at ≤ length code → count ≡ count_behind None (instructions_of steps) → (octets_fault format (drop at code) ≡ Some fault) ⊎ ((step : CodeInstruction) × (octets_fault format (drop at code) ≡ None) × (drop at code ≡ octets_of (format_of format) (instruction_of step) ++ drop (size_of format (slice_index_or code at 0)) (drop at code)) × Fits format (instruction_of step) × (instruction_fault counts count (at + size_of format (slice_index_or code at 0)) (instruction_of step) ≡ Some fault)) → NextWrong format counts (instructions_of steps) (drop at code) fault
 next-wrong format counts code at steps count fault front inside counts_to (inl octets) = inl octets
 next-wrong format counts code at steps count fault front inside counts_to (inr wrong) =
     let i = instruction_of wrong.0 in

@@ -7,8 +7,8 @@ use Rattle.tab_asm.specs.Formats.{Instruction, BeginRow, TestGuard, RunAction, G
 use Rattle.tab_load.specs.Faults.{format_of, width_of, code_limit, at_of}
 use Rattle.tab_load.specs.declared.counts.Counts.{Counts}
 use Rattle.tab_load.specs.declared.counts.Format.{Format}
-use Rattle.tab_load.specs.declared.instruction.Step.{Step}
-use Rattle.tab_load.specs.declared.instruction.Step.TheVariants as step
+use Rattle.tab_load.specs.declared.instruction.CodeInstruction.{CodeInstruction}
+use Rattle.tab_load.specs.declared.instruction.CodeInstruction.TheVariants as step
 use Rattle.tab_load.specs.declared.scan.Scan.{Scan}
 use Rattle.tab_load.specs.declared.fault.ImageFault.{ImageFault}
 use Rattle.tab_load.specs.declared.fault.LoadError.{LoadError}
@@ -16,7 +16,7 @@ use Rattle.tab_load.specs.declared.fault.LoadError.TheVariants.{Refused, NoMemor
 use Rattle.tab_load.specs.declared.fault.ImageFault.TheVariants.{Cut, Count, Offset, BackJump, OpCode, NoEnd}
 
 -- the instruction that a step of the loader's stands for
-abbrev pub instruction_of : Step → Instruction
+abbrev pub instruction_of : CodeInstruction → Instruction
 instruction_of (step.Begin row) = BeginRow row
 instruction_of (step.Test guard otherwise) = TestGuard guard otherwise
 instruction_of (step.Act action) = RunAction action
@@ -138,7 +138,7 @@ UnlessRefused (Ok value) Holds = Holds
 UnlessRefused (Err error) Holds = AtNoMemory Holds error
 
 -- the instructions that steps stand for
-abbrev pub instructions_of : List Step → List Instruction
+abbrev pub instructions_of : List CodeInstruction → List Instruction
 instructions_of steps = map instruction_of steps
 
 -- those that were read
@@ -164,7 +164,8 @@ IsStepFine format counts count code at instruction =
 abbrev pub StepWrong : Format → Counts → Option ℕ → List ℕ → ℕ → ImageFault → Type 0
 StepWrong format counts count code at fault =
     (octets_fault format (drop at code) ≡ Some fault)
-    ⊎ ((step : Step) × (octets_fault format (drop at code) ≡ None) × StandsAt format code at (instruction_of step)
+    ⊎ ((step : CodeInstruction) × (octets_fault format (drop at code) ≡ None)
+    × StandsAt format code at (instruction_of step)
     × Fits format (instruction_of step)
     × (instruction_fault counts count (end_at format code at) (instruction_of step) ≡ Some fault))
 

@@ -1,3 +1,4 @@
+-- The definitions that the contracts of tab_load speak of.
 pub mod Faults
 pub mod Code
 pub mod Names

@@ -9,26 +9,26 @@ ghost use Rattle.tab_load.specs.Code.{leads, is_entry, IsEnded, EndWrong, GuardW
 
 use crate::counts::{Format, width_of};
 use crate::fault::{ImageFault, LoadFault};
-use crate::instruction::Step;
+use crate::instruction::CodeInstruction;
 use crate::scan::Scan;
 
 /// How many octets an instruction has.
-pub fn size_of_step(format: Format, step: Step) -> usize
+pub fn size_of_step(format: Format, step: CodeInstruction) -> usize
     ensures { result ≡ length (octets_of (format_of format) (instruction_of step)) }
 {
     match step {
-        Step::Begin(_) => 3,
-        Step::Test(..) => 2 + width_of(format),
-        Step::Act(_) | Step::Go(_) => 2,
-        Step::End => 1,
+        CodeInstruction::Begin(_) => 3,
+        CodeInstruction::Test(..) => 2 + width_of(format),
+        CodeInstruction::Act(_) | CodeInstruction::Go(_) => 2,
+        CodeInstruction::End => 1,
     }
 }
 
 /// Whether an instruction ends an event.
-fn is_end(step: Step) -> bool
+fn is_end(step: CodeInstruction) -> bool
     ensures { result ≡ is_end (instruction_of step) }
 {
-    matches!(step, Step::Go(_) | Step::End)
+    matches!(step, CodeInstruction::Go(_) | CodeInstruction::End)
 }
 
 /// Whether there is an entry.
@@ -75,11 +75,11 @@ fn lands(marks: &[bool], offset: u32) -> bool
 }
 
 /// Whether a failed guard leads where a jump may lead.
-fn leads(marks: &[bool], step: Step) -> bool
+fn leads(marks: &[bool], step: CodeInstruction) -> bool
     ensures { result ≡ leads marks.now (instruction_of step) }
 {
     match step {
-        Step::Test(_, otherwise) => lands(marks, otherwise),
+        CodeInstruction::Test(_, otherwise) => lands(marks, otherwise),
         _ => true,
     }
 }

@@ -12,7 +12,7 @@ use crate::fault::ImageFault;
 
 /// An instruction with its operands.
 #[derive(Clone, Copy, PartialEq, Eq)]
-pub enum Step {
+pub enum CodeInstruction {
     /// Begins that row anew.
     Begin(u16),
     /// Goes to that offset where the guard says no.
@@ -65,42 +65,42 @@ pub(crate) fn offset_in(format: Format, octets: &[u8]) -> u32
 }
 
 /// The instruction that octets begin with.
-pub fn step_in(format: Format, octets: &[u8]) -> Step
+pub fn step_in(format: Format, octets: &[u8]) -> CodeInstruction
     requires { octets_fault format octets.now ≡ None }
     ensures octets { octets.now ≡ octets_of (format_of format) (instruction_of result)
         ++ drop (size_of format (slice_index_or octets.now 0 0)) octets.now }
     ensures fits { Fits format (instruction_of result) }
 {
     match octets[0] {
-        1 => Step::Begin(u16::from_be_bytes([octets[1], octets[2]])),
-        2 => Step::Test(octets[1], offset_in(format, &octets[2..])),
-        3 => Step::Act(octets[1]),
-        4 => Step::Go(octets[1]),
-        _ => Step::End,
+        1 => CodeInstruction::Begin(u16::from_be_bytes([octets[1], octets[2]])),
+        2 => CodeInstruction::Test(octets[1], offset_in(format, &octets[2..])),
+        3 => CodeInstruction::Act(octets[1]),
+        4 => CodeInstruction::Go(octets[1]),
+        _ => CodeInstruction::End,
     }
 }
 
 /// Whether the operands of an instruction name what the image has.
-fn is_in_range(counts: &Counts, step: Step) -> bool
+fn is_in_range(counts: &Counts, step: CodeInstruction) -> bool
     ensures { result ≡ is_in_range counts.now (instruction_of step) }
 {
     match step {
-        Step::Begin(row) => (row as usize) < counts.rows,
-        Step::Test(guard, _) => (guard as usize) < counts.guards,
-        Step::Act(action) => (action as usize) < counts.actions,
-        Step::Go(state) => (state as usize) < counts.states,
-        Step::End => true,
+        CodeInstruction::Begin(row) => (row as usize) < counts.rows,
+        CodeInstruction::Test(guard, _) => (guard as usize) < counts.guards,
+        CodeInstruction::Act(action) => (action as usize) < counts.actions,
+        CodeInstruction::Go(state) => (state as usize) < counts.states,
+        CodeInstruction::End => true,
     }
 }
 
 /// Whether an instruction may stand behind that many actions of a row.
-fn is_in_row(count: Option<usize>, step: Step) -> bool
+fn is_in_row(count: Option<usize>, step: CodeInstruction) -> bool
     ensures { result ≡ is_in_row count (instruction_of step) }
 {
     match step {
-        Step::Begin(_) | Step::End => true,
-        Step::Test(..) | Step::Go(_) => count.is_some(),
-        Step::Act(_) => match count {
+        CodeInstruction::Begin(_) | CodeInstruction::End => true,
+        CodeInstruction::Test(..) | CodeInstruction::Go(_) => count.is_some(),
+        CodeInstruction::Act(_) => match count {
             None => false,
             Some(n) => n < 8,
         },
@@ -108,11 +108,11 @@ fn is_in_row(count: Option<usize>, step: Step) -> bool
 }
 
 /// Whether a failed guard goes on behind its test.
-fn is_forward(behind: usize, step: Step) -> bool
+fn is_forward(behind: usize, step: CodeInstruction) -> bool
     ensures { result ≡ is_forward behind (instruction_of step) }
 {
     match step {
-        Step::Test(_, otherwise) => behind <= otherwise as usize,
+        CodeInstruction::Test(_, otherwise) => behind <= otherwise as usize,
         _ => true,
     }
 }
@@ -122,7 +122,7 @@ pub(crate) fn instruction_fault(
     counts: &Counts,
     count: Option<usize>,
     behind: usize,
-    step: Step,
+    step: CodeInstruction,
 ) -> Option<ImageFault>
     ensures { result ≡ instruction_fault counts.now count behind (instruction_of step) }
 {
@@ -136,13 +136,13 @@ pub(crate) fn instruction_fault(
 }
 
 /// How many actions of a row stand behind its begin, with one more instruction.
-pub(crate) fn counted(count: Option<usize>, step: Step) -> Option<usize>
+pub(crate) fn counted(count: Option<usize>, step: CodeInstruction) -> Option<usize>
     requires { is_in_row count (instruction_of step) ≡ true }
     ensures { result ≡ counted count (instruction_of step) }
 {
     match step {
-        Step::Begin(_) => Some(0),
-        Step::Act(_) => match count {
+        CodeInstruction::Begin(_) => Some(0),
+        CodeInstruction::Act(_) => match count {
             Some(n) => Some(n + 1),
             None => None,
         },

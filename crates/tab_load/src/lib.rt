@@ -16,7 +16,7 @@ mod scan;
 pub use checks::size_of_step;
 pub use counts::{Format, width_of};
 pub use fault::{ImageFault, LoadError, LoadFault};
-pub use instruction::{Step, step_in};
+pub use instruction::{CodeInstruction, step_in};
 pub use loading::load;
 pub use names::{ImageNames, Names};
 pub use program::Program;

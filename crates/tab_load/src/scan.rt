@@ -7,7 +7,9 @@ ghost use Rattle.tab_load.specs.Code.{ScanWrong, IsOnly, IsRefusal, instruction_
 
 use crate::counts::{Counts, Format};
 use crate::fault::{ImageFault, LoadError, fault_at};
-use crate::instruction::{Step, counted, instruction_fault, octets_fault, size_of, step_in};
+use crate::instruction::{
+    CodeInstruction, counted, instruction_fault, octets_fault, size_of, step_in,
+};
 use std::alloc::{AllocError, Global};
 
 /// What is known of the code as far as it was read.
@@ -15,7 +17,7 @@ use std::alloc::{AllocError, Global};
 pub struct Scan {
     /// How many octets were read.
     pub at: usize,
-    pub steps: Vec<Step>,
+    pub steps: Vec<CodeInstruction>,
     /// For each octet that was read whether a jump may lead there.
     pub landings: Vec<bool>,
     /// How many actions stand behind the row that was begun last.
@@ -23,14 +25,14 @@ pub struct Scan {
 }
 
 /// Whether a jump may lead to an instruction.
-fn is_landing(step: Step) -> bool
+fn is_landing(step: CodeInstruction) -> bool
     ensures { result ≡ is_landing (instruction_of step) }
 {
-    matches!(step, Step::Begin(_) | Step::End)
+    matches!(step, CodeInstruction::Begin(_) | CodeInstruction::End)
 }
 
 /// Notes for each octet of an instruction whether a jump may lead there.
-fn put_landings(out: &mut Vec<bool>, step: Step, size: usize) -> Result<(), AllocError>
+fn put_landings(out: &mut Vec<bool>, step: CodeInstruction, size: usize) -> Result<(), AllocError>
     requires { 0 < size }
     ensures { OnOk result (out.new.items ≡ out.old.items ++ marks_of size (instruction_of step)) }
 {
@@ -48,7 +50,7 @@ fn read_step(
     count: Option<usize>,
     code: &[u8],
     at: usize,
-) -> Result<Step, ImageFault>
+) -> Result<CodeInstruction, ImageFault>
     requires { at < length code.now }
     ensures octets { IfErr result (StepWrong format counts.now count code.now at) }
     ensures stands { IfOk result (λ step. StandsAt format code.now at (instruction_of step)) }

@@ -124,7 +124,8 @@ fn widths_of(alloc: Global, table: &Table) -> Result<Widths, AllocError>
 
 /// The line of a row, numbered from 0, as `print` puts it; none where the table has no such row.
 pub fn print_row(alloc: Global, table: &Table, row: usize) -> Result<Option<Vec<u8>>, AllocError>
-    ensures { IfOk result (λ line. option_map (λ octets. octets.items) line ≡ option_map (row_line table.now (widths_of table.now)) (slice_get table.now.rows row)) }
+    ensures { IfOk result (λ line. option_map (λ octets. octets.items) line
+        ≡ option_map (row_line table.now (widths_of table.now)) (slice_get table.now.rows row)) }
 {
     let Some(row) = table.rows().get(row) else {
         return Ok(None);

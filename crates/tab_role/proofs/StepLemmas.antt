@@ -8,7 +8,7 @@ use Rattle.tab_law.specs.declared.law.Term.{Term}
 use Rattle.tab_law.specs.declared.law.Term.TheVariants.{Just}
 use Rattle.tab_role.specs.declared.step.Services.{Services}
 use Rattle.tab_law.specs.declared.law.Change.{Change}
-use Rattle.tab_role.specs.Lines.{argument, kept}
+use Rattle.tab_role.specs.Entries.{argument, kept}
 use Rattle.tab_role.specs.declared.step.TheConstants.{COUNT, KEPT}
 
 -- the arguments so far and one more

@@ -1,3 +1,4 @@
+-- The definitions that the contracts of tab_role speak of.
 pub mod Roles
-pub mod Lines
+pub mod Entries
 pub mod Registering

@@ -1,19 +1,19 @@
-//! The law book of a role's lines.
+//! The law book of a role's entries.
 
 ghost use Rattle.std.specs.Prelude.{◌≡◌, ◌++◌, IfOk, OnOk, map};
-ghost use Rattle.tab_role.specs.Lines.{kind_of, guard_of, act_of, laws_of};
+ghost use Rattle.tab_role.specs.Entries.{kind_of, guard_of, act_of, laws_of};
 
 use crate::check::{Check, guard_law};
-use crate::step::{Step, act_law};
+use crate::step::{ActionStep, act_law};
 use base_list::AddError;
 use std::alloc::{AllocError, Global};
 use tab_law::LawBook;
 
 /// A guard: its name and what it asks.
-pub type GuardLine = (&'static str, Check);
+pub type GuardEntry = (&'static str, Check);
 
 /// An action: its name and what it does.
-pub type ActLine = (&'static str, &'static [Step]);
+pub type ActEntry = (&'static str, &'static [ActionStep]);
 
 /// Adds kinds of events.
 fn add_kinds(book: &mut LawBook, names: &[&'static str]) -> Result<(), AddError>
@@ -26,32 +26,32 @@ fn add_kinds(book: &mut LawBook, names: &[&'static str]) -> Result<(), AddError>
 }
 
 /// Adds guards.
-fn add_guards(alloc: Global, book: &mut LawBook, lines: &[GuardLine]) -> Result<(), AddError>
-    ensures { OnOk result (book.new ≡ record book.old { guards = book.old.guards ++ map guard_of lines.now }) }
+fn add_guards(alloc: Global, book: &mut LawBook, entries: &[GuardEntry]) -> Result<(), AddError>
+    ensures { OnOk result (book.new ≡ record book.old { guards = book.old.guards ++ map guard_of entries.now }) }
 {
-    for (name, check) in lines {
+    for (name, check) in entries {
         book.add_guard(name.as_bytes(), guard_law(alloc, *check)?)?;
     }
     Ok(())
 }
 
 /// Adds actions.
-fn add_acts(alloc: Global, book: &mut LawBook, lines: &[ActLine]) -> Result<(), AddError>
-    ensures { OnOk result (book.new ≡ record book.old { acts = book.old.acts ++ map act_of lines.now }) }
+fn add_acts(alloc: Global, book: &mut LawBook, entries: &[ActEntry]) -> Result<(), AddError>
+    ensures { OnOk result (book.new ≡ record book.old { acts = book.old.acts ++ map act_of entries.now }) }
 {
-    for (name, steps) in lines {
+    for (name, steps) in entries {
         book.add_act(name.as_bytes(), act_law(alloc, steps)?)?;
     }
     Ok(())
 }
 
-/// Adds all lines of a role.
+/// Adds all entries of a role.
 fn add_all(
     alloc: Global,
     book: &mut LawBook,
     kinds: &[&'static str],
-    guards: &[GuardLine],
-    acts: &[ActLine],
+    guards: &[GuardEntry],
+    acts: &[ActEntry],
 ) -> Result<(), AddError>
     ensures kinds { OnOk result (book.new.kinds ≡ book.old.kinds ++ map kind_of kinds.now) }
     ensures guards { OnOk result (book.new.guards ≡ book.old.guards ++ map guard_of guards.now) }
@@ -62,14 +62,14 @@ fn add_all(
     add_acts(alloc, book, acts)
 }
 
-/// The law book of a role: its kinds of events by name, its guards and its actions, in the order of their lines. A
-/// role's lines name nothing twice and are no more than a book has room for; what is wanting where there is none is
+/// The law book of a role: its kinds of events by name, its guards and its actions, in the order of their entries. A
+/// role's entries name nothing twice and are no more than a book has room for; what is short where there is none is
 /// then memory.
 pub fn laws_of(
     alloc: Global,
     kinds: &[&'static str],
-    guards: &[GuardLine],
-    acts: &[ActLine],
+    guards: &[GuardEntry],
+    acts: &[ActEntry],
 ) -> Result<LawBook, AllocError>
     ensures { IfOk result (λ book. book ≡ laws_of kinds.now guards.now acts.now) }
 {

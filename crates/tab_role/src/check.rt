@@ -1,7 +1,7 @@
 //! What a guard asks, as data.
 
 ghost use Rattle.std.specs.Prelude.{◌≡◌, ◌∷◌, [], IfOk};
-ghost use Rattle.tab_role.specs.Lines.{test_of};
+ghost use Rattle.tab_role.specs.Entries.{test_of};
 
 use std::alloc::{AllocError, Global};
 use tab_law::{Atom, Field, GuardLaw, Numbers, Test};

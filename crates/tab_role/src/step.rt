@@ -4,7 +4,7 @@ ghost use Rattle.std.specs.Prelude.{◌≡◌, ◌≤◌, ◌++◌, ◌-◌, IfO
 ghost use Rattle.std.specs.List.{flat_map, range_with_len};
 ghost use Rattle.tab_law.specs.declared.law.Term.TheVariants.{Just};
 ghost use Rattle.tab_law.specs.declared.limits.TheConstants.{PLACES};
-ghost use Rattle.tab_role.specs.Lines.{services_argument, argument, changes_of, kept};
+ghost use Rattle.tab_role.specs.Entries.{services_argument, argument, changes_of, kept};
 ghost use Rattle.tab_role.specs.declared.step.TheConstants.{COUNT, KEPT, ARGUMENTS};
 
 use base_codes::{DeedCode, session_fact, slot};
@@ -40,7 +40,7 @@ pub enum Services {
 
 /// One thing that an action does.
 #[derive(Clone, Copy)]
-pub enum Step {
+pub enum ActionStep {
     /// The register becomes that.
     Set(u8, Atom),
     /// The register becomes one more.
@@ -129,24 +129,27 @@ fn keep_services(changes: &mut Vec<Change>) -> Result<(), AllocError>
 }
 
 /// Appends what a step is as changes of a law.
-fn put(alloc: Global, changes: &mut Vec<Change>, step: Step) -> Result<(), AllocError>
+fn put(alloc: Global, changes: &mut Vec<Change>, step: ActionStep) -> Result<(), AllocError>
     ensures { OnOk result (changes.new.items ≡ changes.old.items ++ changes_of step) }
 {
     let change = match step {
-        Step::Set(register, atom) => Change::Set(register, Term::Just(atom)),
-        Step::Next(register) => {
+        ActionStep::Set(register, atom) => Change::Set(register, Term::Just(atom)),
+        ActionStep::Next(register) => {
             let more = Term::Sum(Atom::Register(register), Atom::Constant(1));
             Change::Set(register, more)
         }
-        Step::Pick(register, low, high) => {
+        ActionStep::Pick(register, low, high) => {
             Change::Pick(register, Term::Just(low), Term::Just(high))
         }
-        Step::KeepServices => return keep_services(changes),
-        Step::Do(code, arguments) => Change::Emit(code.number(), deed_terms(alloc, arguments)?),
-        Step::DoWhere(atom, code, arguments) => {
+        ActionStep::KeepServices => return keep_services(changes),
+        ActionStep::Do(code, arguments) => Change::Emit(
+            code.number(),
+            deed_terms(alloc, arguments)?,
+        ),
+        ActionStep::DoWhere(atom, code, arguments) => {
             Change::EmitIf(atom, code.number(), deed_terms(alloc, arguments)?)
         }
-        Step::Send(code, head, services) => {
+        ActionStep::Send(code, head, services) => {
             Change::Emit(code.number(), message_terms(alloc, head, services)?)
         }
     };
@@ -155,7 +158,7 @@ fn put(alloc: Global, changes: &mut Vec<Change>, step: Step) -> Result<(), Alloc
 }
 
 /// The law of an action that takes these steps.
-pub(crate) fn act_law(alloc: Global, steps: &[Step]) -> Result<ActLaw, AllocError>
+pub(crate) fn act_law(alloc: Global, steps: &[ActionStep]) -> Result<ActLaw, AllocError>
     ensures { IfOk result (λ law. law ≡ flat_map changes_of steps.now) }
 {
     let mut changes = Vec::new(alloc);

@@ -1,3 +1,4 @@
+-- The definitions that the contracts of tab_text speak of.
 pub mod Codes
 pub mod Contents
 pub mod Names

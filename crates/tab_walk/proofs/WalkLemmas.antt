@@ -23,7 +23,7 @@ use Rattle.tab_step.specs.declared.machine.Stepped.{Stepped}
 use Rattle.base_device.specs.declared.status.Status.{Status}
 use Rattle.base_device.specs.declared.status.Status.TheVariants as statuses
 use Rattle.fault_text.specs.Spots.{unbound_place}
-use Rattle.tab_walk.specs.declared.start.Manner.{Manner}
+use Rattle.tab_walk.specs.declared.start.WalkOptions.{WalkOptions}
 use Rattle.tab_walk.specs.Walks.{AreSteps, Printing, is_image, IsRefused, IsRunFrom, IsRunOver, IsWalked, IsWalkedOf, RunText, StepByRows, bind_text, parse_text, steps_text, table_refusal, table_rows, told_text}
 
 -- there is one step for each event
@@ -86,25 +86,25 @@ fault_is None fault refusal = absurd (cc)
 fault_is (Some other) fault refusal = cc
 
 -- the table's text has a fault
-pub IsWalked-unparsed : (laws : Laws) (manner : Manner) (table events text : List ℕ) (status : Status) (error : ParseError) → IsRefusal (first_fault table) error
-    → IsRefused (parse_text laws table error) text status → IsWalked laws manner table events text status
-IsWalked-unparsed laws manner table events text status error refusal (inr short) = inl (inr short)
-IsWalked-unparsed laws manner table events text status parsing.NoMemory refusal (inl is) = let none = is.0 in absurd (cc)
-IsWalked-unparsed laws manner table events text status (parsing.Fault fault) refusal (inl is) =
+pub IsWalked-unparsed : (laws : Laws) (options : WalkOptions) (table events text : List ℕ) (status : Status) (error : ParseError) → IsRefusal (first_fault table) error
+    → IsRefused (parse_text laws table error) text status → IsWalked laws options table events text status
+IsWalked-unparsed laws options table events text status error refusal (inr short) = inl (inr short)
+IsWalked-unparsed laws options table events text status parsing.NoMemory refusal (inl is) = let none = is.0 in absurd (cc)
+IsWalked-unparsed laws options table events text status (parsing.Fault fault) refusal (inl is) =
     inl (inl (rw (fault_is _ fault refusal) is.0, is.1))
 
 -- the book lacks a name
-pub IsWalked-unbound : (laws : Laws) (manner : Manner) (table events text : List ℕ) (status : Status) (why : Unbound) → first_fault table ≡ None
-    → IsUnbound (slice_get (missing laws (table_of table)) 0) why → IsRefused (bind_text laws (unbound_place laws (table_of table)) why) text status → IsWalked laws manner table events text status
-IsWalked-unbound laws manner table events text status why sound unbound (inr short) = inl (inr short)
-IsWalked-unbound laws manner table events text status binding.NoMemory sound unbound (inl is) = let none = is.0 in absurd (cc)
-IsWalked-unbound laws manner table events text status (binding.Missing name) sound unbound (inl is) =
+pub IsWalked-unbound : (laws : Laws) (options : WalkOptions) (table events text : List ℕ) (status : Status) (why : Unbound) → first_fault table ≡ None
+    → IsUnbound (slice_get (missing laws (table_of table)) 0) why → IsRefused (bind_text laws (unbound_place laws (table_of table)) why) text status → IsWalked laws options table events text status
+IsWalked-unbound laws options table events text status why sound unbound (inr short) = inl (inr short)
+IsWalked-unbound laws options table events text status binding.NoMemory sound unbound (inl is) = let none = is.0 in absurd (cc)
+IsWalked-unbound laws options table events text status (binding.Missing name) sound unbound (inl is) =
     inl (inl (rw (sound, unbound) is.0, is.1))
 
 -- the table is bound
-pub IsWalked-bound : (laws : Laws) (manner : Manner) (table events text : List ℕ) (status : Status) (bound : Contents) → bound ≡ table_of table → first_fault table ≡ None → missing laws (table_of table) ≡ []
-    → IsRunOver (StepByRows bound laws) (told_text manner.why bound.states (table_rows bound laws) laws) bound.states laws manner events text status → IsWalked laws manner table events text status
-IsWalked-bound laws manner table events text status bound same sound found over =
+pub IsWalked-bound : (laws : Laws) (options : WalkOptions) (table events text : List ℕ) (status : Status) (bound : Contents) → bound ≡ table_of table → first_fault table ≡ None → missing laws (table_of table) ≡ []
+    → IsRunOver (StepByRows bound laws) (told_text options.why bound.states (table_rows bound laws) laws) bound.states laws options events text status → IsWalked laws options table events text status
+IsWalked-bound laws options table events text status bound same sound found over =
     inr (rw (sound, found) refl, rw same at over)
 
 -- whether a text is that of an image is said by its first character that is no blank
@@ -140,12 +140,12 @@ IsRunFrom-ends Step told start events text statuses.Refused is = absurd is
 IsRunFrom-ends Step told start events text statuses.Usage is = absurd is
 IsRunFrom-ends Step told start events text statuses.Fault is = absurd is
 
-IsRunOver-ends : (Step : MachineState → Event → Stepped → Type 0) (told : Printing) (names : List (List ℕ)) (laws : Laws) (manner : Manner) (events text : List ℕ) (status : Status) → IsRunOver Step told names laws manner events text status → Ends status
-IsRunOver-ends Step told names laws manner events text status (inl refused) = IsRefused-ends _ text status refused
-IsRunOver-ends Step told names laws manner events text status (inr is) = IsRunFrom-ends Step told is.1 _ text status is.3
+IsRunOver-ends : (Step : MachineState → Event → Stepped → Type 0) (told : Printing) (names : List (List ℕ)) (laws : Laws) (options : WalkOptions) (events text : List ℕ) (status : Status) → IsRunOver Step told names laws options events text status → Ends status
+IsRunOver-ends Step told names laws options events text status (inl refused) = IsRefused-ends _ text status refused
+IsRunOver-ends Step told names laws options events text status (inr is) = IsRunFrom-ends Step told is.1 _ text status is.3
 
-pub IsWalkedOf-ends : (image : Bool) (laws : Laws) (manner : Manner) (input events text : List ℕ) (status : Status) → IsWalkedOf image laws manner input events text status → Ends status
-IsWalkedOf-ends true laws manner input events text status (inl no_image) = IsRefused-ends _ text status no_image.2
-IsWalkedOf-ends true laws manner input events text status (inr is) = IsRunOver-ends _ _ _ laws manner events text status is.2
-IsWalkedOf-ends false laws manner input events text status (inl refused) = IsRefused-ends _ text status refused
-IsWalkedOf-ends false laws manner input events text status (inr is) = IsRunOver-ends _ _ _ laws manner events text status is.1
+pub IsWalkedOf-ends : (image : Bool) (laws : Laws) (options : WalkOptions) (input events text : List ℕ) (status : Status) → IsWalkedOf image laws options input events text status → Ends status
+IsWalkedOf-ends true laws options input events text status (inl no_image) = IsRefused-ends _ text status no_image.2
+IsWalkedOf-ends true laws options input events text status (inr is) = IsRunOver-ends _ _ _ laws options events text status is.2
+IsWalkedOf-ends false laws options input events text status (inl refused) = IsRefused-ends _ text status refused
+IsWalkedOf-ends false laws options input events text status (inr is) = IsRunOver-ends _ _ _ laws options events text status is.1

@@ -6,7 +6,7 @@ use Rattle.tab_law.specs.declared.limits.TheConstants.{PLACES}
 use Rattle.tab_step.specs.declared.machine.MachineState.{MachineState}
 use Rattle.text_parts.specs.Words.{Word, words}
 use Rattle.event_text.specs.Events.{registers_of}
-use Rattle.tab_walk.specs.declared.start.Manner.{Manner}
+use Rattle.tab_walk.specs.declared.start.WalkOptions.{WalkOptions}
 
 -- a machine in state 0, its registers 0
 abbrev pub at_start : MachineState
@@ -25,7 +25,8 @@ machine_with None regs = None
 -- the state of a name, and registers `rN=V`
 abbrev pub machine_from : (names : List (List ℕ)) → List Word → Option MachineState
 machine_from names [] = None
-machine_from names (name ∷ others) = machine_with (position (λ state. bytes_eq state name.octets) names) (registers_of others)
+machine_from names (name ∷ others) =
+    machine_with (position (λ state. bytes_eq state name.octets) names) (registers_of others)
 
 -- the machine of a text `STATE rN=V ..`; the names are those of the states
 unfoldable pub machine_of : (names : List (List ℕ)) → List ℕ → Option MachineState
@@ -37,8 +38,8 @@ start_of names None = Some at_start
 start_of names (Some text) = machine_of names text
 
 -- the text that it is asked to begin at
-abbrev pub from_of : Manner → Option (List ℕ)
-from_of manner = option_map (λ text. text.now) manner.from
+abbrev pub from_of : WalkOptions → Option (List ℕ)
+from_of options = option_map (λ text. text.now) options.from
 
 -- what is told where no machine is written so
 unfoldable pub start_text : List ℕ

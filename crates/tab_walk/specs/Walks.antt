@@ -10,7 +10,8 @@ use Rattle.tab_text.specs.Rows.{table_of}
 use Rattle.tab_text.specs.declared.fault.ParseError.{ParseError}
 use Rattle.tab_text.specs.declared.fault.ParseError.TheVariants as parsing
 use Rattle.tab_text.specs.declared.fault.TextCode.{TextCode}
-use Rattle.tab_text.specs.declared.fault.TextCode.TheVariants.{NoHeader, BadByte, EmptyCell, NoRowToContinue, BadName, TooManyRows, TooManyNames, TooManyInRow, TooLong}
+use Rattle.tab_text.specs.declared.fault.TextCode.TheVariants.{NoHeader, BadByte, EmptyCell, NoRowToContinue, BadName}
+use Rattle.tab_text.specs.declared.fault.TextCode.TheVariants.{TooManyRows, TooManyNames, TooManyInRow, TooLong}
 use Rattle.tab_text.specs.declared.fault.TextFault.{TextFault}
 use Rattle.tab_step.specs.Bind.{IsBoundTo, missing}
 use Rattle.tab_step.specs.declared.binding.Unbound.{Unbound}
@@ -35,7 +36,7 @@ use Rattle.event_text.specs.Deeds.{deed_line, name_or}
 use Rattle.event_text.specs.Events.{bad_line, events_of}
 use Rattle.tab_walk.specs.Starts.{from_of, start_of, start_text}
 use Rattle.tab_walk.specs.Whys.{changes_text, rows_why}
-use Rattle.tab_walk.specs.declared.start.Manner.{Manner}
+use Rattle.tab_walk.specs.declared.start.WalkOptions.{WalkOptions}
 use Rattle.tab_walk.specs.declared.steps.Rules.{Rules}
 use Rattle.tab_walk.specs.declared.steps.Rules.TheVariants as rules
 
@@ -119,9 +120,9 @@ abbrev pub StepByImage : Loaded → Laws → (MachineState → Event → Stepped
 StepByImage program laws = IsRunByImage (NamedPermits laws) program laws
 
 -- what is refused of a machine whose states have these names: where it is asked to begin, a line that is no event
-abbrev pub run_refusal : (names : List (List ℕ)) → Laws → Manner → (events : List ℕ) → Option (List ℕ)
-run_refusal names laws manner events =
-    option_or (if is_none (start_of names (from_of manner)) then Some start_text else None)
+abbrev pub run_refusal : (names : List (List ℕ)) → Laws → WalkOptions → (events : List ℕ) → Option (List ℕ)
+run_refusal names laws options events =
+    option_or (if is_none (start_of names (from_of options)) then Some start_text else None)
     (option_map (bad_text laws) (bad_line laws events))
 
 -- what is printed of a run, with which status: its text, whole or up to where memory ran out
@@ -138,12 +139,12 @@ IsRefused wanted text status =
 
 -- what is printed of a machine, with which status: what is refused, or a run on the events of a text
 abbrev pub IsRunOver : (Step : MachineState → Event → Stepped → Type 0) → Printing → (names : List (List ℕ)) → Laws
-    → Manner → (events text : List ℕ) → Status → Type 0
-IsRunOver Step told names laws manner events text status =
-    IsRefused (run_refusal names laws manner events) text status
-    ⊎ ((run_refusal names laws manner events ≡ None)
+    → WalkOptions → (events text : List ℕ) → Status → Type 0
+IsRunOver Step told names laws options events text status =
+    IsRefused (run_refusal names laws options events) text status
+    ⊎ ((run_refusal names laws options events ≡ None)
     × (start : MachineState)
-    × (start_of names (from_of manner) ≡ Some start)
+    × (start_of names (from_of options) ≡ Some start)
     × IsRunFrom Step told start (events_of laws events) text status)
 
 -- what a text without a header is not
@@ -169,21 +170,21 @@ table_refusal laws table =
     (option_map (unbound_text laws (unbound_place laws (table_of table))) (slice_get (missing laws (table_of table)) 0))
 
 -- what is printed of a table's text, with which status: that, or what is printed of its machine
-abbrev pub IsWalked : Laws → Manner → (table events text : List ℕ) → Status → Type 0
-IsWalked laws manner table events text status =
+abbrev pub IsWalked : Laws → WalkOptions → (table events text : List ℕ) → Status → Type 0
+IsWalked laws options table events text status =
     IsRefused (table_refusal laws table) text status
     ⊎ ((table_refusal laws table ≡ None)
     × IsRunOver (StepByRows (table_of table) laws)
-    (told_text manner.why (table_of table).states (table_rows (table_of table) laws) laws) (table_of table).states laws
-    manner events text status)
+    (told_text options.why (table_of table).states (table_rows (table_of table) laws) laws) (table_of table).states laws
+    options events text status)
 
 -- the same of an image's text: why it gives no program, or what is printed of the program's machine
-abbrev pub IsImageWalked : Laws → Manner → (image events text : List ℕ) → Status → Type 0
-IsImageWalked laws manner image events text status =
+abbrev pub IsImageWalked : Laws → WalkOptions → (image events text : List ℕ) → Status → Type 0
+IsImageWalked laws options image events text status =
     ((error : ImageError) × IsNoImage laws image error × IsRefused (refusal_text error) text status)
     ⊎ ((program : Loaded) × IsImageOf laws image program
-    × IsRunOver (StepByImage program laws) (told_text manner.why program.image.states image_rows laws)
-    program.image.states laws manner events text status)
+    × IsRunOver (StepByImage program laws) (told_text options.why program.image.states image_rows laws)
+    program.image.states laws options events text status)
 
 -- the text of a refused table, if memory wasn't what lacked
 abbrev pub parse_text : Laws → (table : List ℕ) → ParseError → Option (List ℕ)
@@ -202,9 +203,9 @@ is_image [] = false
 is_image (c ∷ text) = if is_blank c then is_image text else is_hex_digit c
 
 -- what is printed of either
-abbrev pub IsWalkedOf : (image : Bool) → Laws → Manner → (input events text : List ℕ) → Status → Type 0
-IsWalkedOf true laws manner input events text status = IsImageWalked laws manner input events text status
-IsWalkedOf false laws manner input events text status = IsWalked laws manner input events text status
+abbrev pub IsWalkedOf : (image : Bool) → Laws → WalkOptions → (input events text : List ℕ) → Status → Type 0
+IsWalkedOf true laws options input events text status = IsImageWalked laws options input events text status
+IsWalkedOf false laws options input events text status = IsWalked laws options input events text status
 
 -- what a machine is stepped by is bound to the book, or loaded with it
 abbrev pub IsReady : Laws → Rules → Type 0
@@ -231,9 +232,9 @@ abbrev pub told_of : (why : Bool) → Laws → Rules → Printing
 told_of why laws rules = told_text why (names_of rules) (rows_of laws rules) laws
 
 -- what is printed of it
-abbrev pub IsRunBy : Laws → Rules → Manner → (events text : List ℕ) → Status → Type 0
-IsRunBy laws rules manner events text status =
-    IsRunOver (StepBy laws rules) (told_of manner.why laws rules) (names_of rules) laws manner events text status
+abbrev pub IsRunBy : Laws → Rules → WalkOptions → (events text : List ℕ) → Status → Type 0
+IsRunBy laws rules options events text status =
+    IsRunOver (StepBy laws rules) (told_of options.why laws rules) (names_of rules) laws options events text status
 
 -- A text that has this status was taken whole, and the status is the answer.
 pub record TakesText
@@ -251,7 +252,7 @@ IsToldWith contents failures idle Text old new answer =
     ⊎ (HasWriteCause failures idle old new × (answer ≡ statuses.Fault))
 
 -- what is printed of a table or an image was taken whole, or a write fault came
-abbrev pub IsWalkedOn : {O : Type 0} → (contents : O → Option (List ℕ)) → (failures idle : O → ℕ) → Laws → Manner
+abbrev pub IsWalkedOn : {O : Type 0} → (contents : O → Option (List ℕ)) → (failures idle : O → ℕ) → Laws → WalkOptions
     → (table events : List ℕ) → (old new : O) → Status → Type 0
-IsWalkedOn contents failures idle laws manner table events old new answer =
-    IsToldWith contents failures idle (IsWalkedOf (is_image table) laws manner table events) old new answer
+IsWalkedOn contents failures idle laws options table events old new answer =
+    IsToldWith contents failures idle (IsWalkedOf (is_image table) laws options table events) old new answer

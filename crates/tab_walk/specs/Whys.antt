@@ -1,5 +1,6 @@
 -- What a step changed, and why rows didn't take its event.
-use Rattle.std.specs.Prelude.{ℕ, ◌==◌, ◌&&◌, Bool, List, [], ◌++◌, Option, Some, None, take, codes, decimal, option_and_then, slice_index, if◌then◌else◌}
+use Rattle.std.specs.Prelude.{ℕ, ◌==◌, ◌&&◌, Bool, List, [], ◌++◌, Option, Some, None, take, codes, decimal}
+use Rattle.std.specs.Prelude.{option_and_then, slice_index, if◌then◌else◌}
 use Rattle.std.specs.List.{enumerate_from, filter_map, flat_map, range_with_len, slice_get}
 use Rattle.std.specs.Option.{option_map, option_map_or}
 use Rattle.base_list.specs.Named.{entry_of}

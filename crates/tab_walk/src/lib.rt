@@ -7,5 +7,5 @@ mod steps;
 mod walk;
 mod why;
 
-pub use start::Manner;
+pub use start::WalkOptions;
 pub use walk::walk_on;

@@ -96,8 +96,8 @@ fn write_rest<O: ByteSink>(out: &[u8], sink: &mut O) -> Halt
     }
 }
 
-/// Steps a machine over the events of a text, and writes out what each step prints. Room for one step is enough, and of the
-/// events none is kept.
+/// Steps a machine over the events of a text, and writes out what each step prints.
+/// Room for one step is enough, and of the events none is kept.
 pub(crate) fn pour<O: ByteSink>(
     alloc: Global,
     by: Stepping<'_>,

@@ -11,11 +11,11 @@ use text_parts::Words;
 
 /// How a walk is printed, and where it begins.
 #[derive(Clone, Copy)]
-pub struct Manner<'a> {
+pub struct WalkOptions<'a> {
     /// Under each step stand the registers that changed, and why rows before the one that took the event didn't.
     pub why: bool,
-    /// `STATE rN=V ..`: a state by its name, and registers, those that aren't written 0. Without it, a walk begins in the
-    /// first state.
+    /// `STATE rN=V ..`: a state by its name, and registers, those that aren't written 0.
+    /// Without it, a walk begins in the first state.
     pub from: Option<&'a [u8]>,
 }
 
@@ -51,10 +51,10 @@ fn machine_of(names: &[Octets], text: &[u8]) -> Option<MachineState>
 }
 
 /// Where a walk begins.
-pub(crate) fn start_of(names: &[Octets], manner: Manner<'_>) -> Option<MachineState>
-    ensures { result ≡ start_of names.now (from_of manner.entry) }
+pub(crate) fn start_of(names: &[Octets], options: WalkOptions<'_>) -> Option<MachineState>
+    ensures { result ≡ start_of names.now (from_of options.entry) }
 {
-    match manner.from {
+    match options.from {
         Some(text) => machine_of(names, text),
         None => Some(MachineState {
             state: 0,

@@ -2,7 +2,8 @@
 ghost use Rattle.std.specs.Prelude.{◌≡◌, ◌++◌, OnOk};
 ghost use Rattle.std.specs.List.{slice_get};
 ghost use Rattle.std.specs.Option.{option_map};
-ghost use Rattle.tab_walk.specs.Walks.{IsReady, StepBy, kind_text, names_of, row_text, rows_of, state_text, step_text, told_of};
+ghost use Rattle.tab_walk.specs.Walks.{IsReady, StepBy, kind_text, names_of, row_text, rows_of};
+ghost use Rattle.tab_walk.specs.Walks.{state_text, step_text, told_of};
 
 use crate::why::{put_changes, put_rows};
 use base_list::Octets;
@@ -119,7 +120,8 @@ fn put_rows_of(
     step: &Stepped,
 ) -> Result<(), AllocError>
     requires { IsReady book.now rules }
-    ensures { OnOk result (out.new.items ≡ out.old.items ++ rows_of book.now rules.entry machine.now event.now step.now) }
+    ensures { OnOk result (out.new.items
+        ≡ out.old.items ++ rows_of book.now rules.entry machine.now event.now step.now) }
 {
     match rules {
         Rules::Rows(bound) => put_rows(out, bound, book, machine, event, step.row),
@@ -127,7 +129,8 @@ fn put_rows_of(
     }
 }
 
-/// What is printed of a step; where it is asked why, also the registers that changed, and why rows didn't take the event.
+/// What is printed of a step; where it is asked why, also the registers that changed,
+/// and why rows didn't take the event.
 pub(crate) fn put_told(
     out: &mut Vec<u8>,
     rules: Rules<'_>,
@@ -138,7 +141,8 @@ pub(crate) fn put_told(
     step: &Stepped,
 ) -> Result<(), AllocError>
     requires { IsReady book.now rules }
-    ensures { OnOk result (out.new.items ≡ out.old.items ++ told_of why book.now rules.entry machine.now event.now step.now) }
+    ensures { OnOk result (out.new.items
+        ≡ out.old.items ++ told_of why book.now rules.entry machine.now event.now step.now) }
 {
     put_step(out, names_of(rules), book, machine.state, event, step)?;
     if !why {

@@ -7,10 +7,11 @@ ghost use Rattle.hex.specs.Hex.{is_hex_digit};
 ghost use Rattle.image_text.specs.Images.{refusal_text};
 ghost use Rattle.tab_walk.specs.Starts.{start_text};
 ghost use Rattle.tab_walk.specs.Walks.{IsImageWalked, IsReady, IsRefused, IsRunBy, IsRunFrom, IsToldWith, IsWalked};
-ghost use Rattle.tab_walk.specs.Walks.{IsWalkedOf, IsWalkedOn, StepBy, bind_text, is_image, neither, parse_text, table_text, told_of};
+ghost use Rattle.tab_walk.specs.Walks.{IsWalkedOf, IsWalkedOn, StepBy, bind_text, is_image, neither};
+ghost use Rattle.tab_walk.specs.Walks.{parse_text, table_text, told_of};
 
 use crate::pour::{Halt, Stepping, pour};
-use crate::start::{Manner, start_of};
+use crate::start::{WalkOptions, start_of};
 use crate::steps::{Rules, names_of};
 use base_device::{ByteSink, MAX_IDLE_WRITES, Status, tell};
 use event_text::first_bad;
@@ -27,7 +28,8 @@ use tab_text::{ParseError, TextCode, TextFault, parse};
 fn start_text() -> &'static [u8]
     ensures { result.now ≡ start_text }
 {
-    b"bad start\n  wanted: STATE rN=V ..: a state of the table, then registers, each once, N at most 63 and V below 2^64\n"
+    b"bad start\n  wanted: STATE rN=V ..: a state of the table, then registers, each once, \
+        N at most 63 and V below 2^64\n"
 }
 
 /// Whether a character may stand between digits.
@@ -108,7 +110,7 @@ fn walk_by<O: ByteSink>(
     alloc: Global,
     rules: Rules<'_>,
     registry: &Registry,
-    manner: Manner<'_>,
+    options: WalkOptions<'_>,
     events: &[u8],
     sink: &mut O,
 ) -> Status
@@ -116,16 +118,16 @@ fn walk_by<O: ByteSink>(
     requires idle { O.idle sink.old ≡ 0 }
     requires failures { O.failures sink.old < 2 ^ 64 - 1 }
     ensures told { IsToldWith O.contents O.failures O.idle
-        (IsRunBy registry.now.book rules.entry manner.entry events.now) sink.old sink.new result }
+        (IsRunBy registry.now.book rules.entry options.entry events.now) sink.old sink.new result }
     ensures row { O.most_idle sink.new ≤ max (O.most_idle sink.old) MAX_IDLE_WRITES }
 {
-    let Some(start) = start_of(names_of(rules), manner) else {
+    let Some(start) = start_of(names_of(rules), options) else {
         return tell(sink, start_text(), Status::Refused);
     };
     if let Some(line) = first_bad(registry.laws(), events) {
         return tell_refusal(bad_line(alloc, registry.laws(), &line), sink);
     }
-    let why = manner.why;
+    let why = options.why;
     let by = Stepping {
         rules,
         registry,
@@ -178,7 +180,8 @@ fn unparsed<O: ByteSink>(
 ) -> Status
     requires idle { O.idle sink.old ≡ 0 }
     requires failures { O.failures sink.old < 2 ^ 64 - 1 }
-    ensures told { IsToldWith O.contents O.failures O.idle (IsRefused (parse_text book.now table.now error.now)) sink.old sink.new result }
+    ensures told { IsToldWith O.contents O.failures O.idle (IsRefused (parse_text book.now table.now error.now))
+        sink.old sink.new result }
     ensures row { O.most_idle sink.new ≤ max (O.most_idle sink.old) MAX_IDLE_WRITES }
 {
     match error {
@@ -197,7 +200,8 @@ fn unbound<O: ByteSink>(
 ) -> Status
     requires idle { O.idle sink.old ≡ 0 }
     requires failures { O.failures sink.old < 2 ^ 64 - 1 }
-    ensures told { IsToldWith O.contents O.failures O.idle (IsRefused (bind_text book.now place why.now)) sink.old sink.new result }
+    ensures told { IsToldWith O.contents O.failures O.idle (IsRefused (bind_text book.now place why.now))
+        sink.old sink.new result }
     ensures row { O.most_idle sink.new ≤ max (O.most_idle sink.old) MAX_IDLE_WRITES }
 {
     match why {
@@ -214,14 +218,14 @@ fn walk_table<O: ByteSink>(
     alloc: Global,
     text: &[u8],
     registry: &Registry,
-    manner: Manner<'_>,
+    options: WalkOptions<'_>,
     events: &[u8],
     sink: &mut O,
 ) -> Status
     requires idle { O.idle sink.old ≡ 0 }
     requires failures { O.failures sink.old < 2 ^ 64 - 1 }
     ensures told { IsToldWith O.contents O.failures O.idle
-        (IsWalked registry.now.book manner.entry text.now events.now) sink.old sink.new result }
+        (IsWalked registry.now.book options.entry text.now events.now) sink.old sink.new result }
     ensures row { O.most_idle sink.new ≤ max (O.most_idle sink.old) MAX_IDLE_WRITES }
 {
     let book = registry.laws();
@@ -231,7 +235,7 @@ fn walk_table<O: ByteSink>(
     };
     let place = unbound_place(book, &table);
     match bind(alloc, table, book) {
-        Ok(bound) => walk_by(alloc, Rules::Rows(&bound), registry, manner, events, sink),
+        Ok(bound) => walk_by(alloc, Rules::Rows(&bound), registry, options, events, sink),
         Err(why) => unbound(alloc, book, place, &why, sink),
     }
 }
@@ -251,14 +255,14 @@ fn walk_image<O: ByteSink>(
     alloc: Global,
     image: &[u8],
     registry: &Registry,
-    manner: Manner<'_>,
+    options: WalkOptions<'_>,
     events: &[u8],
     sink: &mut O,
 ) -> Status
     requires idle { O.idle sink.old ≡ 0 }
     requires failures { O.failures sink.old < 2 ^ 64 - 1 }
     ensures told { IsToldWith O.contents O.failures O.idle
-        (IsImageWalked registry.now.book manner.entry image.now events.now) sink.old sink.new result }
+        (IsImageWalked registry.now.book options.entry image.now events.now) sink.old sink.new result }
     ensures row { O.most_idle sink.new ≤ max (O.most_idle sink.old) MAX_IDLE_WRITES }
 {
     match read_image(alloc, image, registry.laws()) {
@@ -266,7 +270,7 @@ fn walk_image<O: ByteSink>(
             alloc,
             Rules::Image(&program),
             registry,
-            manner,
+            options,
             events,
             sink,
         ),
@@ -279,39 +283,40 @@ fn walk_either<O: ByteSink>(
     alloc: Global,
     input: &[u8],
     registry: &Registry,
-    manner: Manner<'_>,
+    options: WalkOptions<'_>,
     events: &[u8],
     sink: &mut O,
 ) -> Status
     requires idle { O.idle sink.old ≡ 0 }
     requires failures { O.failures sink.old < 2 ^ 64 - 1 }
-    ensures walk { IsWalkedOn O.contents O.failures O.idle registry.now.book manner.entry input.now events.now sink.old
+    ensures walk { IsWalkedOn O.contents O.failures O.idle registry.now.book options.entry input.now events.now sink.old
         sink.new result }
     ensures row { O.most_idle sink.new ≤ max (O.most_idle sink.old) MAX_IDLE_WRITES }
 {
     if is_image(input) {
-        walk_image(alloc, input, registry, manner, events, sink)
+        walk_image(alloc, input, registry, options, events, sink)
     } else {
-        walk_table(alloc, input, registry, manner, events, sink)
+        walk_table(alloc, input, registry, options, events, sink)
     }
 }
 
-/// Steps a table over events by the callbacks of a registry, and prints each step as it is taken: the kind, the states before
-/// and after it, the row, and a line for each deed. The table is its text, or its image in hexadecimal digits: that is what
-/// a text is whose first character that is no blank is a digit. The manner says where the machine begins, and whether the
-/// registers that changed stand under each step, and of each row of the state and kind before the one that took the event
-/// (of an image no rows are told) the first guard that says no.
+/// Steps a table over events by the callbacks of a registry, and prints each step as it is taken: the kind, the states
+/// before and after it, the row, and a line for each deed. The table is its text, or its image in hexadecimal digits:
+/// that is what a text is whose first character that is no blank is a digit. The options say where the machine begins,
+/// and whether the registers that changed stand under each step, and of each row of the state and kind before the one
+/// that took the event (of an image no rows are told) the first guard that says no.
 ///
 /// A line of `events` is `KIND N=V ..`: a kind of the registry, and facts by number. Refused, with status `Refused`,
-/// are a table with a fault (`line N fault C`), one that names what the registry lacks (`unbound NAME`), a start of another
-/// form (`bad start`) and a line of another form (`bad line N`), each with what was wanted, an image that isn't digits, two
-/// for each octet (`bad hex`), and one with a fault (`at N fault C`); nothing is stepped then. Of the events none is kept:
-/// the text is gone over twice. Where memory runs out, what is printed are the first steps and then `no memory`.
+/// are a table with a fault (`line N fault C`), one that names what the registry lacks (`unbound NAME`), a start
+/// of another form (`bad start`) and a line of another form (`bad line N`), each with what was wanted, an image
+/// that isn't digits, two for each octet (`bad hex`), and one with a fault (`at N fault C`); nothing is stepped
+/// then. Of the events none is kept: the text is gone over twice. Where memory runs out, what is printed are the
+/// first steps and then `no memory`.
 pub fn walk_on<O: ByteSink>(
     alloc: Global,
     table: &[u8],
     registry: &Registry,
-    manner: Manner<'_>,
+    options: WalkOptions<'_>,
     events: &[u8],
     sink: &mut O,
 ) -> Status
@@ -320,7 +325,7 @@ pub fn walk_on<O: ByteSink>(
 
     // What is printed is the text of the table's run on the events, or the first refusal; want of memory aside, it is
     // done exactly where nothing is refused.
-    ensures walk { IsWalkedOn O.contents O.failures O.idle registry.now.book manner.entry table.now events.now sink.old
+    ensures walk { IsWalkedOn O.contents O.failures O.idle registry.now.book options.entry table.now events.now sink.old
         sink.new result }
     ensures words { result ≢ Status.Usage }
 
@@ -328,5 +333,5 @@ pub fn walk_on<O: ByteSink>(
     ensures cause { result ≡ Status.Fault → HasWriteCause O.failures O.idle sink.old sink.new }
     ensures row { O.most_idle sink.new ≤ max (O.most_idle sink.old) MAX_IDLE_WRITES }
 {
-    walk_either(alloc, table, registry, manner, events, sink)
+    walk_either(alloc, table, registry, options, events, sink)
 }

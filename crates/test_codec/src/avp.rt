@@ -2,8 +2,8 @@
 
 use dia_avp::{
     Address, Avp, AvpList, AvpView, AvpsIn, FieldFault, GroupError, Octets, ReadError, WriteError,
-    address_of, first_avp, group_of, identity_of, put_avp, put_avps, put_group, read_avps, text_of,
-    u32_of, u64_of, write_avp, write_avps,
+    address_of, first_avp, group_of, identity_of, put_avp, put_avps, read_avps, text_of, u32_of,
+    u64_of, write_avp, write_avps,
 };
 use std::alloc::{AllocError, Global};
 use std::test::Fail;
@@ -412,8 +412,8 @@ fn wrong_address(alloc: Global) -> Option<usize> {
     None
 }
 
-/// The first table of numbers, texts and addresses in which a line isn't so, and its place. Numbers have the size of their type,
-/// text is UTF-8, an identity is ASCII, and an address has a family and its size.
+/// The first table of numbers, texts and addresses in which a line isn't so, and its place.
+/// Numbers have the size of their type, text is UTF-8, an identity is ASCII, and an address has a family and its size.
 fn wrong_data(alloc: Global) -> Option<(&'static str, usize)> {
     let tables = [
         ("Unsigned32", wrong_unsigned32(alloc)),
@@ -609,12 +609,9 @@ fn what_takes_memory_answers_where_there_is_memory(rt: HostRuntime) {
     assert!(rt; is_first_of_two(alloc));
 }
 
-/// An octet, then `TWO`, a Subscription-Id with `TWO` in it, and the first of `TWO`.
-const PUT: [u8; 101] = [
+/// An octet, then `TWO`, and the first of `TWO`.
+const PUT: [u8; 57] = [
     9, //
-    0, 0, 1, 8, 0x40, 0, 0, 0x11, 0x61, 0x2e, 0x65, 0x78, 0x61, 0x6d, 0x70, 0x6c, 0x65, 0, 0, 0, //
-    0, 0, 1, 0x28, 0x40, 0, 0, 0x0f, 0x65, 0x78, 0x61, 0x6d, 0x70, 0x6c, 0x65, 0, //
-    0, 0, 1, 0xbb, 0x40, 0, 0, 44, //
     0, 0, 1, 8, 0x40, 0, 0, 0x11, 0x61, 0x2e, 0x65, 0x78, 0x61, 0x6d, 0x70, 0x6c, 0x65, 0, 0, 0, //
     0, 0, 1, 0x28, 0x40, 0, 0, 0x0f, 0x65, 0x78, 0x61, 0x6d, 0x70, 0x6c, 0x65, 0, //
     0, 0, 1, 8, 0x40, 0, 0, 0x11, 0x61, 0x2e, 0x65, 0x78, 0x61, 0x6d, 0x70, 0x6c, 0x65, 0, 0, 0,
@@ -633,19 +630,6 @@ fn puts_list(list: &AvpList, out: &mut Vec<u8>) -> bool {
     true
 }
 
-/// Puts a list of 36 octets as a group, which has 8 more.
-#[tactic(auto, using(dia_avp::proofs::Encoded::length_of_group, dia_avp::proofs::Encoded::length_encoded_group))]
-fn puts_group(list: &AvpList, out: &mut Vec<u8>) -> bool {
-    let Some(36) = list.encoded_len() else {
-        return false;
-    };
-    let Ok(()) = out.reserve(44) else {
-        return false;
-    };
-    put_group(443, true, false, list, out);
-    true
-}
-
 /// Puts an AVP of 20 octets.
 #[tactic(auto, using(dia_avp::proofs::Encoded::length_encoded))]
 fn puts_one(view: &AvpView<'_>, out: &mut Vec<u8>) -> bool {
@@ -659,18 +643,17 @@ fn puts_one(view: &AvpView<'_>, out: &mut Vec<u8>) -> bool {
     true
 }
 
-/// Whether `TWO` as a list and as a group, and its first AVP, are put behind an octet as `PUT`.
+/// Whether `TWO` as a list, and its first AVP, are put behind an octet as `PUT`.
 fn are_put(alloc: Global, list: &AvpList) -> bool {
     let mut out = Vec::new(alloc);
     out.push(9).is_ok()
         && puts_list(list, &mut out)
-        && puts_group(list, &mut out)
         && puts_one(&view_of(b"a.example"), &mut out)
         && out.as_slice() == PUT.as_slice()
 }
 
 #[test]
-fn avps_and_groups_are_put_where_there_is_room(rt: HostRuntime) {
+fn avps_are_put_where_there_is_room(rt: HostRuntime) {
     let list = read_avps(rt.alloc(), &TWO, 1);
     assert!(rt; matches!(&list, Ok(list) if are_put(rt.alloc(), list)));
 }

@@ -12,7 +12,9 @@ const LEAST_READ: &str =
 
 /// The same, with null in each other field.
 const NULLS: &str =
-    "{\"nodes\": [{\"host\": \"a\", \"realm\": \"r\", \"address\": \"0.0.0.0\", \"listen\": null, \"peers\": null, \"shards\": null, \"pages\": null, \"accounts\": null, \"default_units\": null, \"desks\": null, \"turns\": null, \"tables\": null, \"dictionary\": null}]}";
+    "{\"nodes\": [{\"host\": \"a\", \"realm\": \"r\", \"address\": \"0.0.0.0\", \"listen\": null, \"peers\": null, \
+        \"shards\": null, \"pages\": null, \"accounts\": null, \"default_units\": null, \"desks\": null, \"turns\": \
+        null, \"tables\": null, \"dictionary\": null}]}";
 
 #[test]
 fn absent_fields_and_nulls_are_defaults(rt: HostRuntime) -> Result<(), Fail> {

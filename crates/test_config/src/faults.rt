@@ -171,7 +171,8 @@ const FIELDS: &[(&str, &str)] = &[
     ),
     (
         ", \"hots\": \"b\"",
-        "nodes[0]: unknown field hots, one of host, realm, address, listen, peers, shards, pages, accounts, default_units, desks, turns, tables, dictionary is wanted\n",
+        "nodes[0]: unknown field hots, one of host, realm, address, listen, peers, shards, pages, accounts, \
+            default_units, desks, turns, tables, dictionary is wanted\n",
     ),
 ];
 

@@ -1,5 +1,5 @@
-//! Prints what each file that a word names is read as, or what is told of it. Its tests are of the fields of a CONFIG, their
-//! defaults and their faults.
+//! Prints what each file that a word names is read as, or what is told of it.
+//! Its tests are of the fields of a CONFIG, their defaults and their faults.
 #![tactic(auto)]
 
 #[cfg(test)]

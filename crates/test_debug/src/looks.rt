@@ -32,7 +32,8 @@ end at 15
     To-Peer 0 1 7 7 2 1 1 0 0 0 3 0 2001 60
     Arm 1 600
 event Initial 1=1 2=7 3=7 4=1 5=1 6=1 7=100 9=60 10=3 12=2001 13=60
-  Idle   Initial when enough                     Open-Account, Reserve, Snd-CCA, Start-Tcc                                          Open
+  Idle   Initial when enough                     Open-Account, Reserve, Snd-CCA, \
+    Start-Tcc                                          Open
   row 0: repeat no
   row 1: old no
   row 2: grouped no enough yes
@@ -41,7 +42,8 @@ line 1 open sent 124
 fault 3
 fault 3
 fault 3
-message 1 at octet 0: CEA Capabilities-Exchange-Answer ----, version 1, length 124, command 257, application 0, hop-by-hop 1, end-to-end 1
+message 1 at octet 0: CEA Capabilities-Exchange-Answer ----, version 1, length 124, command 257, application 0, \
+    hop-by-hop 1, end-to-end 1
   20: 268 Result-Code -M- 12 2001 DIAMETER_SUCCESS
   32: 264 Origin-Host -M- 17 \"s.example\"
   52: 296 Origin-Realm -M- 15 \"example\"

@@ -10,7 +10,8 @@ const DWR: &str = "\
 0000010840000011612e6578616d706c65000000";
 
 const DWR_TEXT: &str = "\
-message 1 at octet 0: DWR Device-Watchdog-Request R---, version 1, length 40, command 280, application 0, hop-by-hop 1, end-to-end 1
+message 1 at octet 0: DWR Device-Watchdog-Request R---, version 1, length 40, command 280, application 0, \
+    hop-by-hop 1, end-to-end 1
   20: 264 Origin-Host -M- 17 \"a.example\"
 fault 5005 DIAMETER_MISSING_AVP in message 1 at octet 0: an AVP that is required is missing: AVP 296 Origin-Realm
 ";
@@ -36,7 +37,8 @@ const BEHIND: &[(&str, &str, &str)] = &[
     ("01001004", "frame fault 2 at octet 40", LENGTH),
     (
         "0100",
-        "message 2 at octet 40: no whole header 0x0100\nfault 5015 DIAMETER_INVALID_MESSAGE_LENGTH in message 2 at octet 40",
+        "message 2 at octet 40: no whole header 0x0100\n\
+            fault 5015 DIAMETER_INVALID_MESSAGE_LENGTH in message 2 at octet 40",
         ": the length in the header is not that of the message\n",
     ),
 ];

@@ -189,8 +189,8 @@ fn is_endless(alloc: Global) -> Result<bool, AllocError> {
     )
 }
 
-/// Whether a writer with this room takes a front of the text, and the status is 3. It fails with the error, or takes nothing
-/// in 1,048,576 writes.
+/// Whether a writer with this room takes a front of the text, and the status is 3.
+/// It fails with the error, or takes nothing in 1,048,576 writes.
 fn is_write_fault(alloc: Global, room: usize, error: Option<ErrorKind>) -> bool {
     let Ok(glossary) = Glossary::base(alloc) else {
         return false;

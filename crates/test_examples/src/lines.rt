@@ -1,4 +1,5 @@
-//! What `read_lines` prints: each line by itself, and what is told of a bad one. The expected texts are written by hand.
+//! What `read_lines` prints: each line by itself, and what is told of a bad one.
+//! The expected texts are written by hand.
 use crate::messages::Wrong;
 use crate::streams::filled;
 use base_device::{Counting, Status};
@@ -47,12 +48,18 @@ fn prints(alloc: Global, style: Style, input: &str, wanted: &str, status: Status
 /// A bad line, two messages in a line and one in the next, in names: each has its own number, and its line.
 const NAMED: &str = "\
 line 1: bad hex at character 3: each octet wants two hexadecimal digits, and between digits only blanks may stand
-message 1 at octet 0 of line 2: unknown command R---, version 1, length 20, command 281, application 0, hop-by-hop 1, end-to-end 1
-fault 3001 DIAMETER_COMMAND_UNSUPPORTED in message 1 at octet 0 of line 2: no command with this code and flag R is read here
-message 2 at octet 20 of line 2: unknown command R---, version 1, length 20, command 281, application 0, hop-by-hop 1, end-to-end 1
-fault 3001 DIAMETER_COMMAND_UNSUPPORTED in message 2 at octet 20 of line 2: no command with this code and flag R is read here
-message 3 at octet 0 of line 3: unknown command R---, version 1, length 20, command 281, application 0, hop-by-hop 1, end-to-end 1
-fault 3001 DIAMETER_COMMAND_UNSUPPORTED in message 3 at octet 0 of line 3: no command with this code and flag R is read here
+message 1 at octet 0 of line 2: unknown command R---, version 1, length 20, command 281, application 0, hop-by-hop 1, \
+    end-to-end 1
+fault 3001 DIAMETER_COMMAND_UNSUPPORTED in message 1 at octet 0 of line 2: no command with this code and flag R is \
+    read here
+message 2 at octet 20 of line 2: unknown command R---, version 1, length 20, command 281, application 0, hop-by-hop 1, \
+    end-to-end 1
+fault 3001 DIAMETER_COMMAND_UNSUPPORTED in message 2 at octet 20 of line 2: \
+    no command with this code and flag R is read here
+message 3 at octet 0 of line 3: unknown command R---, version 1, length 20, command 281, application 0, hop-by-hop 1, \
+    end-to-end 1
+fault 3001 DIAMETER_COMMAND_UNSUPPORTED in message 3 at octet 0 of line 3: no command with this code and flag R is \
+    read here
 ";
 
 /// The first lines of which something else is printed.

@@ -1,7 +1,7 @@
-//! Reads each example that a word names, in the folder where it runs, and compares what is printed, and the exit status, with
-//! `expected/NAME.txt`; of a word `explained/NAME` what is printed in names. Then tries the rows of `rows/`, and messages,
-//! texts, readers and writers that are made here. What is not as expected is named, a row by its file and line. If all is, the
-//! last line tells how many examples and rows there were.
+//! Reads each example that a word names, in the folder where it runs, and compares what is printed, and the exit
+//! status, with `expected/NAME.txt`; of a word `explained/NAME` what is printed in names. Then tries the rows of
+//! `rows/`, and messages, texts, readers and writers that are made here. What is not as expected is named, a row by its
+//! file and line. If all is, the last line tells how many examples and rows there were.
 #![tactic(auto)]
 
 mod commands;

@@ -1,9 +1,10 @@
-//! Messages by words, and what `read` prints of them. A list of rows has one in each line; empty lines, and lines that begin
-//! with `#`, are none.
+//! Messages by words, and what `read` prints of them.
+//! A list of rows has one in each line; empty lines, and lines that begin with `#`, are none.
 use crate::streams::{prints, read};
 use std::alloc::{AllocError, Global};
 
-/// Headers without version and length, by the command's name, and AVPs. Words that are not listed are digits themselves.
+/// Headers without version and length, by the command's name, and AVPs.
+/// Words that are not listed are digits themselves.
 const WORDS: &[(&str, &str)] = &[
     ("cer", "80000101000000000000000100000002"),
     ("cea", "00000101000000000000000100000002"),

@@ -9,11 +9,13 @@ use std::alloc::Global;
 const WRONG: &[(&str, &str)] = &[
     (
         "# nothing\n\nx Name Grouped",
-        "dictionary line 3: \"x\"\n  wanted: CODE[/VENDOR] NAME KIND [VALUE=NAME ..]: the AVP Code and the Vendor-ID as numbers below 2^32\n",
+        "dictionary line 3: \"x\"\n  wanted: CODE[/VENDOR] NAME KIND [VALUE=NAME ..]: \
+            the AVP Code and the Vendor-ID as numbers below 2^32\n",
     ),
     (
         "1/2/3 Name Grouped",
-        "dictionary line 1: \"1/2/3\"\n  wanted: CODE[/VENDOR] NAME KIND [VALUE=NAME ..]: the AVP Code and the Vendor-ID as numbers below 2^32\n",
+        "dictionary line 1: \"1/2/3\"\n  wanted: CODE[/VENDOR] NAME KIND [VALUE=NAME ..]: \
+            the AVP Code and the Vendor-ID as numbers below 2^32\n",
     ),
     (
         "9 # Name",
@@ -25,15 +27,18 @@ const WRONG: &[(&str, &str)] = &[
     ),
     (
         "9 Name Time32",
-        "dictionary line 1: \"Time32\"\n  wanted: a KIND behind the name: Unsigned32, Unsigned64, Enumerated, UTF8String, DiameterIdentity, Address, Grouped, Time or OctetString\n",
+        "dictionary line 1: \"Time32\"\n  wanted: a KIND behind the name: Unsigned32, Unsigned64, Enumerated, \
+            UTF8String, DiameterIdentity, Address, Grouped, Time or OctetString\n",
     ),
     (
         "9 Name Enumerated 1=A 2=B 1=C",
-        "dictionary line 1: \"1=C\"\n  wanted: VALUE=NAME, each VALUE once and below 2^32, behind Enumerated and Unsigned32 alone\n",
+        "dictionary line 1: \"1=C\"\n  wanted: VALUE=NAME, each VALUE once and below 2^32, \
+            behind Enumerated and Unsigned32 alone\n",
     ),
     (
         "9 Name Time 1=A",
-        "dictionary line 1: \"1=A\"\n  wanted: VALUE=NAME, each VALUE once and below 2^32, behind Enumerated and Unsigned32 alone\n",
+        "dictionary line 1: \"1=A\"\n  wanted: VALUE=NAME, each VALUE once and below 2^32, \
+            behind Enumerated and Unsigned32 alone\n",
     ),
     (
         "9/7 A Time\n9/8 B Time\n9/7 C Time",

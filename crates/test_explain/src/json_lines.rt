@@ -5,7 +5,8 @@ use dia_show::Glossary;
 use msg_json::put_json;
 use std::alloc::Global;
 
-/// The line of a message, where lines are read, its number and offset, its digits, whether it has a fault, and what is said of it.
+/// The line of a message, where lines are read, its number and offset, its digits,
+/// whether it has a fault, and what is said of it.
 type Row = (Option<u64>, u64, u64, &'static str, bool, &'static str);
 
 /// Whether a row is so.
@@ -85,7 +86,8 @@ const UNKNOWN_LINE: &str = "{\"number\":1,\"offset\":0,\
 \"type\":null,\"hex\":\"\"},\
 {\"place\":48,\"code\":268,\"vendor\":null,\"name\":\"Result-Code\",\"flags\":\"--P\",\"length\":7,\
 \"type\":\"Unsigned32\",\"wrong\":\"its length is below that of its header\",\"hex\":\"0000010c20000007\"}],\
-\"fault\":{\"result_code\":5001,\"name\":\"DIAMETER_AVP_UNSUPPORTED\",\"reason\":\"an AVP that is not known has flag M\",\
+\"fault\":{\"result_code\":5001,\"name\":\"DIAMETER_AVP_UNSUPPORTED\",\"reason\":\"an AVP that is not known has flag \
+    M\",\
 \"failed\":{\"code\":9999,\"vendor\":10415,\"name\":null,\"place\":20}}}
 ";
 

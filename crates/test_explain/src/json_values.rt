@@ -5,7 +5,8 @@ use msg_json::put_json;
 use std::alloc::Global;
 use std::test::Fail;
 
-/// A Device-Watchdog-Answer whose only AVP has this code and data, which end with it: its length is 28 and that of the data.
+/// A Device-Watchdog-Answer whose only AVP has this code and data, which end with it:
+/// its length is 28 and that of the data.
 fn message_with(code: u32, data: &[u8], octets: &mut [u8; 64]) -> usize {
     let room = data.len().min(36);
     octets[..4].copy_from_slice(&(0x0100_001c + room as u32).to_be_bytes());

@@ -1,5 +1,5 @@
-//! Tests of the faults and encodings of trees of AVPs, and of what messages say in names, in lines of text and as JSON, over public
-//! calls alone.
+//! Tests of the faults and encodings of trees of AVPs, and of what messages say in names,
+//! in lines of text and as JSON, over public calls alone.
 #![tactic(auto)]
 
 #[cfg(test)]

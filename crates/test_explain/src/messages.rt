@@ -5,7 +5,8 @@ use dia_show::Glossary;
 use msg_explain::explain;
 use std::alloc::Global;
 
-/// The line of a message, where lines are read, its number and offset, its digits, whether it has a fault, and what is said of it.
+/// The line of a message, where lines are read, its number and offset, its digits,
+/// whether it has a fault, and what is said of it.
 type Row = (Option<u64>, u64, u64, &'static str, bool, &'static str);
 
 /// Whether a row is so.
@@ -21,7 +22,8 @@ fn says(alloc: Global, row: &Row) -> bool {
 }
 
 const TERMINATION_TEXT: &str = "\
-message 1 at octet 0: CCR Credit-Control-Request RP--, version 1, length 168, command 272, application 4, hop-by-hop 7, end-to-end 7, session \"c1;1\"
+message 1 at octet 0: CCR Credit-Control-Request RP--, version 1, length 168, command 272, application 4, \
+    hop-by-hop 7, end-to-end 7, session \"c1;1\"
   20: 263 Session-Id -M- 12 \"c1;1\"
   32: 264 Origin-Host -M- 17 \"c.example\"
   52: 296 Origin-Realm -M- 15 \"example\"
@@ -36,26 +38,32 @@ message 1 at octet 0: CCR Credit-Control-Request RP--, version 1, length 168, co
 ";
 
 const BAD_SIZE_TEXT: &str = "\
-message 2 at octet 168 of line 7: DPR Disconnect-Peer-Request R---, version 1, length 68, command 282, application 0, hop-by-hop 1, end-to-end 2
+message 2 at octet 168 of line 7: DPR Disconnect-Peer-Request R---, version 1, length 68, command 282, application 0, \
+    hop-by-hop 1, end-to-end 2
   20: 264 Origin-Host -M- 17 \"c.example\"
   40: 296 Origin-Realm -M- 15 \"example\"
   56: 273 Disconnect-Cause -M- 9 0x00 (a size that its type does not have)
-fault 5014 DIAMETER_INVALID_AVP_LENGTH in message 2 at octet 168 of line 7: an AVP has a wrong length: AVP 273 Disconnect-Cause at its octet 56
+fault 5014 DIAMETER_INVALID_AVP_LENGTH in message 2 at octet 168 of line 7: an AVP has a wrong length: \
+    AVP 273 Disconnect-Cause at its octet 56
 ";
 
 const BROKEN_INSIDE_TEXT: &str = "\
-message 18446744073709551615 at octet 18446744073709551615: DWR Device-Watchdog-Request R---, version 1, length 44, command 280, application 0, hop-by-hop 1, end-to-end 4294967294
+message 18446744073709551615 at octet 18446744073709551615: DWR Device-Watchdog-Request R---, version 1, length 44, \
+    command 280, application 0, hop-by-hop 1, end-to-end 4294967294
   20: 446 Used-Service-Unit -MP 24
     28: 421 CC-Total-Octets -M- 17: broken, it runs past the end: 0x000001a5400000110000000000000001
-fault 5014 DIAMETER_INVALID_AVP_LENGTH in message 18446744073709551615 at octet 18446744073709551615: an AVP has a wrong length: AVP 421 CC-Total-Octets at its octet 28
+fault 5014 DIAMETER_INVALID_AVP_LENGTH in message 18446744073709551615 at octet 18446744073709551615: \
+    an AVP has a wrong length: AVP 421 CC-Total-Octets at its octet 28
 ";
 
 const UNKNOWN_TEXT: &str = "\
-message 1 at octet 0: DWA Device-Watchdog-Answer --ET, version 1, length 56, command 280, application 0, hop-by-hop 1, end-to-end 255
+message 1 at octet 0: DWA Device-Watchdog-Answer --ET, version 1, length 56, command 280, application 0, hop-by-hop 1, \
+    end-to-end 255
   20: 9999/10415 unknown VM- 16 0x00000007
   36: 9999/0 unknown V-- 12 0x
   48: 268 Result-Code --P 7: broken, its length is below that of its header: 0x0000010c20000007
-fault 5001 DIAMETER_AVP_UNSUPPORTED in message 1 at octet 0: an AVP that is not known has flag M: AVP 9999/10415 unknown at its octet 20
+fault 5001 DIAMETER_AVP_UNSUPPORTED in message 1 at octet 0: an AVP that is not known has flag M: \
+    AVP 9999/10415 unknown at its octet 20
 ";
 
 const CUT_TEXT: &str = "\

@@ -46,7 +46,8 @@ const GROUP: [u8; 20] = [
     0, 0, 1, 0xbe, 0x40, 0, 0, 20, 0, 0, 1, 8, 0x40, 0, 0, 9, 0x61, 0, 0, 0,
 ];
 
-/// CC-Request-Type of an EVENT request and of an UPDATE request, and Requested-Action 4, which no EVENT request may have.
+/// CC-Request-Type of an EVENT request and of an UPDATE request, and Requested-Action 4,
+/// which no EVENT request may have.
 const EVENT: [u8; 12] = [0, 0, 1, 0xa0, 0x40, 0, 0, 12, 0, 0, 0, 4];
 
 const UPDATE: [u8; 12] = [0, 0, 1, 0xa0, 0x40, 0, 0, 12, 0, 0, 0, 2];
@@ -121,8 +122,8 @@ fn first_fault<'a>(
     survey(dictionary, credit, octets, &mut avps).unwrap_or(None)
 }
 
-/// Two parts of octets, the least and the greatest number of groups that they stand in, what stands behind, the number of
-/// the first fault and its failed AVP.
+/// Two parts of octets, the least and the greatest number of groups that they stand in, what stands behind,
+/// the number of the first fault and its failed AVP.
 type Row<'a> = (&'a [u8], &'a [u8], usize, usize, &'a [u8], u32, &'a [u8]);
 
 /// Whether octets have the fault of a row in each number of groups.
@@ -229,8 +230,8 @@ fn full_lists_hold(
 /// A code and data, and the number of the fault in an EVENT request and in any other message.
 type ValueRow<'a> = (u32, &'a [u8], u32, u32);
 
-/// Whether an AVP has this fault in an EVENT request or another message, in 0 to 4 groups; a value that is refused fails
-/// as it is.
+/// Whether an AVP has this fault in an EVENT request or another message, in 0 to 4 groups;
+/// a value that is refused fails as it is.
 fn value_fails(
     alloc: Global,
     dictionary: &Dictionary,
@@ -340,8 +341,8 @@ fn in_two(dictionary: &Dictionary, octets: &[u8]) -> Option<u32> {
     }
 }
 
-/// Two AVPs and what stands behind them, and the answer. A fault among the first two comes before, and so does what is left behind
-/// them and is broken.
+/// Two AVPs and what stands behind them, and the answer.
+/// A fault among the first two comes before, and so does what is left behind them and is broken.
 const IN_TWO: &[(&[u8], &[u8], &[u8], Option<u32>)] = &[
     (&HOST, &GROUP, b"", Some(0)),
     (&HOST, &GROUP, &UNKNOWN, None),

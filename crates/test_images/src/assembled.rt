@@ -10,7 +10,8 @@ use tab_text::{Table, parse};
 
 /// A client that waits for its answer.
 const CLIENT: &str =
-    "  State  Event                        Action         Next\n  Wait   CCA-I when mine and success  Grant-Service  Done\n  Wait   CCA-I                        End-Service    Wait\n";
+    "  State  Event                        Action         Next\n  Wait   CCA-I when mine and success  Grant-Service  \
+        Done\n  Wait   CCA-I                        End-Service    Wait\n";
 
 /// Its image, by hand: magic, counts, names, two entries, 27 octets of code.
 pub(crate) const IMAGE: [u8; 108] = [

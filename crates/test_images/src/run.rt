@@ -22,19 +22,22 @@ use tab_text::parse;
 
 /// A client that waits for its answer.
 const CLIENT: &str =
-    "  State  Event                        Action         Next\n  Wait   CCA-I when mine and success  Grant-Service  Done\n  Wait   CCA-I                        End-Service    Wait\n";
+    "  State  Event                        Action         Next\n  Wait   CCA-I when mine and success  Grant-Service  \
+        Done\n  Wait   CCA-I                        End-Service    Wait\n";
 
 /// The same, and what ends its service. Its kinds and states are two.
 const ENDING: &str =
-    "  State  Event                        Action                      Next\n  Wait   CCA-I when mine and success  Grant-Service               Done\n  Wait   CCA-I                        End-Service                 Wait\n  Done   Tx                           End-Service, Grant-Service  Wait\n";
+    "  State  Event                        Action                      Next\n  Wait   CCA-I when mine and success  \
+        Grant-Service               Done\n  Wait   CCA-I                        End-Service                 Wait\n  \
+        Done   Tx                           End-Service, Grant-Service  Wait\n";
 
 /// The places of the kinds Tx and CCA-I in the book; Go stands before them.
 const TX: u8 = 1;
 
 const CCA_I: u8 = 2;
 
-/// A state, a kind, a request number, a Result-Code, and the row that takes the event, by the client's image: in Done there are
-/// no rows, Tx and states past 1 it lacks, and kinds past 2 the book lacks.
+/// A state, a kind, a request number, a Result-Code, and the row that takes the event, by the client's image:
+/// in Done there are no rows, Tx and states past 1 it lacks, and kinds past 2 the book lacks.
 const STEPS: &[(u8, u8, u64, u64, Option<u16>)] = &[
     (0, CCA_I, 0, 2001, Some(0)),
     (0, CCA_I, 0, 5012, Some(1)),

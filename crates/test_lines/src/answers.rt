@@ -1,4 +1,5 @@
-//! What connections answer by themselves, post and make of faults. The octets are typed by hand from RFC 6733 and RFC 8506.
+//! What connections answer by themselves, post and make of faults.
+//! The octets are typed by hand from RFC 6733 and RFC 8506.
 
 use crate::node::{CER, connections, joined, lifted};
 use bench_item::LineState;
@@ -6,9 +7,9 @@ use dia_frame::FrameFault;
 use std::alloc::Global;
 use std::test::Fail;
 
-/// Messages in pieces, what is posted behind the CER that greets the connection, what is sent, the fault of the stream, and whether the
-/// connection is closed then.
-struct Row {
+/// Messages in pieces, what is posted behind the CER that greets the connection, what is sent, the fault of the stream,
+/// and whether the connection is closed then.
+struct AnswerRow {
     pieces: &'static [&'static str],
     posted: &'static str,
     sent: &'static str,
@@ -18,9 +19,9 @@ struct Row {
 
 const GREETED: &str = "told 0 p:c.example R-Conn-CER 0=4096 1=1 2=1 3=1 5=1\n";
 
-const ROWS: &[Row] = &[
+const ROWS: &[AnswerRow] = &[
     // A DWR is no CER.
-    Row {
+    AnswerRow {
         pieces: &["0100003880000118000000000000000100000001 peer"],
         posted: "",
         sent: "",
@@ -28,7 +29,7 @@ const ROWS: &[Row] = &[
         closed: true,
     },
     // The host is no peer's: 3010.
-    Row {
+    AnswerRow {
         pieces: &[
             "0100006c80000101000000000000000100000001 stranger address vendor product credit",
         ],
@@ -38,7 +39,7 @@ const ROWS: &[Row] = &[
         closed: true,
     },
     // Case does not count in hosts: another host is 3010, and the peer is greeted under its configured name.
-    Row {
+    AnswerRow {
         pieces: &[
             "0100006c80000101000000000000000100000001 STRANGER address vendor product credit",
         ],
@@ -47,7 +48,7 @@ const ROWS: &[Row] = &[
         ended: None,
         closed: true,
     },
-    Row {
+    AnswerRow {
         pieces: &["0100006c80000101000000000000000100000001 PEER address vendor product credit"],
         posted: GREETED,
         sent: "",
@@ -55,14 +56,14 @@ const ROWS: &[Row] = &[
         closed: false,
     },
     // No application of credit control: 5010; inside a Vendor-Specific-Application-Id it is one.
-    Row {
+    AnswerRow {
         pieces: &["0100006080000101000000000000000100000001 peer address vendor product"],
         posted: "",
         sent: "0100004400000101000000000000000100000001 server 0000010c4000000c00001392",
         ended: None,
         closed: true,
     },
-    Row {
+    AnswerRow {
         pieces: &[
             "0100008080000101000000000000000100000001 peer address vendor product \
 0000010440000020 vendor credit",
@@ -72,9 +73,9 @@ const ROWS: &[Row] = &[
         ended: None,
         closed: false,
     },
-    // In the second of two Vendor-Specific-Application-Ids, or behind another one in the same, it is one too; in none of
-    // two it is 5010.
-    Row {
+    // In the second of two Vendor-Specific-Application-Ids, or behind another one in the same, it is one too;
+    // in none of two it is 5010.
+    AnswerRow {
         pieces: &[
             "010000a080000101000000000000000100000001 peer address vendor product \
 0000010440000020 vendor nasreq 0000010440000020 vendor credit",
@@ -84,7 +85,7 @@ const ROWS: &[Row] = &[
         ended: None,
         closed: false,
     },
-    Row {
+    AnswerRow {
         pieces: &[
             "0100008c80000101000000000000000100000001 peer address vendor product \
 000001044000002c vendor nasreq credit",
@@ -94,7 +95,7 @@ const ROWS: &[Row] = &[
         ended: None,
         closed: false,
     },
-    Row {
+    AnswerRow {
         pieces: &[
             "010000a080000101000000000000000100000001 peer address vendor product \
 0000010440000020 vendor nasreq 0000010440000020 vendor nasreq",
@@ -105,7 +106,7 @@ const ROWS: &[Row] = &[
         closed: true,
     },
     // No Vendor-Id: 5005.
-    Row {
+    AnswerRow {
         pieces: &["0100006080000101000000000000000100000001 peer address product credit"],
         posted: "",
         sent: "0100005800000101000000000000000100000001 server 0000010c4000000c0000138d \
@@ -114,7 +115,7 @@ const ROWS: &[Row] = &[
         closed: true,
     },
     // A RAR: 3001. A second CER: 5012.
-    Row {
+    AnswerRow {
         pieces: &[
             CER,
             "01000080c0000102000000040000000900000009 client \
@@ -128,7 +129,7 @@ const ROWS: &[Row] = &[
         closed: false,
     },
     // Five services: 5012, and nothing is posted.
-    Row {
+    AnswerRow {
         pieces: &[
             CER,
             "010000e8c0000110000000040000000700000007 client context initial \
@@ -142,7 +143,7 @@ const ROWS: &[Row] = &[
         closed: false,
     },
     // A message, and then a version that isn't 1.
-    Row {
+    AnswerRow {
         pieces: &[
             CER,
             "010000bcc0000110000000040000000700000007 client context initial subscriber sixty 02",
@@ -157,7 +158,7 @@ told 0 p:c.example R-Peer-Disc 0=4096 1=1 if 1=1
         closed: true,
     },
     // A message that closes stands before such a fault.
-    Row {
+    AnswerRow {
         pieces: &["0100003880000118000000000000000100000001 peer 02"],
         posted: "",
         sent: "",
@@ -167,9 +168,9 @@ told 0 p:c.example R-Peer-Disc 0=4096 1=1 if 1=1
 ];
 
 /// Whether a row is so.
-fn holds(alloc: Global, row: &Row) -> Result<bool, Fail> {
+fn holds(alloc: Global, row: &AnswerRow) -> Result<bool, Fail> {
     let mut lines = connections(alloc)?;
-    if lines.joined() != Ok(1) {
+    if !matches!(lines.joined(), Ok(1)) {
         return Ok(false);
     }
     let mut ended = None;

@@ -37,7 +37,7 @@ fn is_same(
     size: usize,
 ) -> Result<bool, Fail> {
     let mut lines = connections(alloc)?;
-    if lines.joined() != Ok(1) {
+    if !matches!(lines.joined(), Ok(1)) {
         return Ok(false);
     }
     let mut posted = 0;

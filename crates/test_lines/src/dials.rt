@@ -1,8 +1,8 @@
 //! Connections that are dialled, lost and taken back, and what is refused.
 
 use crate::node::{connections, joined, lifted};
-use bench_item::LineState;
-use bench_line::{LineFault, Lines};
+use bench_item::{LineState, StepFault};
+use bench_line::Lines;
 use line_message::Listener;
 use std::alloc::Global;
 use std::test::Fail;
@@ -23,13 +23,13 @@ fn is_closed_for_good(alloc: Global) -> Result<bool, Fail> {
     let unknown = lines.lost(2).err();
     let again = lines.came(1, b"").err();
     Ok(
-        first == Ok(1)
+        matches!(first, Ok(1))
             && is_quiet
             && is_closed(&lines, 1)
             && lines.sent(1).is_empty()
-            && lost == Some(LineFault::Closed)
-            && unknown == Some(LineFault::Unknown)
-            && again == Some(LineFault::Closed),
+            && matches!(lost, Some(StepFault::Closed))
+            && matches!(unknown, Some(StepFault::Unknown))
+            && matches!(again, Some(StepFault::Closed)),
     )
 }
 
@@ -44,13 +44,15 @@ fn is_dialled(alloc: Global) -> Result<bool, Fail> {
     let text = lifted(alloc, &mut lines, 1)?;
     let other = lifted(alloc, &mut lines, 2)?;
     Ok(
-        numbers == (Ok(1), Ok(2))
-            && early == Some(LineFault::Closed)
+        matches!(numbers, (Ok(1), Ok(2)))
+            && matches!(early, Some(StepFault::Closed))
             && first
-            && twice == Some(LineFault::Nothing)
+            && matches!(twice, Some(StepFault::Nothing))
             && gone
             && text.as_slice()
-                == b"told 0 p:c.example I-Rcv-Conn-Ack 0=4096 1=1 if 2=3\ntold 0 p:c.example I-Peer-Disc 0=4096 1=1 if 0=1\n".as_slice()
+                == b"told 0 p:c.example I-Rcv-Conn-Ack 0=4096 1=1 if 2=3\n\
+                    told 0 p:c.example I-Peer-Disc 0=4096 1=1 if 0=1\n"
+                    .as_slice()
             && other.as_slice()
                 == b"told 0 p:c.example I-Rcv-Conn-Nack 0=4096 1=2 if 2=4\n".as_slice(),
     )
@@ -101,7 +103,7 @@ fn is_cer_again(alloc: Global) -> Result<bool, Fail> {
     let is_again = is_taken_back(&mut lines, joined(alloc, REST)?.as_slice());
     let text = lifted(alloc, &mut lines, 1)?;
     Ok(
-        first == Ok(1)
+        matches!(first, Ok(1))
             && is_front
             && is_again
             && text.as_slice()

@@ -8,7 +8,7 @@ use bench_item::{
 use bench_log::{Log, LogError};
 use log_text::{NameBook, put_entry};
 use peer_rules::peer_laws;
-use script_text::{Asked, read_script};
+use script_text::{ScriptStep, read_script};
 use std::alloc::Global;
 use std::test::Fail;
 use step_text::{Machines, read_step, write_step};
@@ -177,13 +177,13 @@ fn is_asked(
     alloc: Global,
     laws: &LawBook,
     machines: &Machines,
-    asked: &Asked,
+    asked: &ScriptStep,
     line: &str,
 ) -> Result<bool, Fail> {
     let mut text = Vec::new(alloc);
     match asked {
-        Asked::Step(step) => write_step(&mut text, laws, machines, step)?,
-        Asked::Fired { key, generation } => {
+        ScriptStep::Step(step) => write_step(&mut text, laws, machines, step)?,
+        ScriptStep::Fired { key, generation } => {
             let is_peer = key.name.as_slice() == b"c.example".as_slice();
             let machine = if is_peer { 4097 } else { 0 };
             let generation = *generation;
@@ -198,7 +198,8 @@ fn is_asked(
     Ok(step.is_ok() && text.as_slice() == line.as_bytes())
 }
 
-/// The place of the first step that a script with this text doesn't ask for; the count of steps where it asks for more or fewer.
+/// The place of the first step that a script with this text doesn't ask for;
+/// the count of steps where it asks for more or fewer.
 fn wrong_step(
     alloc: Global,
     laws: &LawBook,

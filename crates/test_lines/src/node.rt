@@ -12,10 +12,10 @@ use std::test::Fail;
 use step_text::{Machines, write_step};
 use tab_law::LawBook;
 
-/// Parts of messages: the AVPs of a CER but those that name its sender and its application; Auth-Application-Id 4, credit
-/// control, and 1, NASREQ; Session-Id c1;1, Origin-Host c.example, Origin-Realm and Destination-Realm example,
-/// Auth-Application-Id 4; Origin-Host c.example and Origin-Realm example, and C.EXAMPLE; z.example, and Z.EXAMPLE, with that
-/// realm; Service-Context-Id; CC-Request-Type 1 and CC-Request-Number 0; Subscription-Id of account 100; 60 of
+/// Parts of messages: the AVPs of a CER but those that name its sender and its application; Auth-Application-Id 4,
+/// credit control, and 1, NASREQ; Session-Id c1;1, Origin-Host c.example, Origin-Realm and Destination-Realm example,
+/// Auth-Application-Id 4; Origin-Host c.example and Origin-Realm example, and C.EXAMPLE; z.example, and Z.EXAMPLE, with
+/// that realm; Service-Context-Id; CC-Request-Type 1 and CC-Request-Number 0; Subscription-Id of account 100; 60 of
 /// CC-Service-Specific-Units; what the node says of itself. Words that are not listed are digits themselves.
 const WORDS: &str = "\
 address 000001014000000e00017f0000010000
@@ -23,7 +23,8 @@ vendor 0000010a4000000c00000000
 product 0000010d0000000978000000
 credit 000001024000000c00000004
 nasreq 000001024000000c00000001
-client 000001074000000c63313b310000010840000011632e6578616d706c65000000000001284000000f6578616d706c65000000011b4000000f6578616d706c6500000001024000000c00000004
+client 000001074000000c63313b310000010840000011632e6578616d706c65000000000001284000000f6578616d706c65000000011b4000000f\
+    6578616d706c6500000001024000000c00000004
 peer 0000010840000011632e6578616d706c65000000000001284000000f6578616d706c6500
 PEER 0000010840000011432e4558414d504c45000000000001284000000f6578616d706c6500
 stranger 00000108400000117a2e6578616d706c65000000000001284000000f6578616d706c6500

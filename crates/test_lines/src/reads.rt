@@ -38,7 +38,8 @@ const READ: &[(&str, &str, usize)] = &[
     ),
 ];
 
-/// Texts with a bad line, and its number: of a step, an item or a deed that there isn't, at the wrong place, or in another spelling.
+/// Texts with a bad line, and its number: of a step, an item or a deed that there isn't,
+/// at the wrong place, or in another spelling.
 const BAD: &[(&str, usize)] = &[
     ("joined\n", 1),
     ("join\n\njoin\n", 2),

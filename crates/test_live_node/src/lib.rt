@@ -1,4 +1,4 @@
-//! Tests of live nodes without sockets: what one sent is carried to the other by the test.
+//! Tests of live nodes without sockets, what one sent is carried to the other by the test; and of a node as text.
 #![tactic(auto)]
 
 #[cfg(test)]
@@ -7,3 +7,5 @@ mod pair;
 mod rows;
 #[cfg(test)]
 mod tests;
+#[cfg(test)]
+mod texts;

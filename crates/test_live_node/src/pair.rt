@@ -176,6 +176,8 @@ pub struct Turns {
     pub server: Setup,
     pub client: Setup,
     pub turns: u64,
+    /// Whether what one sent is carried to the other in every second turn alone.
+    pub is_slow: bool,
 }
 
 // A row for each turn.
@@ -187,6 +189,7 @@ fn turn_all(turns: Turns, registries: &[Registry]) -> Result<Vec<u8>, AllocError
         server,
         client,
         turns,
+        is_slow,
     } = turns;
     let mut server = opened(alloc, registries, server, None, 5)?;
     let mut client = opened(alloc, registries, client, Some(somewhere()), 5)?;
@@ -195,11 +198,13 @@ fn turn_all(turns: Turns, registries: &[Registry]) -> Result<Vec<u8>, AllocError
         by_client: 0,
     };
     let mut rows = Vec::new(alloc);
-    for _ in 0..turns {
+    for turn in 0..turns {
         stir(&mut client, registries, 0)?;
         connect(&mut client.live, &mut server.live);
         settle(&mut client.live, registries)?;
-        carry_all(&mut client.live, &mut server.live, registries, &mut got)?;
+        if !is_slow || turn % 2 == 1 {
+            carry_all(&mut client.live, &mut server.live, registries, &mut got)?;
+        }
         put_client(alloc, &mut rows, client.live.core())?;
         put_server(alloc, &mut rows, server.live.core())?;
     }

@@ -6,8 +6,8 @@ use bench_setup::{Setup, read_nodes, with_calls};
 use std::fs;
 use std::test::Fail;
 
-/// The desk tells in each turn its next text: that the peer starts; that a session begins, wants 60 units of account 100, used 50 of them
-/// and wants 60 more, of which 50 are left, and ends with 35 more used; that the peer stops.
+/// The desk tells in each turn its next text: that the peer starts; that a session begins, wants 60 units of account
+/// 100, used 50 of them and wants 60 more, of which 50 are left, and ends with 35 more used; that the peer stops.
 const SESSION: &str = "\
 I-Open - R-Open - 0 0
 I-Open Open R-Open Open 60 0
@@ -16,8 +16,23 @@ I-Open Idle R-Open Idle 0 85
 Closed Idle Closed Idle 0 85
 ";
 
-/// The peer's timer is armed for 30 seconds once it is dialled. The session's text waits for the peer twice, and is then told in any case:
-/// its request can't be sent.
+/// The same, where an answer comes a turn later than its request went out:
+/// each text waits for it, that the peer stops too.
+const SLOW_SESSION: &str = "\
+Wait-I-CEA - Closed - 0 0
+I-Open - R-Open - 0 0
+I-Open PendingI R-Open - 0 0
+I-Open Open R-Open Open 60 0
+I-Open PendingU R-Open Open 60 0
+I-Open Open R-Open Open 50 50
+I-Open PendingT R-Open Open 50 50
+I-Open Idle R-Open Idle 0 85
+Closing Idle R-Open Idle 0 85
+Closed Idle Closed Idle 0 85
+";
+
+/// The peer's timer is armed for 30 seconds once it is dialled.
+/// The session's text waits for the peer twice, and is then told in any case: its request can't be sent.
 const UNANSWERED: &str = "\
 Wait-Conn-Ack - 
 Wait-Conn-Ack - 
@@ -47,7 +62,10 @@ const PAIR: &str = r#"{"nodes": [
         "realm": "example",
         "address": "127.0.0.1",
         "peers": [{"host": "s.example", "address": "127.0.0.1:3868"}],
-        "desks": [["p:s.example Start", "c:c1;1 Begin 7=100 9=60 10=3", "c:c1;1 More 8=50 9=60", "c:c1;1 End 8=35", "p:s.example Stop"]]
+        "desks": [
+            ["p:s.example Start", "c:c1;1 Begin 7=100 9=60 10=3", "c:c1;1 More 8=50 9=60", "c:c1;1 End 8=35",
+                "p:s.example Stop"]
+        ]
     }
 ]}"#;
 
@@ -61,10 +79,10 @@ fn nodes(rt: &HostRuntime, name: &str) -> Result<Vec<Setup>, Fail> {
     }
 }
 
-#[test]
-fn a_session_is_charged(rt: HostRuntime) -> Result<(), Fail> {
+// What both nodes come to in so many turns.
+fn both(rt: &HostRuntime, name: &str, turns: u64, is_slow: bool) -> Result<Vec<u8>, Fail> {
     let alloc = rt.alloc();
-    let mut setups = nodes(&rt, "session.json")?.into_iter();
+    let mut setups = nodes(rt, name)?.into_iter();
     let (Some(server), Some(client)) = (setups.next(), setups.next()) else {
         return Err(Fail::new("two nodes"));
     };
@@ -72,10 +90,21 @@ fn a_session_is_charged(rt: HostRuntime) -> Result<(), Fail> {
         alloc,
         server,
         client,
-        turns: 5,
+        turns,
+        is_slow,
     };
-    let rows = with_calls(alloc, 1, turns)?;
-    assert!(rt; rows.as_slice() == SESSION.as_bytes());
+    Ok(with_calls(alloc, 1, turns)?)
+}
+
+#[test]
+fn a_session_is_charged(rt: HostRuntime) -> Result<(), Fail> {
+    assert!(rt; both(&rt, "session.json", 5, false)?.as_slice() == SESSION.as_bytes());
+    Ok(())
+}
+
+#[test]
+fn a_stop_waits_for_the_answer(rt: HostRuntime) -> Result<(), Fail> {
+    assert!(rt; both(&rt, "slow.json", 10, true)?.as_slice() == SLOW_SESSION.as_bytes());
     Ok(())
 }
 

@@ -24,10 +24,14 @@ fn free_port(rt: &HostRuntime) -> io::Result<u16> {
 // A server, and a client that begins a session, goes on with it and ends it, and then stops.
 fn config(alloc: Global, port: u16) -> Result<String, Fail> {
     let server = format!(in alloc;
-        "{{\"host\": \"s.example\", \"realm\": \"example\", \"address\": \"127.0.0.1\", \"listen\": \"127.0.0.1:{port}\", \"turns\": 1000, \"peers\": [{{\"host\": \"c.example\", \"address\": \"\"}}], \"accounts\": [{{\"id\": 100, \"given\": 100}}]}}"
+        "{{\"host\": \"s.example\", \"realm\": \"example\", \"address\": \"127.0.0.1\", \"listen\": \
+            \"127.0.0.1:{port}\", \"turns\": 1000, \"peers\": [{{\"host\": \"c.example\", \"address\": \"\"}}], \
+            \"accounts\": [{{\"id\": 100, \"given\": 100}}]}}"
     )?;
     let client = format!(in alloc;
-        "{{\"host\": \"c.example\", \"realm\": \"example\", \"address\": \"127.0.0.1\", \"turns\": 1000, \"peers\": [{{\"host\": \"s.example\", \"address\": \"127.0.0.1:{port}\"}}], \"desks\": [[\"p:s.example Start\", \"c:c1;1 Begin 7=100 9=60 10=3\", \"c:c1;1 More 8=50 9=60\", \"c:c1;1 End 8=35\", \"p:s.example Stop\"]]}}"
+        "{{\"host\": \"c.example\", \"realm\": \"example\", \"address\": \"127.0.0.1\", \"turns\": 1000, \"peers\": \
+            [{{\"host\": \"s.example\", \"address\": \"127.0.0.1:{port}\"}}], \"desks\": [[\"p:s.example Start\", \
+            \"c:c1;1 Begin 7=100 9=60 10=3\", \"c:c1;1 More 8=50 9=60\", \"c:c1;1 End 8=35\", \"p:s.example Stop\"]]}}"
     )?;
     Ok(format!(in alloc; "{{\"nodes\": [{server}, {client}]}}")?)
 }
@@ -72,8 +76,13 @@ fn a_session_is_charged_over_loopback(rt: HostRuntime) -> Result<(), Fail> {
         node: None,
         seconds: Some("30"),
         log: Some("loopback"),
+        stats: false,
     };
-    let together = |livings| thread::map_vec(&rt, livings, &|living| live_one(&rt, alloc, living));
+    let together = |livings| thread::map_vec(
+        &rt,
+        livings,
+        &|living| live_one(&rt, alloc, rt.stderr(), living),
+    );
     let status = live(&rt, words, &mut source, &mut sink, &together);
     assert!(rt; status == Status::Done, "ended");
     let account: &[u8] = b"account 100 given 100 reserved 0 debited 85 unpaid 0";

@@ -28,8 +28,8 @@ fn are_names_of<T: Drop>(names: &NameList, entries: &NamedList<T>) -> bool {
             .all(|(name, entry)| name.as_slice() == entry.name.as_slice())
 }
 
-/// Whether a table's kinds, guards and actions are those of the laws, in the order of their first appearance, and it is bound
-/// to them.
+/// Whether a table's kinds, guards and actions are those of the laws,
+/// in the order of their first appearance, and it is bound to them.
 pub fn has_the_names_of(alloc: Global, text: &[u8], laws: &LawBook) -> bool {
     let Ok(table) = parse(alloc, text) else {
         return false;

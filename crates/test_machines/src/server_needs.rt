@@ -1,7 +1,7 @@
 //! What a server's events ask of the account book.
 
 use acct_totals::Slot;
-use charge_session::{Asked, Want, needs};
+use charge_session::{ServiceUnits, Want, needs};
 use server_rules::ServerKind;
 use tab_law::PLACES;
 use tab_step::{Event, MachineState};
@@ -29,7 +29,7 @@ fn one(account: u64, used: u64, want: u64) -> Option<Want> {
     Some(Want {
         account,
         session: 9,
-        asked: Asked::One(slot),
+        asked: ServiceUnits::One(slot),
     })
 }
 
@@ -76,7 +76,7 @@ fn services_ask_slot_by_slot(rt: HostRuntime) {
     let wanted = Want {
         account: 100,
         session: 9,
-        asked: Asked::Several(asked),
+        asked: ServiceUnits::Several(asked),
     };
     assert!(rt; wants(ServerKind::Update.place(), 0, SERVICES) == Some(wanted));
 }

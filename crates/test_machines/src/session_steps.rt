@@ -1,5 +1,5 @@
-//! The machines of a peer, and of a session's server and client, over callbacks that keep their laws: what is printed of walks, as
-//! a separate reading of the tables and the laws gives it.
+//! The machines of a peer, and of a session's server and client, over callbacks that keep their laws:
+//! what is printed of walks, as a separate reading of the tables and the laws gives it.
 
 ghost use Rattle.tab_law.specs.Acts.{Permits};
 
@@ -14,10 +14,10 @@ use std::alloc::{AllocError, Global};
 use std::test::Fail;
 use tab_call::{Ask, Calls, Do, Registry, StoredAct, StoredGuard};
 use tab_law::{ActLaw, Acted, LawBook, Scene, emitted, high_into, holds, permits};
-use tab_walk::{Manner, walk_on};
+use tab_walk::{WalkOptions, walk_on};
 
 /// A walk from the start, that doesn't say why.
-const PLAIN: Manner<'static> = Manner {
+const PLAIN: WalkOptions<'static> = WalkOptions {
     why: false,
     from: None,
 };
@@ -190,10 +190,13 @@ Event Idle Idle row 17
 /// Two services, of which one reaches its limit; then the session's time is over. Four services that are all refused.
 const GROUPS: Walk = (
     "\
-Initial 0=4097 1=1 2=7 3=7 4=1 5=1 6=1 7=100 12=2001 16=2 17=3 19=70 20=2 21=2001 22=70 25=4 27=50 28=2 29=2001 30=30 31=1
-Update 0=4097 1=1 2=8 3=8 4=1 5=2 6=2 7=100 12=2001 16=2 17=3 18=80 19=10 20=2 21=4012 24=70 25=4 26=10 27=10 28=2 29=2001 30=10 32=10
+Initial 0=4097 1=1 2=7 3=7 4=1 5=1 6=1 7=100 12=2001 16=2 17=3 19=70 20=2 21=2001 22=70 25=4 27=50 28=2 29=2001 30=30 \
+    31=1
+Update 0=4097 1=1 2=8 3=8 4=1 5=2 6=2 7=100 12=2001 16=2 17=3 18=80 19=10 20=2 21=4012 24=70 25=4 26=10 27=10 28=2 \
+    29=2001 30=10 32=10
 Tcc
-Initial 2=9 3=9 5=1 6=3 7=100 12=2001 16=4 17=1 20=1 21=2001 22=1 25=2 28=2 29=2001 30=2 33=4294967297 36=3 37=2001 38=3 41=5 44=3 45=2001 46=4 47=1
+Initial 2=9 3=9 5=1 6=3 7=100 12=2001 16=4 17=1 20=1 21=2001 22=1 25=2 28=2 29=2001 30=2 33=4294967297 36=3 37=2001 \
+    38=3 41=5 44=3 45=2001 46=4 47=1
 Update 2=10 3=10 5=2 6=4 7=100 12=4012 16=4 17=1 18=5 25=2 26=6 33=4294967297 34=7 41=5 42=8
 Initial 2=12 3=12 5=1 6=6 7=100 12=2001 16=1 17=3 20=2 21=2001 22=40 23=1
 Terminate 2=13 3=13 5=3 6=7 7=100 12=2001 16=2 17=3 18=40 25=4 26=1
@@ -224,7 +227,8 @@ Initial Idle Open row 2
   Reserve 3 4294967297
   Debit 0 5
   Reserve 4 5
-  To-Peer 0 0 9 9 2 1 3 0 0 0 0 0 2001 0 0 0 4 1 0 0 1 2001 1 0 0 2 0 0 2 2001 2 0 0 4294967297 0 0 3 2001 3 0 0 5 0 0 3 2001 4 1
+  To-Peer 0 0 9 9 2 1 3 0 0 0 0 0 2001 0 0 0 4 1 0 0 1 2001 1 0 0 2 0 0 2 2001 2 0 0 4294967297 0 0 3 2001 3 0 0 5 0 0 \
+    3 2001 4 1
   Arm 3 600
 Update Open Idle row 23
   Debit 5 1
@@ -232,7 +236,8 @@ Update Open Idle row 23
   Debit 7 4294967297
   Debit 8 5
   Release
-  To-Peer 0 0 10 10 2 2 4 0 0 0 0 0 4012 0 0 0 0 1 0 0 1 2001 1 0 0 2 0 0 2 2001 2 0 0 4294967297 0 0 3 2001 3 0 0 5 0 0 3 2001 4 1
+  To-Peer 0 0 10 10 2 2 4 0 0 0 0 0 4012 0 0 0 0 1 0 0 1 2001 1 0 0 2 0 0 2 2001 2 0 0 4294967297 0 0 3 2001 3 0 0 5 0 \
+    0 3 2001 4 1
   Disarm
 Initial Idle Open row 2
   Debit 0 3

@@ -1,5 +1,5 @@
-//! The shipped tables: each is printed as it is written, its kinds, guards and actions are those of its role's laws in the order of
-//! their first appearance, and it is bound to them.
+//! The shipped tables: each is printed as it is written, its kinds, guards and actions are those of its role's laws in
+//! the order of their first appearance, and it is bound to them.
 
 use crate::role_table::{has_states, has_the_names_of, is_printed_as_written};
 use client_rules::client_laws;

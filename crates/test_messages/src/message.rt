@@ -101,8 +101,8 @@ const KEPT: &[(&str, CommandKind)] = &[
     ),
 ];
 
-/// Watchdogs as they are read and as they are written: AVPs are taken in the order of the format; reserved bits and padding are not
-/// kept.
+/// Watchdogs as they are read and as they are written: AVPs are taken in the order of the format;
+/// reserved bits and padding are not kept.
 const CHANGED: &[(&str, &str)] = &[
     (
         "80 dwr unknown realm host state second-host",

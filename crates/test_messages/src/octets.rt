@@ -8,17 +8,17 @@ use std::test::Fail;
 
 /// Parts of messages. Behind the flags stand the Command Code, the Application-Id and both identifiers, which are 7.
 ///
-/// Then AVPs: `loose-host` is `host` with reserved bits and padding, `second-host` another Origin-Host with flag P, `product` without
-/// flag M. Result-Codes 2001 and 4012; Disconnect-Cause 2; `subscription` of type 0 with the data 100, and the same with a reserved bit,
-/// without the inner padding at its end. `failed` has an Origin-Host without octets, `state` is Origin-State-Id 7. AVP 9999, which the
-/// dictionary lacks, without and with flag M.
+/// Then AVPs: `loose-host` is `host` with reserved bits and padding, `second-host` another Origin-Host with flag P,
+/// `product` without flag M. Result-Codes 2001 and 4012; Disconnect-Cause 2; `subscription` of type 0 with the data
+/// 100, and the same with a reserved bit, without the inner padding at its end. `failed` has an Origin-Host without
+/// octets, `state` is Origin-State-Id 7. AVP 9999, which the dictionary lacks, without and with flag M.
 ///
-/// AVPs that have a fault: an Origin-Host that is not ASCII, a Disconnect-Cause of 3 octets, a CC-Request-Type 0, a Requested-Action 4,
-/// five groups, each in the one before, and a Used-Service-Unit whose CC-Total-Octets has the length 17 in 16 octets. Failed AVPs with
-/// zeros of the least size of their type, and two whole Failed-AVPs.
+/// AVPs that have a fault: an Origin-Host that is not ASCII, a Disconnect-Cause of 3 octets, a CC-Request-Type 0, a
+/// Requested-Action 4, five groups, each in the one before, and a Used-Service-Unit whose CC-Total-Octets has the
+/// length 17 in 16 octets. Failed AVPs with zeros of the least size of their type, and two whole Failed-AVPs.
 ///
-/// Requests for credit control up to Service-Context-Id, with two Destination-Realms; services of Rating-Groups 1 to 4, and one without.
-/// `server` is Origin-Host s.example and Origin-Realm example.
+/// Requests for credit control up to Service-Context-Id, with two Destination-Realms;
+/// services of Rating-Groups 1 to 4, and one without. `server` is Origin-Host s.example and Origin-Realm example.
 const WORDS: &str = "\
 cer 000101000000000000000700000007
 dwr 000118000000000000000700000007
@@ -71,8 +71,10 @@ no-action 000001b44000000c00000000
 no-state 000001160000000c00000000
 failed-unknown 00000117400000140000270f4000000c00000001
 failed-total 0000011740000018000001a5400000100000000000000000
-credit 000001074000000c63313b310000010840000011632e6578616d706c65000000000001284000000f6578616d706c65000000011b4000000972000000000001024000000c00000004000001cd4000000b78407900
-names 000001074000000c63313b310000010840000011632e6578616d706c65000000000001284000000f6578616d706c65000000011b4000000f6578616d706c6500000001024000000c00000004
+credit 000001074000000c63313b310000010840000011632e6578616d706c65000000000001284000000f6578616d706c65000000011b40000009\
+    72000000000001024000000c00000004000001cd4000000b78407900
+names 000001074000000c63313b310000010840000011632e6578616d706c65000000000001284000000f6578616d706c65000000011b4000000f6\
+    578616d706c6500000001024000000c00000004
 indicator 000001c74000000c00000001
 group-1 000001c840000014000001b04000000c00000001
 group-2 000001c840000014000001b04000000c00000002

@@ -16,8 +16,8 @@ fn counts(command: &Command) -> (usize, usize) {
     (services, command.rest().len())
 }
 
-/// Messages with so many services and other AVPs: four services of different groups, and services of an error answer, which are
-/// kept and not looked at.
+/// Messages with so many services and other AVPs:
+/// four services of different groups, and services of an error answer, which are kept and not looked at.
 const KEPT: &[(&str, usize, usize)] = &[
     (
         "c0 ccr names context initial number-0 indicator group-1 no-group group-2 group-3",

@@ -56,7 +56,8 @@ fn is_answered(
     })
 }
 
-/// The request of session c1;1 from c.example for 60 octets, INITIAL_REQUEST, number 0, and with AVP 9999 without flag M.
+/// The request of session c1;1 from c.example for 60 octets, INITIAL_REQUEST, number 0,
+/// and with AVP 9999 without flag M.
 const WORKED: &[(&str, u8)] = &[
     (
         "c0 ccr names context initial number-0 subscription requested",
@@ -74,8 +75,8 @@ fn stands(alloc: Global, dictionary: &Dictionary, words: &str, len: u8) -> Resul
     Ok(octets.get(3) == Some(&len) && is_kept(alloc, dictionary, &octets))
 }
 
-/// What is wrong with the request: AVP 9999 with flag M, no Service-Context-Id, and an AVP that runs past its group; the number of the
-/// fault, and the end of the answer, which is whole of the second.
+/// What is wrong with the request: AVP 9999 with flag M, no Service-Context-Id, and an AVP that runs past its group;
+/// the number of the fault, and the end of the answer, which is whole of the second.
 const FAULTY: &[(&str, u32, &str)] = &[
     (
         "c0 ccr names context initial number-0 subscription requested mandatory",

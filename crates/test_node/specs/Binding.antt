@@ -1,3 +1,4 @@
+-- What binds a table to a book is known in one way at most.
 use Rattle.std.specs.Prelude.{ℕ, List, [], ◌∷◌, Option, ⊤}
 use Rattle.std.specs.List.{AllZip}
 use Rattle.std.specs.Coded.{×_prop, Coded-set, coded_ℕ, coded_list, coded_option}
@@ -14,10 +15,12 @@ places_set : IsSet (List (Option ℕ))
 places_set = Coded-set (coded_list (coded_option coded_ℕ))
 
 -- that names stand at places is known in one way at most
-IsPlacesOf-prop : (laws : Laws) (table : Contents) (row : Row) (places : RowPlaces) → IsProp (IsPlacesOf laws table row places)
+IsPlacesOf-prop : (laws : Laws) (table : Contents) (row : Row) (places : RowPlaces)
+    → IsProp (IsPlacesOf laws table row places)
 IsPlacesOf-prop laws table row places = hlevel (place_set, places_set)
 
-AllZip-prop : {A B : Type 0} (R : A → B → Type 0) → ((x : A) (y : B) → IsProp (R x y)) → (xs : List A) (ys : List B) → IsProp (AllZip R xs ys)
+AllZip-prop : {A B : Type 0} (R : A → B → Type 0)
+    → ((x : A) (y : B) → IsProp (R x y)) → (xs : List A) (ys : List B) → IsProp (AllZip R xs ys)
 AllZip-prop R each [] [] = hlevel
 AllZip-prop R each [] (y ∷ ys) = hlevel
 AllZip-prop R each (x ∷ xs) [] = hlevel
@@ -25,4 +28,5 @@ AllZip-prop R each (x ∷ xs) (y ∷ ys) = ×_prop (each x y) (AllZip-prop R eac
 
 -- that a table is bound to laws is known in one way at most
 pub IsBoundTo-prop : (bound : BoundTable) (laws : Laws) → IsProp (IsBoundTo bound laws)
-IsBoundTo-prop bound laws = AllZip-prop (IsPlacesOf laws bound.table) (IsPlacesOf-prop laws bound.table) bound.table.rows bound.places
+IsBoundTo-prop bound laws =
+    AllZip-prop (IsPlacesOf laws bound.table) (IsPlacesOf-prop laws bound.table) bound.table.rows bound.places

@@ -1,5 +1,5 @@
-//! Requests of credit control charged by a server's node, from octets to octets. Values were worked out by hand from RFC 8506 and
-//! the definition of the account book.
+//! Requests of credit control charged by a server's node, from octets to octets.
+//! Values were worked out by hand from RFC 8506 and the definition of the account book.
 
 use crate::charging_octets::wrong_octets;
 use crate::charging_step::{ACCOUNT, Server, node};
@@ -19,8 +19,8 @@ use tab_call::{Ask, Calls, Do, Registry, StoredAct, StoredGuard};
 use tab_law::{Acted, Deed, PLACES, Scene, high_into, holds};
 use tab_role::TakesRoles;
 
-/// A session, the CC-Request-Type and CC-Request-Number of its request, and the facts of the request and of its answer that are not
-/// said by these: words `PLACE=NUMBER`.
+/// A session, the CC-Request-Type and CC-Request-Number of its request,
+/// and the facts of the request and of its answer that are not said by these: words `PLACE=NUMBER`.
 type Row = (&'static str, (u64, u32), &'static str, &'static str);
 
 /// The machine's number of the client that sends the requests.
@@ -132,12 +132,12 @@ fn are_answered(alloc: Global, roles: &Roles<'_>, server: &mut Server, rows: &[R
 /// What is reserved, debited and unpaid of an account.
 pub type Sums = (u64, u64, u128);
 
-/// An operation and its outcome, both done: the deed's code, session, group, the number that is told, the units that were moved and
-/// those that could not be paid.
+/// An operation and its outcome, both done: the deed's code, session, group, the number that is told,
+/// the units that were moved and those that could not be paid.
 pub type Entry = (DeedCode, u64, u64, u64, u64, u64);
 
-/// What is tried: what it is, what the account is given, requests; then the sums, the journal and the states of sessions, by the
-/// numbers of these in their table.
+/// What is tried: what it is, what the account is given, requests;
+/// then the sums, the journal and the states of sessions, by the numbers of these in their table.
 type Case = (
     &'static str,
     u64,
@@ -225,8 +225,8 @@ const IDLE: u8 = 0;
 
 const OPEN: u8 = 1;
 
-/// Two sessions share 100 units; one uses more than it was granted. Its last update comes once more, and an update of a session that
-/// was never seen.
+/// Two sessions share 100 units; one uses more than it was granted.
+/// Its last update comes once more, and an update of a session that was never seen.
 const SHARED: &[Row] = &[
     ("a;1", (1, 0), "9=60 10=3", "10=3 12=2001 13=60"),
     ("b;1", (1, 0), "9=60 10=3", "10=3 12=2001 13=40 14=1"),
@@ -256,7 +256,8 @@ const WIDEST: &[Row] = &[
     ("c;1", (1, 0), "7=999 9=1 10=3", "12=5030"),
 ];
 
-/// One-time events: 30 of 100 are debited, then 80 are not there, 50 are given back, 100 are there; a price is not told, and more than there is isn't debited.
+/// One-time events: 30 of 100 are debited, then 80 are not there, 50 are given back, 100 are there;
+/// a price is not told, and more than there is isn't debited.
 const EVENTS: &[Row] = &[
     ("e;1", (4, 0), "9=30 10=3 11=1", "10=3 12=2001 13=30"),
     ("e;2", (4, 0), "9=80 10=3 11=3", "11=2 12=2001"),

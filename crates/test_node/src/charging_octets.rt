@@ -1,4 +1,5 @@
-//! Requests of credit control and their answers by a server's node, octet by octet, typed by hand from RFC 6733 and RFC 8506.
+//! Requests of credit control and their answers by a server's node, octet by octet,
+//! typed by hand from RFC 6733 and RFC 8506.
 
 use crate::charging::{Sums, connected, has_sums, is_entry, places};
 use crate::charging_step::Server;
@@ -6,12 +7,13 @@ use crate::roles::Roles;
 use base_codes::DeedCode;
 use std::alloc::Global;
 
-/// Parts of messages: Session-Id c1;1, Origin-Host c.example, Origin-Realm and Destination-Realm example and Auth-Application-Id 4;
-/// Service-Context-Id; CC-Request-Type and CC-Request-Number; Subscription-Id of account 100; Requested-Service-Unit with 60 of
-/// CC-Service-Specific-Units; Origin-Host s.example and Origin-Realm example; services that ask for 70 octets of Rating-Group 1 and
-/// for 50 of 2. Words that are not listed are digits themselves.
+/// Parts of messages: Session-Id c1;1, Origin-Host c.example, Origin-Realm and Destination-Realm example and
+/// Auth-Application-Id 4; Service-Context-Id; CC-Request-Type and CC-Request-Number; Subscription-Id of account 100;
+/// Requested-Service-Unit with 60 of CC-Service-Specific-Units; Origin-Host s.example and Origin-Realm example;
+/// services that ask for 70 octets of Rating-Group 1 and for 50 of 2. Words that are not listed are digits themselves.
 const WORDS: &str = "\
-client 000001074000000c63313b310000010840000011632e6578616d706c65000000000001284000000f6578616d706c65000000011b4000000f6578616d706c6500000001024000000c00000004
+client 000001074000000c63313b310000010840000011632e6578616d706c65000000000001284000000f6578616d706c65000000011b4000000f\
+    6578616d706c6500000001024000000c00000004
 context 000001cd4000000b78407900
 initial 000001a04000000c000000010000019f4000000c00000000
 update 000001a04000000c000000020000019f4000000c00000001
@@ -22,7 +24,8 @@ seventy 000001c84000002c000001b540000018000001a5400000100000000000000046000001b0
 fifty 000001c84000002c000001b540000018000001a5400000100000000000000032000001b04000000c00000002
 ";
 
-/// The answer that grants 60: Session-Id, Result-Code 2001, names, Auth-Application-Id, type, number, Granted-Service-Unit.
+/// The answer that grants 60: Session-Id, Result-Code 2001, names, Auth-Application-Id, type,
+/// number, Granted-Service-Unit.
 const GRANTED: &str = "\
 0100008c40000110000000040000000700000007 000001074000000c63313b310000010c4000000c000007d1 server \
 000001024000000c00000004000001a04000000c000000010000019f4000000c00000000 \
@@ -99,7 +102,8 @@ const UNKNOWN: &str = "\
 010000c8c0000110000000040000000700000007 client context initial subscriber sixty \
 0000270f0000000c00000001";
 
-/// Faulty requests and their answers: AVP 9999 with flag M, no Service-Context-Id, and an amount that is longer than its group.
+/// Faulty requests and their answers: AVP 9999 with flag M, no Service-Context-Id,
+/// and an amount that is longer than its group.
 const FAULTY: &[(&str, &str, Sums)] = &[
     (
         "\
@@ -165,8 +169,10 @@ const BOTH_GRANTED: &str = "\
 /// 80 octets of 1 are used and 10 wanted, 10 of 2 used and 10 wanted.
 const BOTH_USED: &str = "\
 0100012cc0000110000000040000000800000008 client context update subscriber \
-000001c840000044000001b540000018000001a540000010000000000000000a000001be40000018000001a5400000100000000000000050000001b04000000c00000001 \
-000001c840000044000001b540000018000001a540000010000000000000000a000001be40000018000001a540000010000000000000000a000001b04000000c00000002";
+000001c840000044000001b540000018000001a540000010000000000000000a000001be40000018000001a5400000100000000000000050000001b\
+    04000000c00000001 \
+000001c840000044000001b540000018000001a540000010000000000000000a000001be40000018000001a540000010000000000000000a000001b\
+    04000000c00000002";
 
 /// The answer: the first is refused, the second granted.
 const ONE_GRANTED: &str = "\
@@ -180,8 +186,8 @@ const ONE_GRANTED: &str = "\
 const BOTH_ASKED: &str =
     "010000fcc0000110000000040000000700000007 client context initial subscriber seventy fifty";
 
-/// What holds after the last request of a trial: the session is open for 60 units, there is none and nothing is booked, or its
-/// timer fires and the last 10 units are released.
+/// What holds after the last request of a trial: the session is open for 60 units, there is none and nothing is booked,
+/// or its timer fires and the last 10 units are released.
 #[derive(Clone, Copy)]
 enum End {
     Open,

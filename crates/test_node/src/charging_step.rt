@@ -1,12 +1,12 @@
-//! What a credit-control server does with a message, joined of public calls: from a request's octets by way of its peer's machine,
-//! its session's machine and the account book to the answer's octets (RFC 8506 sections 3, 5 and 6).
+//! What a credit-control server does with a message, joined of public calls: from a request's octets by way of its
+//! peer's machine, its session's machine and the account book to the answer's octets (RFC 8506 sections 3, 5 and 6).
 
 use crate::roles::Roles;
 use acct_book::{Op, Page};
 use base_codes::{DeedCode, HEADER_LEN, avp_code, peer_fact, peer_register, session_register};
 use base_list::Octets;
 use charge_message::answer_message;
-use charge_session::{Asked, Quotes, Want, fill_quotes, needs, op_of, server_event};
+use charge_session::{Quotes, ServiceUnits, Want, fill_quotes, needs, op_of, server_event};
 use deed_message::Names;
 use dia_avp::first_avp;
 use dia_command::header_of;
@@ -28,8 +28,8 @@ const DEFAULT_UNITS: u64 = 500;
 /// The line of the peer's connection.
 const LINE: u64 = 1;
 
-/// A server's node: one peer, whose machine has number 0, its sessions, whose machines are numbered from 1, and a page of the
-/// account book. It keeps room for the operations and for the step of one request.
+/// A server's node: one peer, whose machine has number 0, its sessions, whose machines are numbered from 1, and a page
+/// of the account book. It keeps room for the operations and for the step of one request.
 pub struct Server {
     alloc: Global,
     dictionary: Dictionary,
@@ -116,8 +116,8 @@ pub fn node(alloc: Global, host: &str, address: [u8; 4]) -> Result<Identity, All
 }
 
 impl Server {
-    /// The node s.example whose account is given so much, without sessions. Its peer has not connected yet. None where memory is
-    /// wanting, or the account can't be given so much.
+    /// The node s.example whose account is given so much, without sessions. Its peer has not connected yet.
+    /// None where memory is wanting, or the account can't be given so much.
     pub fn new(alloc: Global, given: u64) -> Option<Server> {
         let mut page = Page::new(alloc);
         if page.open_account(ACCOUNT, given).is_err() {
@@ -207,11 +207,11 @@ impl Server {
         let want = needs(event, self.sessions.get(place)?)?;
         let (account, session) = (want.account, want.session);
         let quotes = match want.asked {
-            Asked::One(slot) => Quotes::One(
+            ServiceUnits::One(slot) => Quotes::One(
                 self.page
                     .quote(account, session, slot.group, slot.used, slot.want),
             ),
-            Asked::Several(slots) => {
+            ServiceUnits::Several(slots) => {
                 Quotes::Several(self.page.quote_groups(account, session, &slots))
             }
         };
@@ -298,7 +298,8 @@ impl Server {
         }
     }
 
-    /// Appends the octets of the answer to those of a message; nothing where it gets none. Whether there was room for all.
+    /// Appends the octets of the answer to those of a message; nothing where it gets none.
+    /// Whether there was room for all.
     pub fn serve(&mut self, roles: &Roles<'_>, octets: &[u8], out: &mut Vec<u8>) -> bool {
         match &self.read(octets) {
             Ok(request) => self.answer(roles, request, out),

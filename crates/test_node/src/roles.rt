@@ -1,4 +1,5 @@
-//! The machines of a server's node: callbacks of all roles, and the tables of a peer and of a server's session bound to them.
+//! The machines of a server's node: callbacks of all roles,
+//! and the tables of a peer and of a server's session bound to them.
 
 ghost use Rattle.std.specs.Prelude.{IfOk};
 ghost use Rattle.tab_step.specs.Bind.{IsBoundTo};
@@ -87,8 +88,8 @@ impl<'a> Roles<'a> {
         step_into(&self.peer, self.registry, machine, &event, room);
     }
 
-    /// One step of a session's machine by an event whose kind is its place among those of a server, written into room that the
-    /// caller keeps.
+    /// One step of a session's machine by an event whose kind is its place among those of a server,
+    /// written into room that the caller keeps.
     pub fn step_server(&self, machine: &MachineState, event: &Event, room: &mut Stepped) {
         let event = Event {
             kind: self.first_of_server.saturating_add(event.kind),

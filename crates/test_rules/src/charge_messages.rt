@@ -45,7 +45,8 @@ session origin target termination number-0 account-greatest 000001be400000180000
         0xc0,
         "0001000000010000",
         "\
-session origin target event number-0 account-0 000001b44000000c00000002 000001b540000018000001a5400000100000000000000050",
+session origin target event number-0 account-0 000001b44000000c00000002 \
+    000001b540000018000001a5400000100000000000000050",
     ),
     (
         "2=1 4=1 5=4 6=1",
@@ -53,8 +54,8 @@ session origin target event number-0 account-0 000001b44000000c00000002 000001b5
         "0001000000010000",
         "session origin target event number-0 account-0 000001b44000000c00000000",
     ),
-    // An INITIAL request of three services: 70 octets of Rating-Group 1, an empty slot, 9 used and nothing wanted without
-    // one; the fourth slot is behind them.
+    // An INITIAL request of three services: 70 octets of Rating-Group 1, an empty slot,
+    // 9 used and nothing wanted without one; the fourth slot is behind them.
     (
         "2=1 4=1 5=1 6=1 16=3 17=3 19=70 20=2 27=50 33=1 34=9 36=1 41=4 43=50",
         0xc0,
@@ -117,7 +118,8 @@ session success origin application initial number-0 000001c840000038 000001af400
 session success origin application update number-0 000001c840000020000001b04000000c000000010000010c4000000c00000fac \
 000001c840000034000001af40000014000001a44000000c0000000a 000001b04000000cffffffff0000010c4000000c000007d1",
     ),
-    // As many services as there are slots at most; group 1 has no Rating-Group, that of 2^32 + 3 is 1, and one slot is empty.
+    // As many services as there are slots at most; group 1 has no Rating-Group,
+    // that of 2^32 + 3 is 1, and one slot is empty.
     (
         "2=7 3=7 4=2 5=3 6=1 12=2001 16=9 17=1 21=2001 29=2001 33=4294967299 37=2001 41=2 45=4294969297",
         0x40,
@@ -227,8 +229,8 @@ fn deeds_send_requests_and_answers(rt: HostRuntime) -> Result<(), Fail> {
     Ok(())
 }
 
-/// Deeds, their sessions and octets: the answer to a request of 188 octets for 60 units, and that of a node without room for session
-/// f;4095.
+/// Deeds, their sessions and octets: the answer to a request of 188 octets for 60 units,
+/// and that of a node without room for session f;4095.
 const WHOLE: &[(&str, &[u8], &str)] = &[
     (
         "2=7 3=7 4=2 5=1 6=1 10=3 12=2001 13=60",

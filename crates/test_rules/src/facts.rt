@@ -14,8 +14,8 @@ const DEFAULT_UNITS: u64 = 500;
 
 const IDENTIFIERS: &str = "0000000700000008";
 
-/// CC-Request-Type, CC-Request-Number and other AVPs of a request, and its facts other than identifiers, class and type, as words
-/// `PLACE=NUMBER`.
+/// CC-Request-Type, CC-Request-Number and other AVPs of a request, and its facts other than identifiers,
+/// class and type, as words `PLACE=NUMBER`.
 type Request = (u64, &'static str, &'static str, &'static str);
 
 const REQUESTS: &[Request] = &[

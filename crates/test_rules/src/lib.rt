@@ -1,5 +1,5 @@
-//! The tests of the roles, over their public calls: callbacks, events and messages of peers, what messages of credit control say,
-//! and those that deeds send.
+//! The tests of the roles, over their public calls:
+//! callbacks, events and messages of peers, what messages of credit control say, and those that deeds send.
 #![tactic(auto)]
 
 #[cfg(test)]

@@ -6,17 +6,19 @@ use std::test::Fail;
 use tab_law::PLACES;
 
 /// Parts of messages. The names are Session-Id, Origin-Host, Origin-Realm, Destination-Realm, Auth-Application-Id and
-/// Service-Context-Id. Then Subscription-Ids: `subscriber` 100 and `seven` of type 0, `imsi` of type 1, one without data, and of type 0
-/// with the data x, 0100, 15 digits 9 and the digits 1234567890123456. Requested-Service-Units: 60 of CC-Service-Specific-Units, none,
-/// CC-Input-Octets alone, and 3 CC-Service-Specific-Units before 9 of CC-Time. Used-Service-Units: 5 seconds, 7 octets, as many octets
-/// as 64 bits hold, and none. Requested-Action CHECK_BALANCE, an AVP that is in no dictionary, without flag M, and
-/// Multiple-Services-Indicator 1. Services: 70 octets of Rating-Group 1, 50 of 2, of group 1 without an amount; 80 and 1 octets used and
-/// 10 wanted without a Rating-Group, 10 seconds used of the greatest one, and four services with Rating-Groups 0 to 3 alone.
-/// Of messages that deeds send: `origin` is Origin-Host s.example and Origin-Realm example, `target` Destination-Realm example,
-/// Auth-Application-Id 4 and Service-Context-Id dbench@example; CC-Request-Types and CC-Request-Numbers; Subscription-Ids of type 0 of the
+/// Service-Context-Id. Then Subscription-Ids: `subscriber` 100 and `seven` of type 0, `imsi` of type 1, one without
+/// data, and of type 0 with the data x, 0100, 15 digits 9 and the digits 1234567890123456. Requested-Service-Units: 60
+/// of CC-Service-Specific-Units, none, CC-Input-Octets alone, and 3 CC-Service-Specific-Units before 9 of CC-Time.
+/// Used-Service-Units: 5 seconds, 7 octets, as many octets as 64 bits hold, and none. Requested-Action CHECK_BALANCE,
+/// an AVP that is in no dictionary, without flag M, and Multiple-Services-Indicator 1. Services: 70 octets of
+/// Rating-Group 1, 50 of 2, of group 1 without an amount; 80 and 1 octets used and 10 wanted without a Rating-Group, 10
+/// seconds used of the greatest one, and four services with Rating-Groups 0 to 3 alone. Of messages that deeds send:
+/// `origin` is Origin-Host s.example and Origin-Realm example, `target` Destination-Realm example, Auth-Application-Id
+/// 4 and Service-Context-Id dbench@example; CC-Request-Types and CC-Request-Numbers; Subscription-Ids of type 0 of the
 /// accounts 100, 0 and 2^64 - 1; Result-Codes.
 const WORDS: &str = "\
-names 000001074000000c63313b310000010840000011632e6578616d706c65000000000001284000000f6578616d706c65000000011b4000000f6578616d706c6500000001024000000c00000004000001cd4000000b78407900
+names 000001074000000c63313b310000010840000011632e6578616d706c65000000000001284000000f6578616d706c65000000011b4000000f6\
+    578616d706c6500000001024000000c00000004000001cd4000000b78407900
 subscriber 000001bb40000020000001c24000000c00000000000001bc4000000b31303000
 seven 000001bb40000020000001c24000000c00000000000001bc4000000937000000
 imsi 000001bb40000020000001c24000000c00000001000001bc4000000937000000
@@ -39,9 +41,11 @@ indicator 000001c74000000c00000001
 seventy 000001c84000002c000001b540000018000001a5400000100000000000000046000001b04000000c00000001
 fifty 000001c84000002c000001b540000018000001a5400000100000000000000032000001b04000000c00000002
 any-amount 000001c84000001c000001b540000008000001b04000000c00000001
-eighty-one 000001c840000050000001be40000018000001a5400000100000000000000050000001be40000018000001a5400000100000000000000001000001b540000018000001a540000010000000000000000a
+eighty-one 000001c840000050000001be40000018000001a5400000100000000000000050000001be40000018000001a540000010000000000000\
+    0001000001b540000018000001a540000010000000000000000a
 greatest 000001c840000028000001b04000000cffffffff000001be40000014000001a44000000c0000000a
-four 000001c840000014000001b04000000c00000000000001c840000014000001b04000000c00000001000001c840000014000001b04000000c00000002000001c840000014000001b04000000c00000003
+four 000001c840000014000001b04000000c00000000000001c840000014000001b04000000c00000001000001c840000014000001b04000000c00\
+    000002000001c840000014000001b04000000c00000003
 session 000001074000000c63313b31
 origin 0000010840000011732e6578616d706c65000000000001284000000f6578616d706c6500
 target 0000011b4000000f6578616d706c6500000001024000000c00000004000001cd400000166462656e6368406578616d706c650000

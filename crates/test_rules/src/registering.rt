@@ -19,11 +19,12 @@ macro_rules! stored {
     }};
 }
 
-/// What is tried: how many kinds and actions were there, how many callbacks come, whether the first two are swapped, and how
-/// often the role is registered.
+/// What is tried: how many kinds and actions were there, how many callbacks come, whether the first two are swapped,
+/// and how often the role is registered.
 type Attempt = (u8, u8, usize, bool, u8);
 
-/// What the last call answers, how many kinds, guards and actions there are then, and the place of the role's first action.
+/// What the last call answers, how many kinds, guards and actions there are then,
+/// and the place of the role's first action.
 type Outcome = (
     Result<(), RegisterError>,
     (usize, usize, usize),
@@ -37,8 +38,8 @@ fn seen(registry: &Registry) -> ((usize, usize, usize), Option<usize>) {
     (sizes, book.acts().find(b"I-Snd-Conn-Req"))
 }
 
-/// The place of the law with which a callback is stored: its own, or that of the other of the first two. Behind the last law
-/// comes the first.
+/// The place of the law with which a callback is stored: its own, or that of the other of the first two.
+/// Behind the last law comes the first.
 fn place_of(place: usize, swapped: bool) -> usize {
     match place {
         0 if swapped => 1,

@@ -26,7 +26,8 @@ fn steps_go_forward_and_back(rt: HostRuntime) -> Result<(), Fail> {
     let script = b"join\nwork 0\n";
     let commands = "where\nstep\nwhere\nstep\nwhere\nstep\nback\nback\nwhere";
     let text =
-        "at 0 script 0 of 2\njoin\nat 1 script 1 of 2\nfault 8 1\nat 1 script 2 of 2\nend\nat 0\nfault 5\nat 0 script 0 of 2\n";
+        "at 0 script 0 of 2\njoin\nat 1 script 1 of 2\nfault 8 1\nat 1 script 2 of 2\nend\nat 0\nfault 5\n\
+            at 0 script 0 of 2\n";
     assert!(rt; replies(&rt, script, commands, text, Status::Done)?);
     Ok(())
 }
@@ -54,7 +55,8 @@ fn log_is_a_script(rt: HostRuntime) -> Result<(), Fail> {
     let log = session_log(rt.alloc())?;
     let commands = "break state s:c1;1 Open\ngo\nshow s:c1;1\ntotals 100\nback\nshow s:c1;1\n";
     let text =
-        "break 1\nstopped at 16 by 1\ns:c1;1 Open r0=100 r1=1 r2=2001 r3=60 r4=3 r8=1 r14=1 r15=1\ngiven 100 reserved 60 debited 0 unpaid 0\nat 15\nfault 3\n";
+        "break 1\nstopped at 16 by 1\ns:c1;1 Open r0=100 r1=1 r2=2001 r3=60 r4=3 r8=1 r14=1 r15=1\n\
+            given 100 reserved 60 debited 0 unpaid 0\nat 15\nfault 3\n";
     assert!(rt; replies(&rt, &log, commands, text, Status::Done)?);
     Ok(())
 }

@@ -1,10 +1,12 @@
 //! Scripts are run on two nodes that charge each other, and what is printed is compared.
+ghost use Rattle.std.specs.Prelude.{None};
 
 use base_device::{Counting, Status};
 use bench_setup::Setup;
-use cmd_bench::{Shown, run_nodes_on};
+use cmd_bench::{Shown, run_logged_on, run_nodes_on, run_on};
 use config_text::{RoleTables, config_of, read_config};
 use dia_dict::Dictionary;
+use node_logs::{FileError, FileSink};
 use role_tables::{CLIENT_TABLE, PEER_TABLE, SERVER_TABLE};
 use std::alloc::Global;
 use std::test::Fail;
@@ -171,5 +173,136 @@ fn first_node_that_is_not_opened_is_told(rt: HostRuntime) -> Result<(), Fail> {
     let text =
         "not opened: limits\n  wanted: 1 to 16 shards, 1 to 8 pages, at most 16 desks and 64 peers\n";
     assert!(rt; status == Status::Refused && sink.device.as_slice() == text.as_bytes());
+    Ok(())
+}
+
+/// Files that are kept, so many at most.
+#[derive(Drop)]
+struct Kept {
+    names: Vec<Vec<u8>>,
+    texts: Vec<Vec<u8>>,
+    room: usize,
+}
+
+impl Kept {
+    fn new(alloc: Global, room: usize) -> Kept {
+        Kept {
+            names: Vec::new(alloc),
+            texts: Vec::new(alloc),
+            room,
+        }
+    }
+
+    /// The text of the file of this name that was written last.
+    fn text(&self, name: &str) -> Option<&[u8]> {
+        let mut found = None;
+        for (other, text) in self.names.iter().zip(self.texts.iter()) {
+            if other.as_slice() == name.as_bytes() {
+                found = Some(text.as_slice());
+            }
+        }
+        found
+    }
+}
+
+impl FileSink for Kept {
+    ghost files = { λ _. None };
+
+    fn put(&mut self, alloc: Global, name: &[u8], octets: &[u8]) -> Result<(), FileError> {
+        if self.names.len() >= self.room {
+            return Err(FileError::Failed);
+        }
+        match (Vec::from_slice(alloc, name), Vec::from_slice(alloc, octets)) {
+            (Ok(name), Ok(text)) => {
+                if self.names.push(name).is_err() || self.texts.push(text).is_err() {
+                    return Err(FileError::NoMemory);
+                }
+                Ok(())
+            }
+            _ => Err(FileError::NoMemory),
+        }
+    }
+}
+
+const STEPS: Shown = Shown {
+    steps: true,
+    lines: false,
+    totals: false,
+};
+
+/// Whether a log, run on the bench of the node of a place, prints itself.
+fn prints_itself(alloc: Global, place: usize, log: &[u8]) -> Result<bool, Fail> {
+    for (at, setup) in setups(alloc, PAIR)?.into_iter().enumerate() {
+        if at == place {
+            let mut sink = Counting::new(Vec::new(alloc));
+            let status = run_on(alloc, setup.bench, log, STEPS, &mut sink);
+            return Ok(status == Status::Done && sink.device.as_slice() == log);
+        }
+    }
+    Ok(false)
+}
+
+#[test]
+fn log_of_each_node_is_a_script(rt: HostRuntime) -> Result<(), Fail> {
+    let alloc = rt.alloc();
+    let mut sink = Counting::new(Vec::new(alloc));
+    let mut files = Kept::new(alloc, 2);
+    let status = run_logged_on(
+        alloc,
+        50,
+        setups(alloc, PAIR)?,
+        SESSION.as_bytes(),
+        TOTALS,
+        &mut sink,
+        &mut files,
+    );
+    assert!(rt; status == Status::Done && files.names.len() == 2);
+    let text = b"s.example account 100 given 100 reserved 0 debited 85 unpaid 0\n";
+    assert!(rt; sink.device.as_slice() == text.as_slice());
+    for (place, name) in ["s.example.log", "c.example.log"].into_iter().enumerate() {
+        let Some(log) = files.text(name) else {
+            return Err(Fail::new("a log"));
+        };
+        assert!(rt; log.len() > 500 && prints_itself(alloc, place, log)?);
+    }
+    Ok(())
+}
+
+#[test]
+fn log_that_cannot_be_written_is_told(rt: HostRuntime) -> Result<(), Fail> {
+    let alloc = rt.alloc();
+    for (room, name) in [(0, "c.example.log"), (1, "s.example.log")] {
+        let mut sink = Counting::new(Vec::new(alloc));
+        let mut files = Kept::new(alloc, room);
+        let status = run_logged_on(
+            alloc,
+            50,
+            setups(alloc, PAIR)?,
+            UNHEARD.as_bytes(),
+            ALL,
+            &mut sink,
+            &mut files,
+        );
+        let text = format!(in alloc; "write fault: {name} can't be written\n")?;
+        assert!(rt; status == Status::Fault && sink.device.as_slice() == text.as_bytes());
+    }
+    Ok(())
+}
+
+#[test]
+fn refused_run_writes_no_log(rt: HostRuntime) -> Result<(), Fail> {
+    let alloc = rt.alloc();
+    let mut sink = Counting::new(Vec::new(alloc));
+    let mut files = Kept::new(alloc, 2);
+    let status = run_logged_on(
+        alloc,
+        50,
+        setups(alloc, PAIR)?,
+        b"settle now\n",
+        ALL,
+        &mut sink,
+        &mut files,
+    );
+    assert!(rt; status == Status::Refused && files.names.is_empty());
     Ok(())
 }

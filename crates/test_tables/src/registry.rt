@@ -32,7 +32,8 @@ fn refuses_kinds(registry: &mut Registry) -> bool {
         && registry.laws().kinds().len() == MAX_KINDS
 }
 
-/// The numbers of the guards, or of the actions, that are refused: the last whose name is taken, and the last without room.
+/// The numbers of the guards, or of the actions, that are refused:
+/// the last whose name is taken, and the last without room.
 type Refusals = (u8, u8);
 
 /// The refusals with one more.

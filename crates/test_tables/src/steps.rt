@@ -18,11 +18,13 @@ use tab_text::parse;
 
 /// A client that waits for its answer.
 const CLIENT: &str =
-    "  State  Event                        Action         Next\n  Wait   CCA-I when mine and success  Grant-Service  Done\n  Wait   CCA-I                        End-Service    Wait\n";
+    "  State  Event                        Action         Next\n  Wait   CCA-I when mine and success  Grant-Service  \
+        Done\n  Wait   CCA-I                        End-Service    Wait\n";
 
 /// A row with as many guards and actions as a row may have.
 const BUSY: &str =
-    "  State  Event                        Action                                          Next\n  Wait   Go when a and b and c and d  Four, Four, Four, Four, Four, Four, Four, Four  Done\n";
+    "  State  Event                        Action                                          Next\n  Wait   Go when a \
+        and b and c and d  Four, Four, Four, Four, Four, Four, Four, Four  Done\n";
 
 /// The numbers of the facts of an answer's request number, and of its Result-Code.
 const NUMBER: u8 = session_fact::REQUEST_NUMBER as u8;

@@ -7,7 +7,9 @@ use tab_text::{ParseError, TextCode, TextFault, parse};
 
 /// A row on three lines, with a comment and a blank line between, and a row on one line behind it.
 const JOINED: &[u8] =
-    b"  State           Event           Action      Next\n  Wait-Conn-Ack/  I-Rcv-Conn-Ack  I-Snd-CER,  Wait-\n# between\n+ Elect           when mine       Elect       Returns\n\n+                 and late        , Stop\n                  Timeout         Error       Closed\n";
+    b"  State           Event           Action      Next\n  Wait-Conn-Ack/  I-Rcv-Conn-Ack  I-Snd-CER,  Wait-\n\
+        # between\n+ Elect           when mine       Elect       Returns\n\n\
+        +                 and late        , Stop\n                  Timeout         Error       Closed\n";
 
 #[test]
 fn state_and_next_join_with_nothing_between(rt: HostRuntime) -> Result<(), Fail> {
@@ -72,7 +74,8 @@ const GOOD: [&[u8]; 5] = [
     b"  State Event Action Next\n  A     b     -      C\n+",
     b"  State Event Action Next\n  A     b     -      C\n+ \n+       when\n# +x\n+       g\n",
     b"  State Event Action Next\n  A     b     p      C\n+             ,q,\n+             r\n",
-    b"  State Event Action Next\n  A     b     -      abcdefghijklmnopqrst\n+                    abcdefghijklmnopqrst\n",
+    b"  State Event Action Next\n  A     b     -      abcdefghijklmnopqrst\n\
+        +                    abcdefghijklmnopqrst\n",
 ];
 
 /// Texts with such lines, and the line and the code of the first fault.
@@ -131,7 +134,8 @@ const FAULTY: [(&[u8], usize, TextCode); 14] = [
         TextCode::BadName,
     ),
     (
-        b"  State Event Action Next\n  A     b     -      abcdefghijklmnopqrst\n+                    abcdefghijklmnopqrstu\n",
+        b"  State Event Action Next\n  A     b     -      abcdefghijklmnopqrst\n\
+            +                    abcdefghijklmnopqrstu\n",
         2,
         TextCode::BadName,
     ),

@@ -7,11 +7,13 @@ use tab_text::{NameList, Row, Table, parse};
 
 /// A client that waits for its answer, as it is printed.
 const EXAMPLE: &[u8] =
-    b"  State  Event                        Action         Next\n  Wait   CCA-I when mine and success  Grant-Service  Done\n  Wait   CCA-I                        End-Service    Wait\n";
+    b"  State  Event                        Action         Next\n  Wait   CCA-I when mine and success  Grant-Service  \
+        Done\n  Wait   CCA-I                        End-Service    Wait\n";
 
 /// Comments, an empty State cell, no action, and several.
 const LOOSE: &[u8] =
-    b"\n# a comment\n  State Event Action  Next\n   \n  A     x     -       Behind-1/_\n# + \n\n        y     p ,  q  A";
+    b"\n# a comment\n  State Event Action  Next\n   \n  A     x     -       Behind-1/_\n# + \n\
+        \n        y     p ,  q  A";
 
 /// The same, printed: the heading is the longest cell of three columns.
 const TIDY: &[u8] =

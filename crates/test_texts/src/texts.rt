@@ -11,7 +11,8 @@ use tab_text::{
 
 /// A client that waits for its answer.
 const EXAMPLE: &[u8] =
-    b"  State  Event                        Action         Next\n  Wait   CCA-I when mine and success  Grant-Service  Done\n  Wait   CCA-I                        End-Service    Wait\n";
+    b"  State  Event                        Action         Next\n  Wait   CCA-I when mine and success  Grant-Service  \
+        Done\n  Wait   CCA-I                        End-Service    Wait\n";
 
 /// Comments, blank lines and an empty State cell.
 const LOOSE: &[u8] =
@@ -182,27 +183,33 @@ const BAD: Option<TextFault> = Some(TextFault {
 /// Rows with many guards or many actions, and what is wrong with each.
 const MANY: [(&[u8], Option<TextFault>); 6] = [
     (
-        b"  State Event                               Action              Next\n  A     b when c and d and e and f          -                   C",
+        b"  State Event                               Action              Next\n  A     b when c and d and e and \
+            f          -                   C",
         None,
     ),
     (
-        b"  State Event                               Action              Next\n  A     b when c and d and e and f and g    -                   C",
+        b"  State Event                               Action              Next\n  A     b when c and d and e and f and \
+            g    -                   C",
         OVER,
     ),
     (
-        b"  State Event                               Action              Next\n  A     b when c and d and e and f and 7    -                   C",
+        b"  State Event                               Action              Next\n  A     b when c and d and e and f and \
+            7    -                   C",
         BAD,
     ),
     (
-        b"  State Event                               Action              Next\n  A     b                                   a,b,c,d,e,f,g,h     C",
+        b"  State Event                               Action              Next\n  A     \
+            b                                   a,b,c,d,e,f,g,h     C",
         None,
     ),
     (
-        b"  State Event                               Action              Next\n  A     b                                   a,b,c,d,e,f,g,h,i   C",
+        b"  State Event                               Action              Next\n  A     \
+            b                                   a,b,c,d,e,f,g,h,i   C",
         OVER,
     ),
     (
-        b"  State Event                               Action              Next\n  A     b                                   a,b,c,d,e,f,g,h,i,  C",
+        b"  State Event                               Action              Next\n  A     \
+            b                                   a,b,c,d,e,f,g,h,i,  C",
         BAD,
     ),
 ];
@@ -357,7 +364,8 @@ const MESSAGES: [(TextCode, u8, &str); 9] = [
     (
         TextCode::BadName,
         5,
-        "line 7: wanted names of at most 40 bytes, a letter and then letters, digits, - / or _, an Event as `Kind` or `Kind when guard and guard`, and an Action as `-` or names with commas between",
+        "line 7: wanted names of at most 40 bytes, a letter and then letters, digits, - / or _, \
+            an Event as `Kind` or `Kind when guard and guard`, and an Action as `-` or names with commas between",
     ),
     (
         TextCode::TooManyRows,

@@ -1,4 +1,5 @@
-//! The logs of whole transcripts, run again: on benches that were opened alike, and on the benches themselves, back at their start.
+//! The logs of whole transcripts, run again: on benches that were opened alike,
+//! and on the benches themselves, back at their start.
 
 use crate::replay::is_added;
 use bench_item::Entry;
@@ -31,7 +32,8 @@ fn is_same(one: &Seen, other: &Seen) -> bool {
     one.shown.as_slice() == other.shown.as_slice() && one.log.as_slice() == other.log.as_slice()
 }
 
-/// Adds the log of a bench to one that was opened alike: whether each entry may follow there, and both show the same then.
+/// Adds the log of a bench to one that was opened alike:
+/// whether each entry may follow there, and both show the same then.
 fn is_run_again<B: TakesSteps>(alloc: Global, from: &B, to: &mut B) -> Result<bool, AllocError> {
     let mut all = true;
     for place in 0..from.core().place() {
@@ -51,7 +53,8 @@ fn entries_of<B: TakesSteps>(alloc: Global, world: &B) -> Result<Vec<Entry>, All
     Ok(entries)
 }
 
-/// Back to the start, where the bench shows what it showed there, and forward by its entries: whether it shows the same then.
+/// Back to the start, where the bench shows what it showed there, and forward by its entries:
+/// whether it shows the same then.
 fn is_retraced<B: TakesSteps>(
     alloc: Global,
     world: &mut B,
@@ -85,8 +88,8 @@ fn runs_last_again<B: TakesSteps + Drop>(
     Ok(is_run_again(play.alloc, world, &mut fresh)? && is_retraced(play.alloc, world, &start)?)
 }
 
-/// Runs the log of each bench that was played again: of as many, behind which as many stand that were opened alike. No callback may be
-/// asked. What goes wrong is put.
+/// Runs the log of each bench that was played again: of as many, behind which as many stand that were opened alike.
+/// No callback may be asked. What goes wrong is put.
 pub fn run_alike<B: TakesSteps + Drop>(
     play: &mut Play<'_, B>,
     report: &mut Vec<u8>,

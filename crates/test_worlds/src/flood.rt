@@ -9,7 +9,8 @@ use std::alloc::{AllocError, Global};
 /// The most machines of a shard; one is the peer's.
 const MACHINES: u32 = 4_096;
 
-/// The header of a message of so many octets below 256, with these flags, command 272, Application-Id 4 and both identifiers 7.
+/// The header of a message of so many octets below 256, with these flags, command 272,
+/// Application-Id 4 and both identifiers 7.
 fn header(flags: u8, length: usize) -> [u8; 20] {
     let length = length.min(255) as u8;
     [
@@ -82,7 +83,8 @@ fn wrong_session<B: TakesSteps + Drop>(
     Ok(None)
 }
 
-/// A request for no units by each of 4,096 sessions, the last of which finds no room; its octets come, and nothing of it is handled yet.
+/// A request for no units by each of 4,096 sessions, the last of which finds no room;
+/// its octets come, and nothing of it is handled yet.
 pub fn flood<B: TakesSteps + Drop>(play: &mut Play<'_, B>) -> Result<(), AllocError> {
     let alloc = play.alloc;
     let asked = joined(alloc, play.list, "others context initial subscriber")?;

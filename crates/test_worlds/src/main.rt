@@ -9,8 +9,9 @@
 //! | `memory` | steps that are refused for memory |
 //! | `alike` | the logs of whole transcripts, run again |
 //!
-//! A word is the path of a transcript. Before it may stand `refusing:`, then steps that are refused are tried before each step; or `again:`,
-//! then each node is opened twice, and in the end the log of each bench is run again on its twin, and on itself from its start.
+//! A word is the path of a transcript. Before it may stand `refusing:`, then steps that are refused are tried before
+//! each step; or `again:`, then each node is opened twice, and in the end the log of each bench is run again on its
+//! twin, and on itself from its start.
 #![tactic(auto)]
 
 mod alike;
@@ -147,7 +148,8 @@ fn tries<B: TakesSteps + Drop>(
     Ok(())
 }
 
-/// Opens the benches of a transcript, each with the next of as many registries as there are shards, and plays it. Answers what goes wrong.
+/// Opens the benches of a transcript, each with the next of as many registries as there are shards,
+/// and plays it. Answers what goes wrong.
 fn tried(
     alloc: Global,
     laws: &LawBook,

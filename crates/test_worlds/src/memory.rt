@@ -1,7 +1,7 @@
 //! Steps that are refused for memory: nothing changes, and they are taken when they are tried again.
 //!
-//! Where memory is there nothing is put. `tools/memory` refuses each allocation of a run in turn: what a step that was refused for it
-//! leaves is compared with a twin, and the step is tried again.
+//! Where memory is there nothing is put. `tools/memory` refuses each allocation of a run in turn:
+//! what a step that was refused for it leaves is compared with a twin, and the step is tried again.
 
 use crate::transcript::is_played;
 use bench_item::{Step, StepFault};
@@ -41,8 +41,8 @@ fn told_of(same: bool, again: u8) -> &'static str {
     }
 }
 
-/// Takes the step of a line, again if it was refused for memory. The twin stands where the world stood before. What is told of that; nothing
-/// where there was memory.
+/// Takes the step of a line, again if it was refused for memory. The twin stands where the world stood before.
+/// What is told of that; nothing where there was memory.
 fn tries<B: TakesSteps>(
     alloc: Global,
     list: &str,
@@ -90,7 +90,8 @@ fn are_tried<B: TakesSteps>(
     Ok(same && shown.as_slice() == wanted.as_slice())
 }
 
-/// Takes the steps of all lines in two worlds of one node, the last two. What goes wrong is put, and what was refused for memory.
+/// Takes the steps of all lines in two worlds of one node, the last two.
+/// What goes wrong is put, and what was refused for memory.
 pub fn take_in_lockstep<B: TakesSteps + Drop>(
     play: &mut Play<'_, B>,
     lines: &str,

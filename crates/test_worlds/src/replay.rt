@@ -1,4 +1,5 @@
-//! A log that is run again: each entry is added as it is, no callback is asked, and an entry that is wrong in one value is refused.
+//! A log that is run again: each entry is added as it is, no callback is asked,
+//! and an entry that is wrong in one value is refused.
 
 use bench_core::{Core, ReplayError};
 use bench_item::{Entry, Handled, Item, Moved, Series, Step};
@@ -143,7 +144,8 @@ fn replays<B: TakesSteps>(
     Ok(())
 }
 
-/// Runs the steps of a bench in another, with one that is refused behind them: whether all before it are taken, and the same is shown.
+/// Runs the steps of a bench in another, with one that is refused behind them:
+/// whether all before it are taken, and the same is shown.
 fn is_run<B: TakesSteps>(alloc: Global, from: &Core, to: &mut B) -> Result<bool, AllocError> {
     let mut steps = Vec::new(alloc);
     for place in 0..from.place() {
@@ -163,7 +165,8 @@ fn is_run<B: TakesSteps>(alloc: Global, from: &Core, to: &mut B) -> Result<bool,
     Ok(is_none_run && is_stopped && is_same)
 }
 
-/// Whether the last three entries, of which the first is a shard's work, are taken back and added again while the shard is paused.
+/// Whether the last three entries, of which the first is a shard's work,
+/// are taken back and added again while the shard is paused.
 fn is_added_while_paused<B: TakesSteps>(
     alloc: Global,
     from: &Core,
@@ -178,8 +181,8 @@ fn is_added_while_paused<B: TakesSteps>(
     Ok(all && is_work && to.core().place() == first.saturating_add(3))
 }
 
-/// Runs the log of the first bench again in the second, entry by entry, without a callback that is asked, and then its last three entries
-/// while a shard of that is paused. What goes wrong is put.
+/// Runs the log of the first bench again in the second, entry by entry, without a callback that is asked, and then its
+/// last three entries while a shard of that is paused. What goes wrong is put.
 fn replays_in<B: TakesSteps + Drop>(
     play: &mut Play<'_, B>,
     other: &mut B,

@@ -1,12 +1,13 @@
-//! Transcripts: lines for `bench_play`, and below each, behind `=`, what it prints. Two more lines do what a program has to:
+//! Transcripts: lines for `bench_play`, and below each, behind `=`, what it prints.
+//! Two more lines do what a program has to:
 //!
 //! | Line | What it does or prints |
 //! |---|---|
 //! | `flood` | a request for no units by each of 4,096 sessions, of which the first 4,095 are answered |
-//! | `again` | the log is run again in a second bench, each entry made wrong in many ways before, and its steps in a third: what goes wrong |
+//! | `again` | the log runs in a second bench, each entry made wrong before, its steps in a third: what goes wrong |
 //!
-//! Lines that begin with `#`, lines of nodes and empty ones are passed over. The lines between `each A B` and `end` are played for each number
-//! from A to B, which stands for `%`.
+//! Lines that begin with `#`, lines of nodes and empty ones are passed over.
+//! The lines between `each A B` and `end` are played for each number from A to B, which stands for `%`.
 
 use crate::flood::flood;
 use crate::replay::run_again;

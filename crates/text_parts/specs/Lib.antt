@@ -1,3 +1,4 @@
+-- The definitions that the contracts of text_parts speak of.
 pub mod Fronts
 pub mod Words
 pub mod Pieces

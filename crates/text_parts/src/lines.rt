@@ -45,7 +45,8 @@ impl<'a> Lines<'a> {
 
     /// The next line.
     pub fn next(&mut self) -> Option<TextLine<'a>>
-        ensures { MatchOption result (lines_left self.old ≡ []) (λ line. lines_left self.old ≡ line_of line ∷ lines_left self.new) }
+        ensures { MatchOption result (lines_left self.old ≡ []) (λ line. lines_left self.old
+            ≡ line_of line ∷ lines_left self.new) }
     {
         let octets = self.pieces.next()?;
         self.number += 1;
@@ -57,7 +58,8 @@ impl<'a> Lines<'a> {
 
     /// The next line that isn't skipped, where it continues the row before it; of its bytes no other is looked at.
     pub fn next_more(&mut self) -> Option<TextLine<'a>>
-        ensures { MatchOption result (lines_more self.old ≡ []) (λ line. lines_more self.old ≡ line_of line ∷ lines_more self.new) }
+        ensures { MatchOption result (lines_more self.old ≡ []) (λ line. lines_more self.old
+            ≡ line_of line ∷ lines_more self.new) }
     {
         while let Some(line) = self.next() {
             if !is_skipped(line.octets) {

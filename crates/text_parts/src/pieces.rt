@@ -37,7 +37,8 @@ impl<'a> Pieces<'a> {
 
     /// The next piece.
     pub fn next(&mut self) -> Option<&'a [u8]>
-        ensures piece { MatchOption result (pieces_left self.old ≡ []) (λ piece. IsFirstPiece self.old piece.now self.new) }
+        ensures piece { MatchOption result (pieces_left self.old ≡ [])
+            (λ piece. IsFirstPiece self.old piece.now self.new) }
         ensures none { IfNone result (self.new.from ≡ self.old.from) }
         ensures fits { self.new.from < 2 ^ 64 }
     {
@@ -87,7 +88,8 @@ impl<'a> Words<'a> {
 
     /// The next word.
     pub fn next(&mut self) -> Option<Found<'a>>
-        ensures { MatchOption result (words_left self.old ≡ []) (λ found. words_left self.old ≡ word_of found ∷ words_left self.new) }
+        ensures { MatchOption result (words_left self.old ≡ []) (λ found. words_left self.old
+            ≡ word_of found ∷ words_left self.new) }
     {
         loop {
             let at = self.pieces.from;

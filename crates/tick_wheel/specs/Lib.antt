@@ -1,2 +1,3 @@
+-- The definitions that the contracts of tick_wheel speak of.
 pub mod Places
 pub mod Timers

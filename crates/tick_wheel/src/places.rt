@@ -2,7 +2,8 @@
 ghost use Rattle.std.specs.Prelude.{◌≡◌, ◌≢◌, [], IfOk, OnErr, nat_eq, true, length, IsPermutation, AllPairs};
 ghost use Rattle.std.specs.Map.{set_value};
 ghost use Rattle.indexmap.specs.IndexMap.{IsUnique};
-ghost use Rattle.tick_wheel.specs.Places.{bound_with, firing_of, firings_of, later_due, next_due, places_at, left_at, NotAfter};
+ghost use Rattle.tick_wheel.specs.Places.{bound_with, firing_of, firings_of, later_due, next_due};
+ghost use Rattle.tick_wheel.specs.Places.{places_at, left_at, NotAfter};
 ghost use Rattle.tick_wheel.specs.Timers.{is_due};
 
 use crate::{Armed, Firing};

@@ -2,7 +2,8 @@
 ghost use Rattle.std.specs.Prelude.{◌≡◌, ℕ, List, ◌≤◌, IsTrue, IsSome, OnOk, OnErr, IfOk, max, Option, length};
 ghost use Rattle.std.specs.FinMap as map;
 ghost use Rattle.std.specs.FinSet as set;
-ghost use Rattle.tick_wheel.specs.Timers.{at_start, after_arm, after_advance, with_timer_of, reached, IsDueFiring, AreFired, AreAlike, Timers};
+ghost use Rattle.tick_wheel.specs.Timers.{at_start, after_arm, after_advance, with_timer_of, reached, IsDueFiring};
+ghost use Rattle.tick_wheel.specs.Timers.{AreFired, AreAlike, Timers};
 ghost use Rattle.tick_wheel.specs.declared.timer.Armed.{Armed};
 ghost use Rattle.tick_wheel.specs.declared.timer.Firing.{Firing};
 
@@ -12,12 +13,12 @@ use indexmap::IndexMap;
 use std::alloc::{AllocError, Global};
 use std::marker::Model;
 
-/// Timers of owners, at most one for each, over a clock that is handed in. An owner is a number, as that of a machine. Moments and
-/// lengths are in ticks; what a tick is, the caller says (RFC 8506 section 13 gives its timers in seconds).
+/// Timers of owners, at most one for each, over a clock that is handed in. An owner is a number, as that of a machine.
+/// Moments and lengths are in ticks; what a tick is, the caller says (RFC 8506 section 13 gives its timers in seconds).
 ///
-/// An owner that was armed once keeps a place for good, so that to disarm, to fire or to restore a timer takes no memory.
-/// `arm`, `disarm`, `restore` and `armed` go by a hash of the owner. `advance` costs nothing until some timer may be due, and
-/// then looks at every place.
+/// An owner that was armed once keeps a place for good, so that to disarm, to fire or to restore a timer takes no
+/// memory. `arm`, `disarm`, `restore` and `armed` go by a hash of the owner. `advance` costs nothing until some timer
+/// may be due, and then looks at every place.
 #[derive(Drop)]
 pub struct Wheel {
     moment: u64,
@@ -37,7 +38,11 @@ impl Model for Wheel {
 
     ghost coded = { timers_code };
 
-    ghost view = { λ w. record { moment = w.moment; armed = armed_of w.places.entries; places = from_list (keys_of w.places.entries) } };
+    ghost view = { λ w. record {
+      moment = w.moment;
+      armed = armed_of w.places.entries;
+      places = from_list (keys_of w.places.entries);
+    } };
 
     ghost invariant = { λ w. NoneDueBefore w.earliest (armed_of w.places.entries) };
 }
@@ -79,8 +84,8 @@ impl Wheel {
         self.places.contains_key(&owner)
     }
 
-    /// Arms the owner's timer in the place of the one it had. It is due so many ticks after the last moment, and at 2^64 - 1 if
-    /// that is earlier.
+    /// Arms the owner's timer in the place of the one it had.
+    /// It is due so many ticks after the last moment, and at 2^64 - 1 if that is earlier.
     pub fn arm(&mut self, owner: u64, generation: u64, ticks: u64) -> Result<(), AllocError>
         ensures ok { OnOk result (self.new ≡ after_arm self.old owner generation ticks) }
 
@@ -102,8 +107,8 @@ impl Wheel {
         put(&mut self.places, owner, None);
     }
 
-    /// Gives the owner the timer that it had, or none, as `armed` told it. Takes no memory. An `arm` or `disarm` is undone by it: the
-    /// moment and the armed timers are as before, and the owner keeps its place.
+    /// Gives the owner the timer that it had, or none, as `armed` told it. Takes no memory. An `arm` or `disarm` is
+    /// undone by it: the moment and the armed timers are as before, and the owner keeps its place.
     pub fn restore(&mut self, owner: u64, old: Option<Armed>)
         requires { IsTrue (set.contains self.old.places owner) }
         ensures restored { self.new ≡ with_timer_of self.old owner old }
@@ -116,9 +121,11 @@ impl Wheel {
         put(&mut self.places, owner, old);
     }
 
-    /// How many timers `advance` would fire at a moment, so that a caller can make room for them first. Takes no memory.
+    /// How many timers `advance` would fire at a moment,
+    /// so that a caller can make room for them first. Takes no memory.
     pub fn due_at(&self, moment: u64) -> usize
-        ensures { (fired : List Firing) → AreFired self.now.armed (reached self.now moment) fired → result ≡ length fired }
+        ensures { (fired : List Firing) → AreFired self.now.armed (reached self.now moment) fired
+            → result ≡ length fired }
     {
         let reached = moment.max(self.moment);
         if self.earliest > reached {
@@ -127,8 +134,8 @@ impl Wheel {
         count_due(&self.places, reached)
     }
 
-    /// Takes the clock to a moment, and disarms the timers that are due and answers them, by due moment and then owner. A moment
-    /// below the last one counts as the last one.
+    /// Takes the clock to a moment, and disarms the timers that are due and answers them, by due moment and then owner.
+    /// A moment below the last one counts as the last one.
     pub fn advance(&mut self, moment: u64) -> Result<Vec<Firing>, AllocError>
         ensures ok { OnOk result (self.new ≡ after_advance self.old (reached self.old moment)) }
         ensures fired { IfOk result (λ fired. AreFired self.old.armed (reached self.old moment) fired.items) }

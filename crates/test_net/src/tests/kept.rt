@@ -9,8 +9,8 @@ static SEVENS: [u8; 600] = [7; 600];
 
 const TEXT: &[u8] = b"0123456789abcdefghijklmnopqrstuvwxyz";
 
-/// Whether a port that takes two pieces of 10 octets keeps the third in the pipe, sends back what it heard all the same, and gets the
-/// third first once there is room.
+/// Whether a port that takes two pieces of 10 octets keeps the third in the pipe,
+/// sends back what it heard all the same, and gets the third first once there is room.
 fn keeps_a_piece() -> bool {
     let mut board = Board::new(2);
     let mut pipe = Pipe::new();

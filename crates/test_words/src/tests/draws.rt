@@ -37,7 +37,8 @@ fn a_text_is_drawn_or_its_first_fault_told(rt: HostRuntime) {
         ),
         (
             "  State  Event  Action  Next\n  A      x      -\n",
-            "line 2 fault 3\n  wanted: a row with an Event, an Action (- for none) and a Next, the first one with a State too\n  wrong: A      x      -\n",
+            "line 2 fault 3\n  wanted: a row with an Event, an Action (- for none) and a Next, \
+                the first one with a State too\n  wrong: A      x      -\n",
             Status::Refused,
         ),
     ] {

@@ -69,7 +69,8 @@ guards
   all: f6 = r1 and f12 <> 5030 and r1 < f0 and f13 >= r9 and f12 in 4010, 5030
   none: always
 actions
-  Do: r2 := r2 + 1; r3 := 1 to f13; Reserve(r2 after, f8 - 1, least of r3 and 18446744073709551615); 99() unless r17 after is 0
+  Do: r2 := r2 + 1; r3 := 1 to f13; Reserve(r2 after, f8 - 1, least of r3 and 18446744073709551615); \
+    99() unless r17 after is 0
   Nothing: nothing
 ";
 

@@ -7,7 +7,7 @@ use tab_law::{
     ActLaw, Acted, Atom, Change, Field, GuardLaw, LawBook, Scene, Term, Terms, Test, high_into,
     holds,
 };
-use tab_walk::{Manner, walk_on};
+use tab_walk::{WalkOptions, walk_on};
 
 const TABLE: &str = "  State  Event                        Action         Next
   Wait   CCA-I when mine and success  Grant-Service  Done
@@ -48,7 +48,7 @@ fn client_book(alloc: Global) -> Result<LawBook, Fail> {
 fn walks(
     alloc: Global,
     registry: &Registry,
-    manner: Manner<'_>,
+    options: WalkOptions<'_>,
     table: &str,
     events: &str,
     printed: &str,
@@ -59,7 +59,7 @@ fn walks(
         alloc,
         table.as_bytes(),
         registry,
-        manner,
+        options,
         events.as_bytes(),
         &mut sink,
     );
@@ -82,7 +82,8 @@ CCA-I Wait Done row 0
 /// A deed whose last argument is the last of 64.
 const TO_THE_LAST: &str = "\
 Tx Wait Wait row -
-  Unlisted 0 0 0 0 0 0 0 0 0 0 0 0 0 0 0 0 0 0 0 0 0 0 0 0 0 0 0 0 0 0 0 0 0 0 0 0 0 0 0 0 0 0 0 0 0 0 0 0 0 0 0 0 0 0 0 0 0 0 0 0 0 0 0 5
+  Unlisted 0 0 0 0 0 0 0 0 0 0 0 0 0 0 0 0 0 0 0 0 0 0 0 0 0 0 0 0 0 0 0 0 0 0 0 0 0 0 0 0 0 0 0 0 0 0 0 0 0 0 0 0 0 0 \
+    0 0 0 0 0 0 0 0 0 5
 ";
 
 /// The table's image, of format 1.
@@ -157,7 +158,8 @@ const WALKS: &[(&str, &str, &str, Status)] = &[
     (
         LONG,
         "",
-        "unbound abcdefghijabcdefghijabcdefghijabcdefghij\n  in: row 0, line 2\n  wanted: a kind, a guard or an action that is registered\n",
+        "unbound abcdefghijabcdefghijabcdefghijabcdefghij\n  in: row 0, line 2\n  wanted: a kind, \
+            a guard or an action that is registered\n",
         Status::Refused,
     ),
     (TABLE, "CCA-I 12=2001\nCCA-U\n", BAD_KIND, Status::Refused),
@@ -191,7 +193,7 @@ const WALKS: &[(&str, &str, &str, Status)] = &[
 ];
 
 /// A walk from the start, that doesn't say why.
-const PLAIN: Manner<'static> = Manner {
+const PLAIN: WalkOptions<'static> = WalkOptions {
     why: false,
     from: None,
 };
@@ -245,8 +247,8 @@ fn says_why(
         Some(text) => Some(text.as_bytes()),
         None => None,
     };
-    let manner = Manner { why: true, from };
-    walks(alloc, registry, manner, TABLE, events, printed, wanted)
+    let options = WalkOptions { why: true, from };
+    walks(alloc, registry, options, TABLE, events, printed, wanted)
 }
 
 #[test]

@@ -68,6 +68,16 @@ fn words_ask_for_a_text_or_an_input_or_are_refused(rt: HostRuntime) -> Result<()
             "wanted one of: a CONFIG, --sample",
         ),
         (
+            ["dbench", "run", "--nodes", "--log", "out", "no/such.json"].as_slice(),
+            2,
+            "--log wants files that can be written\n",
+        ),
+        (
+            ["dbench", "run", "--log", "out", "no/such.json"].as_slice(),
+            2,
+            "wanted one of: a CONFIG, --sample",
+        ),
+        (
             ["dbench", "run", "--cut", "50", "no/such.json"].as_slice(),
             2,
             "wanted one of: a CONFIG, --sample",
@@ -92,7 +102,8 @@ fn words_ask_for_a_text_or_an_input_or_are_refused(rt: HostRuntime) -> Result<()
         (
             ["dbench", "read", "--explain"].as_slice(),
             1,
-            "bad hex at character 0: each octet wants two hexadecimal digits, and between digits only blanks may stand\n",
+            "bad hex at character 0: each octet wants two hexadecimal digits, \
+                and between digits only blanks may stand\n",
         ),
         (
             ["dbench", "read", "no/such.hex", "--explain"].as_slice(),
@@ -112,7 +123,8 @@ fn words_ask_for_a_text_or_an_input_or_are_refused(rt: HostRuntime) -> Result<()
         (
             ["dbench", "read", "--json"].as_slice(),
             1,
-            "{\"stop\":\"bad hex\",\"character\":0,\"reason\":\"each octet wants two hexadecimal digits, and between digits only blanks may stand\"}\n",
+            "{\"stop\":\"bad hex\",\"character\":0,\"reason\":\"each octet wants two hexadecimal digits, \
+                and between digits only blanks may stand\"}\n",
         ),
         (
             ["dbench", "read", "--json", "--explain"].as_slice(),
@@ -196,7 +208,8 @@ fn words_ask_for_a_text_or_an_input_or_are_refused(rt: HostRuntime) -> Result<()
         (
             ["dbench", "asm"].as_slice(),
             1,
-            "line 1 fault 1\n  wanted: a header: two blanks, then the words State, Event, Action and Next\n  wrong: zz\n",
+            "line 1 fault 1\n  wanted: a header: two blanks, then the words State, Event, Action and Next\n  wrong: \
+                zz\n",
         ),
         (
             ["dbench", "list", "--help"].as_slice(),
@@ -224,7 +237,8 @@ fn words_ask_for_a_text_or_an_input_or_are_refused(rt: HostRuntime) -> Result<()
         (
             ["dbench", "draw"].as_slice(),
             1,
-            "line 1 fault 1\n  wanted: a header: two blanks, then the words State, Event, Action and Next\n  wrong: zz\n",
+            "line 1 fault 1\n  wanted: a header: two blanks, then the words State, Event, Action and Next\n  wrong: \
+                zz\n",
         ),
     ] {
         let (code, text) = run(&rt, words)?;

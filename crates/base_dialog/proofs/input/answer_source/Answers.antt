@@ -13,8 +13,8 @@ returns-in-Ok-Ok-clause-run g c =
     sound_run g.I.ByteSource.reads g.I.ByteSource.failures g.O.ByteSink.failures g.O.ByteSink.idle c.args.source.now c.pour.new.source c.args.sink.now c.pour.new.sink statuses.Done
     poured.read.sound arm.ensures.sound.0 (λ h. cc)
 
-pub returns-in-Ok-Ok-clause-met : goal.returns-in-Ok-Ok-clause-met
-returns-in-Ok-Ok-clause-met g c = λ fault.
+pub returns-in-Ok-Ok-clause-as_asked : goal.returns-in-Ok-Ok-clause-as_asked
+returns-in-Ok-Ok-clause-as_asked g c = λ fault.
     let arm = c.in-Ok-Ok in
     let poured = poured_as g.T.Answerer.has_answered c.args.answerer g.I.ByteSource.remaining g.I.ByteSource.reads g.I.ByteSource.failures g.O.ByteSink.contents c.args.source.now c.pour.new.source c.args.sink.now c.pour.new.sink
     arm.field-0 (Ok tt) arm.field-0-is arm.ensures.poured in
@@ -31,8 +31,8 @@ returns-in-Ok-Err-clause-run g c =
     arm.ensures.sound.0 c.tell_unread-in-Ok-Err.ensures.told
     (unread_of g.T.Answerer.has_answered c.args.answerer g.I.ByteSource.remaining g.I.ByteSource.reads g.I.ByteSource.failures g.O.ByteSink.contents c.args.source.now c.pour.new.source c.args.sink.now c.pour.new.sink arm.why poured)
 
-pub returns-in-Ok-Err-clause-met : goal.returns-in-Ok-Err-clause-met
-returns-in-Ok-Err-clause-met g c = λ unlike.
+pub returns-in-Ok-Err-clause-as_asked : goal.returns-in-Ok-Err-clause-as_asked
+returns-in-Ok-Err-clause-as_asked g c = λ unlike.
     let arm = c.in-Ok-Err in
     let poured = poured_as g.T.Answerer.has_answered c.args.answerer g.I.ByteSource.remaining g.I.ByteSource.reads g.I.ByteSource.failures g.O.ByteSink.contents c.args.source.now c.pour.new.source c.args.sink.now c.pour.new.sink
     arm.field-0 (Err arm.why) arm.field-0-is arm.ensures.poured in

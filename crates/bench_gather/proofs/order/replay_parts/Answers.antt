@@ -6,7 +6,8 @@ use Rattle.bench_gather.proofs.order.replay_parts.Goals as goal
 
 pub returns-in-Err : goal.returns-in-Err
 returns-in-Err c =
-    parts-stop c.args.core.now c.loop-at.core c.take_at.new.core c.unwind.new.core (map kept_in c.args.parts.now) c.args.order.now
-    c.loop-at.at-index _ c.shards-shards.result c.in-Err.fault c.requires.opening
-    (take_more c.args.order.now c.loop-at.at-index _ c.loop-at-test.true) c.loop-at.invariant.world c.in-Err.ensures
+    parts-stop c.args.core.now c.loop-at.core c.take_at.new.core c.unwind.new.core
+    (map kept_in c.args.parts.now) c.args.order.now
+    c.loop-at.at-index _ c.in-Err.fault c.requires
+    (take_more c.args.order.now c.loop-at.at-index _ c.loop-at-test.true) c.loop-at.invariant c.in-Err.ensures
     c.unwind.ensures

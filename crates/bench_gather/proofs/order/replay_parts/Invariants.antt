@@ -1,12 +1,9 @@
 use Rattle.std.proofs.Common.{◌≡◌, map, take}
 use Rattle.bench_parts.specs.Views.{kept_in}
 use Rattle.bench_spec.specs.Taken.{with_log}
-use Rattle.bench_gather.specs.Gathered.{are_own, entries_by}
+use Rattle.bench_gather.specs.Ordered.{entries_by}
 use Rattle.bench_gather.proofs.order.replay_parts.Given as goal
 
--- the world of the entries so far, and whether these stand in their own parts
+-- the world of the entries so far
 abbrev pub invariant-loop-at : goal.invariant-loop-at
-invariant-loop-at l = record {
-  world : l.core ≡ with_log l.fn.core (entries_by (map kept_in l.parts) (take l.at-index l.order));
-  own : l.own ≡ are_own l.fn.core.settings.node.shards (map kept_in l.parts) (take l.at-index l.order);
-}
+invariant-loop-at l = l.core ≡ with_log l.fn.core (entries_by (map kept_in l.parts) (take l.at-index l.order))

@@ -12,8 +12,8 @@ returns-in-Ok-clause-run g c =
     nodes_run g.I.ByteSource.reads g.I.ByteSource.failures g.O.ByteSink.contents g.O.ByteSink.failures g.O.ByteSink.idle (replicate MAX_SHARDS all_laws) c.args.cut c.in-Ok.ready.setups.items
     c.in-Ok.ready.script.items c.args.shown c.args.source.now c.read_all_nodes.new.source c.args.sink.now c.run_nodes_ready.new.sink c.run_nodes_ready.result c.run_nodes_ready.ensures.run c.in-Ok.ensures.sound
 
-pub returns-in-Ok-clause-met : goal.returns-in-Ok-clause-met
-returns-in-Ok-clause-met g c = λ fault. inl (record {
+pub returns-in-Ok-clause-as_asked : goal.returns-in-Ok-clause-as_asked
+returns-in-Ok-clause-as_asked g c = λ fault. inl (record {
   setups = c.in-Ok.ready.setups.items;
   script = c.in-Ok.ready.script.items;
   inputs = c.in-Ok.ensures.ready;
@@ -31,8 +31,8 @@ returns-in-Err-clause-run g c =
     halt_run g.I.ByteSource.remaining g.I.ByteSource.reads g.I.ByteSource.failures g.O.ByteSink.contents g.O.ByteSink.failures g.O.ByteSink.idle c.args.source.now c.read_all_nodes.new.source c.args.sink.now
     c.tell_halt.new.sink c.in-Err.halt c.tell_halt.result c.tell_halt.ensures.told c.in-Err.ensures.halt
 
-pub returns-in-Err-clause-met : goal.returns-in-Err-clause-met
-returns-in-Err-clause-met g c = λ fault. inr
+pub returns-in-Err-clause-as_asked : goal.returns-in-Err-clause-as_asked
+returns-in-Err-clause-as_asked g c = λ fault. inr
     (halt_ends g.I.ByteSource.remaining g.I.ByteSource.reads g.I.ByteSource.failures g.O.ByteSink.contents g.O.ByteSink.failures g.O.ByteSink.idle c.args.source.now c.read_all_nodes.new.source c.args.sink.now
     c.tell_halt.new.sink c.in-Err.halt c.tell_halt.result c.tell_halt.ensures.told c.in-Err.ensures.halt fault)
 

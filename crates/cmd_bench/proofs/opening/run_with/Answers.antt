@@ -1,6 +1,6 @@
 use Rattle.std.proofs.Common.{◌∙◌, List, Some, ap, map, sym}
+use Rattle.base_device.specs.declared.told.Told.{Told}
 use Rattle.bench_open.specs.declared.account.Account.{Account}
-use Rattle.cmd_bench.specs.declared.opening.Outcome.{Outcome}
 use Rattle.cmd_bench.proofs.BookLemmas.{ids_same, run_by}
 use Rattle.cmd_bench.proofs.RunLemmas.{refused_outcome, runs_of}
 use Rattle.cmd_bench.proofs.opening.run_with.Goals as goal
@@ -22,5 +22,5 @@ returns-in-Ok g c =
 pub returns : goal.returns
 returns g c =
     refused_outcome _ c.args.script.now c.args.shown c.unbound_at-place.result c.in-Err.error c.refusal.result c.unbound_at-place.ensures c.in-Err.ensures.fault
-    (c.in_ok-opening_text_at-in-Err.ensures ∙ ap (λ (o : Outcome). Some o.text.items) (sym c.refusal.ensures))
-    (ap (λ (o : Outcome). o.refused) c.refusal.ensures)
+    (c.in_ok-opening_text_at-in-Err.ensures ∙ ap (λ (o : Told). Some o.text.items) (sym c.refusal.ensures))
+    (ap (λ (o : Told). o.refused) c.refusal.ensures)

@@ -3,8 +3,8 @@ use Rattle.cmd_live.proofs.ToldLemmas.{tells_nodes}
 use Rattle.cmd_live.proofs.run.live.Goals as goal
 
 -- the seconds are no number
-pub returns-in_default-clause-met : goal.returns-in_default-clause-met
-returns-in_default-clause-met g c = inl (record {
+pub returns-in_default-clause-as_asked : goal.returns-in_default-clause-as_asked
+returns-in_default-clause-as_asked g c = inl (record {
   wrong = sym c.seconds_of.ensures ∙ c.in_default.is;
   unread = refl;
   told = rw c.as_bytes.ensures.value at c.tell.ensures.told;

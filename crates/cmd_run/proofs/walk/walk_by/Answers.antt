@@ -17,5 +17,5 @@ same g c =
 
 pub returns-clause-walk : goal.returns-clause-walk
 returns-clause-walk g c =
-    IsWalkedOn-by g.O.ByteSink.contents g.O.ByteSink.failures g.O.ByteSink.idle c.register.new.self.book c.args.laws.now c.args.manner c.args.table.now c.args.events.now c.args.sink.now
+    IsWalkedOn-by g.O.ByteSink.contents g.O.ByteSink.failures g.O.ByteSink.idle c.register.new.self.book c.args.laws.now c.args.options c.args.table.now c.args.events.now c.args.sink.now
     c.walk_on.new.sink c.walk_on.result (same g c) c.walk_on.ensures.walk

@@ -12,5 +12,6 @@ returns-clause-app c =
     let totals = ap (λ (a : App). with_rule a (flag_rule (codes "totals"))) (c.in_ok-command-3.ensures.app ∙ sent) in
     let nodes = ap (λ (a : App). with_rule a (flag_rule (codes "nodes"))) (c.in_ok-command-4.ensures.app ∙ totals) in
     let cut = ap (λ (a : App). with_rule a (option_rule (codes "N") (codes "cut"))) (c.in_ok-command-5.ensures.app ∙ nodes) in
-    let sample = ap (λ (a : App). with_rule a (flag_rule (codes "sample"))) (c.in_ok-command-6.ensures.app ∙ cut) in
+    let log = ap (λ (a : App). with_rule a (option_rule (codes "DIR") (codes "log"))) (c.in_ok-command-6.ensures.app ∙ cut) in
+    let sample = ap (λ (a : App). with_rule a (flag_rule (codes "sample"))) (c.in_ok-command-7.ensures.app ∙ log) in
     IfOk-weaker c.with_flag-5.result _ _ (λ r is. is ∙ sample) c.with_flag-5.ensures.app

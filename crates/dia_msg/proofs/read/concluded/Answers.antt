@@ -76,8 +76,8 @@ command-command-requires-clause-ready c =
       short = short_avps octets list (IsBytes-fits _ c.type_inv.octets) same;
     }
 
-pub returns-then-wanting-clause-memory : goal.returns-then-wanting-clause-memory
-returns-then-wanting-clause-memory c = λ out.
+pub returns-then-no_memory-clause-memory : goal.returns-then-no_memory-clause-memory
+returns-then-no_memory-clause-memory c = λ out.
     let added = c.args.dictionary.now in
     let octets = c.args.octets.now in
     let list = seen_all c.args.avps.now in
@@ -93,7 +93,7 @@ returns-clause-reading c =
     let header = c.header_of-header.result in
     let clean = c.in_ok-without_fault.ensures.ok in
     let made = c.command-command.result in
-    let built = (c.command-command.ensures c.if-wanting.false).1 in
+    let built = (c.command-command.ensures c.if-no_memory.false).1 in
     outcome_reading added octets (Ok made) (IsBytes-fits _ c.type_inv.octets) (sound_as (known added) octets c.requires.first.0 c.args.first.now c.requires.header c.requires.first.1 c.requires.first.2 clean)
     (outcome_as added octets header list (Ok made) c.header_of-header.ensures (surveyed octets list (c.requires.avps clean))
     (decided_made added header list _ c.is_event-event.result c.in_ok-kind.kind made c.is_event-event.ensures c.in_ok-kind.ensures.ok built))

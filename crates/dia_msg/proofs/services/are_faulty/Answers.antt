@@ -1,7 +1,7 @@
 use Rattle.std.proofs.Common.{◌≡◌, ◌+◌, ◌∙◌, ◌++◌, ◌∷◌, [], Bool, ℕ, List, Option, sym, ap, arith, append_assoc, filter}
 use Rattle.std.specs.Prelude.{if◌then◌else◌}
 use Rattle.std.proofs.lemmas.List.{length-append}
-use Rattle.dia_tree.specs.Faults.{is_coded}
+use Rattle.dia_avp.specs.Look.{is_coded}
 use Rattle.dia_msg.specs.Sorting.{seen_all}
 use Rattle.dia_msg.specs.Walk.{groups_in}
 use Rattle.dia_msg.proofs.ServiceLemmas.{next_group, next_other, too_many, met, once, to_come}

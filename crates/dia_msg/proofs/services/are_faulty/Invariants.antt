@@ -1,5 +1,5 @@
 use Rattle.std.proofs.Common.{◌≡◌, ◌≤◌, ◌++◌, false, filter, drop, length}
-use Rattle.dia_tree.specs.Faults.{is_coded}
+use Rattle.dia_avp.specs.Look.{is_coded}
 use Rattle.dia_msg.specs.Faults.{has_twice}
 use Rattle.dia_msg.specs.Sorting.{seen_all}
 use Rattle.dia_msg.specs.Walk.{groups_in}

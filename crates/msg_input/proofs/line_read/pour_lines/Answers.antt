@@ -35,7 +35,7 @@ returns-in-Ok-Some-eq0-clause-report g c =
       written = written;
       read = rw append-nil at (Consumes-trans _ _ _ read [] c.reads.invariant.8 last);
       taken = c.reads.invariant.9;
-      printed = AreLinesOf-at_end (says_by (g.M.Manner.Says c.args.glossary.now)) g.M.Manner.line_text _ c.end.new.self read written c.end.result c.end_of.result _ at_end c.end_of.ensures (c.end.ensures read written c.reads.invariant.10);
+      printed = AreLinesOf-at_end (says_by (g.M.Printer.Says c.args.glossary.now)) g.M.Printer.line_text _ c.end.new.self read written c.end.result c.end_of.result _ at_end c.end_of.ensures (c.end.ensures read written c.reads.invariant.10);
     }
 
 -- the text that came was refused
@@ -53,7 +53,7 @@ returns-in-Err-take_text-clause-report g c =
       written = written;
       read = Consumes-trans _ _ _ read (take arm.count c.read.new.buffer) c.reads.invariant.8 came;
       taken = c.reads.invariant.9;
-      printed = AreLinesOf-taken (says_by (g.M.Manner.Says c.args.glossary.now)) g.M.Manner.line_text (IsAtEnd (g.I.ByteSource.remaining c.read.new.self)) c.take_text.new.self read (take arm.count c.read.new.buffer) written
+      printed = AreLinesOf-taken (says_by (g.M.Printer.Says c.args.glossary.now)) g.M.Printer.line_text (IsAtEnd (g.I.ByteSource.remaining c.read.new.self)) c.take_text.new.self read (take arm.count c.read.new.buffer) written
           (place_of c.take_text.new.self.reading) few (c.in-Err-take_text.ensures.taken read written c.reads.invariant.10);
     }
 

@@ -16,4 +16,4 @@ invariant-reads g l =
     × (read : List ℕ) × (written : List ℕ)
     × Consumes (g.I.ByteSource.remaining l.initial.source) (g.I.ByteSource.remaining l.source) read
     × Appends (g.O.ByteSink.contents l.initial.sink) (g.O.ByteSink.contents l.sink) written
-    × LinesSoFar (says_by (g.M.Manner.Says l.glossary)) g.M.Manner.line_text l.lines read written
+    × LinesSoFar (says_by (g.M.Printer.Says l.glossary)) g.M.Printer.line_text l.lines read written

@@ -37,11 +37,11 @@ returns-clause-run g c =
 -- what was read and what was written out
 pub returns-in_default-clause-report : goal.returns-in_default-clause-report
 returns-in_default-clause-report g c =
-    IsReport-none (AreLinesOf (says_by (g.M.Manner.Says c.args.glossary.now)) g.M.Manner.line_text) g.M.Manner.end_text g.I.ByteSource.remaining g.O.ByteSink.contents g.O.ByteSink.failures g.O.ByteSink.idle _ _ _ _ _ (HaltedLines-none (says_by (g.M.Manner.Says c.args.glossary.now)) g.M.Manner.line_text) c.tell_no_memory.ensures.told
+    IsReport-none (AreLinesOf (says_by (g.M.Printer.Says c.args.glossary.now)) g.M.Printer.line_text) g.M.Printer.end_text g.I.ByteSource.remaining g.O.ByteSink.contents g.O.ByteSink.failures g.O.ByteSink.idle _ _ _ _ _ (HaltedLines-none (says_by (g.M.Printer.Says c.args.glossary.now)) g.M.Printer.line_text) c.tell_no_memory.ensures.told
 
 pub returns-in-Ok-pour_lines-clause-report : goal.returns-in-Ok-pour_lines-clause-report
 returns-in-Ok-pour_lines-clause-report g c =
-    IsReport-closed (AreLinesOf (says_by (g.M.Manner.Says c.args.glossary.now)) g.M.Manner.line_text) g.M.Manner.end_text g.I.ByteSource.remaining g.O.ByteSink.contents g.O.ByteSink.failures g.O.ByteSink.idle _ _ _ _ _ _ _ _ c.in-Ok-pour_lines.end _
+    IsReport-closed (AreLinesOf (says_by (g.M.Printer.Says c.args.glossary.now)) g.M.Printer.line_text) g.M.Printer.end_text g.I.ByteSource.remaining g.O.ByteSink.contents g.O.ByteSink.failures g.O.ByteSink.idle _ _ _ _ _ _ _ _ c.in-Ok-pour_lines.end _
     c.in-Ok-pour_lines.ensures.report c.in-Ok-pour_lines.ensures.sound.0 c.close_lines.ensures.closes
 
 pub returns-clause-report : goal.returns-clause-report

@@ -32,7 +32,7 @@ returns-in-Ok-Some-eq0-clause-report g c =
       written = written;
       read = rw append-nil at (Consumes-trans _ _ _ read [] c.reads.invariant.8 last);
       taken = c.reads.invariant.9;
-      printed = IsPrintedOf-at_end (g.M.Manner.Says c.args.glossary.now None) 0 _ read _ c.end.result _ _ at_end (c.end.ensures.printed 0 read written c.reads.invariant.10);
+      printed = IsPrintedOf-at_end (g.M.Printer.Says c.args.glossary.now None) 0 _ read _ c.end.result _ _ at_end (c.end.ensures.printed 0 read written c.reads.invariant.10);
     }
 
 -- the text that came was refused
@@ -50,7 +50,7 @@ returns-in-Err-take_text-clause-report g c =
       written = written;
       read = Consumes-trans _ _ _ read (take arm.count c.read.new.buffer) c.reads.invariant.8 came;
       taken = c.reads.invariant.9;
-      printed = IsPrintedOf-taken (g.M.Manner.Says c.args.glossary.now None) 0 _ c.take_text.new.self read (take arm.count c.read.new.buffer) written c.in-Err-take_text.refusal few (c.in-Err-take_text.ensures.taken 0 read written c.reads.invariant.10);
+      printed = IsPrintedOf-taken (g.M.Printer.Says c.args.glossary.now None) 0 _ c.take_text.new.self read (take arm.count c.read.new.buffer) written c.in-Err-take_text.refusal few (c.in-Err-take_text.ensures.taken 0 read written c.reads.invariant.10);
     }
 
 -- the text that came was taken, and its lines were written out

@@ -15,4 +15,4 @@ invariant-reads g l =
     × (read : List ℕ) × (written : List ℕ)
     × Consumes (g.I.ByteSource.remaining l.initial.source) (g.I.ByteSource.remaining l.source) read
     × Appends (g.O.ByteSink.contents l.initial.sink) (g.O.ByteSink.contents l.sink) written
-    × SoFar (g.M.Manner.Says l.glossary None) 0 l.reading read written None
+    × SoFar (g.M.Printer.Says l.glossary None) 0 l.reading read written None

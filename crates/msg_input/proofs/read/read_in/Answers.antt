@@ -36,11 +36,11 @@ returns-clause-run g c =
 -- what was read and what was written out
 pub returns-in_default-clause-report : goal.returns-in_default-clause-report
 returns-in_default-clause-report g c =
-    IsReport-none (IsPrintedOf (g.M.Manner.Says c.args.glossary.now None) 0) g.M.Manner.end_text g.I.ByteSource.remaining g.O.ByteSink.contents g.O.ByteSink.failures g.O.ByteSink.idle _ _ _ _ _ (HaltedText-none (g.M.Manner.Says c.args.glossary.now None) 0) c.tell_no_memory.ensures.told
+    IsReport-none (IsPrintedOf (g.M.Printer.Says c.args.glossary.now None) 0) g.M.Printer.end_text g.I.ByteSource.remaining g.O.ByteSink.contents g.O.ByteSink.failures g.O.ByteSink.idle _ _ _ _ _ (HaltedText-none (g.M.Printer.Says c.args.glossary.now None) 0) c.tell_no_memory.ensures.told
 
 pub returns-in-Ok-pour-clause-report : goal.returns-in-Ok-pour-clause-report
 returns-in-Ok-pour-clause-report g c =
-    IsReport-closed (IsPrintedOf (g.M.Manner.Says c.args.glossary.now None) 0) g.M.Manner.end_text g.I.ByteSource.remaining g.O.ByteSink.contents g.O.ByteSink.failures g.O.ByteSink.idle _ _ _ _ _ _ _ _ c.in-Ok-pour.end _
+    IsReport-closed (IsPrintedOf (g.M.Printer.Says c.args.glossary.now None) 0) g.M.Printer.end_text g.I.ByteSource.remaining g.O.ByteSink.contents g.O.ByteSink.failures g.O.ByteSink.idle _ _ _ _ _ _ _ _ c.in-Ok-pour.end _
     c.in-Ok-pour.ensures.report c.in-Ok-pour.ensures.sound.0 c.close.ensures.closes
 
 pub returns-clause-report : goal.returns-clause-report

@@ -1,6 +1,6 @@
 use Rattle.std.proofs.Common.{◌-◌, length, arith, sym, ◌∙◌, inr, []}
 use Rattle.tab_load.specs.Code.{instruction_of, instructions_of}
-use Rattle.tab_load.specs.declared.instruction.Step.TheVariants as step
+use Rattle.tab_load.specs.declared.instruction.CodeInstruction.TheVariants as step
 use Rattle.tab_load.proofs.CheckLemmas.{last-at, ended-at, code-length}
 use Rattle.tab_load.proofs.checks.check_end.Goals as goal
 

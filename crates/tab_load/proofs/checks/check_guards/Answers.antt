@@ -1,6 +1,6 @@
 use Rattle.std.proofs.Common.{arith, sym, ◌∙◌, refl, ap, ◌+◌, ℕ}
 use Rattle.tab_load.specs.Code.{instruction_of, instructions_of}
-use Rattle.tab_load.specs.declared.instruction.Step.TheVariants as step
+use Rattle.tab_load.specs.declared.instruction.CodeInstruction.TheVariants as step
 use Rattle.tab_load.proofs.CheckLemmas.{split-at, code-length}
 use Rattle.tab_load.proofs.checks.check_guards.Goals as goal
 

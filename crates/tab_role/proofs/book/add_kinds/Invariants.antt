@@ -1,5 +1,5 @@
 use Rattle.std.proofs.Common.{◌≡◌, ◌++◌, map, take}
-use Rattle.tab_role.specs.Lines.{kind_of}
+use Rattle.tab_role.specs.Entries.{kind_of}
 use Rattle.tab_role.proofs.book.add_kinds.Given as goal
 
 abbrev pub invariant-loop-name : goal.invariant-loop-name

@@ -1,6 +1,6 @@
 use Rattle.std.proofs.Common.{◌≡◌, ◌++◌, map}
 use Rattle.std.specs.List.{range_with_len}
-use Rattle.tab_role.specs.Lines.{kept}
+use Rattle.tab_role.specs.Entries.{kept}
 use Rattle.tab_role.specs.declared.step.TheConstants.{COUNT}
 use Rattle.tab_role.proofs.step.keep_services.Given as goal
 

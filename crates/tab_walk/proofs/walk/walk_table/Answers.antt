@@ -7,7 +7,7 @@ use Rattle.tab_walk.proofs.walk.walk_table.Goals as goal
 pub returns-in-Err-clause-told : goal.returns-in-Err-clause-told
 returns-in-Err-clause-told g c =
     IsToldWith-map g.O.ByteSink.contents g.O.ByteSink.failures g.O.ByteSink.idle _ _ c.args.sink.now c.unparsed.new.sink c.unparsed.result
-    (λ text status is. IsWalked-unparsed c.args.registry.now.book c.args.manner c.args.text.now c.args.events.now text status c.in-Err.error c.in-Err.ensures.refused (rw c.laws-book.ensures at is))
+    (λ text status is. IsWalked-unparsed c.args.registry.now.book c.args.options c.args.text.now c.args.events.now text status c.in-Err.error c.in-Err.ensures.refused (rw c.laws-book.ensures at is))
     c.unparsed.ensures.told
 
 -- the table is bound
@@ -16,7 +16,7 @@ returns-in-Ok-bind-clause-told g c =
     let same = c.in-Ok-bind.ensures.table ∙ c.in-Ok.ensures.table in
     let found = rw (c.in-Ok.ensures.table, c.laws-book.ensures) at c.in-Ok-bind.ensures.found in
     IsToldWith-map g.O.ByteSink.contents g.O.ByteSink.failures g.O.ByteSink.idle _ _ c.args.sink.now c.walk_by.new.sink c.walk_by.result
-    (λ text status is. IsWalked-bound c.args.registry.now.book c.args.manner c.args.text.now c.args.events.now text status _ same c.in-Ok.ensures.sound found is)
+    (λ text status is. IsWalked-bound c.args.registry.now.book c.args.options c.args.text.now c.args.events.now text status _ same c.in-Ok.ensures.sound found is)
     c.walk_by.ensures.told
 
 -- the book lacks a name
@@ -24,5 +24,5 @@ pub returns-in-Err-bind-clause-told : goal.returns-in-Err-bind-clause-told
 returns-in-Err-bind-clause-told g c =
     let lacks = rw (c.in-Ok.ensures.table, c.laws-book.ensures) at c.in-Err-bind.ensures.err in
     IsToldWith-map g.O.ByteSink.contents g.O.ByteSink.failures g.O.ByteSink.idle _ _ c.args.sink.now c.unbound.new.sink c.unbound.result
-    (λ text status is. IsWalked-unbound c.args.registry.now.book c.args.manner c.args.text.now c.args.events.now text status c.in-Err-bind.why c.in-Ok.ensures.sound lacks (rw (c.unbound_place-place.ensures, c.in-Ok.ensures.table, c.laws-book.ensures) at is))
+    (λ text status is. IsWalked-unbound c.args.registry.now.book c.args.options c.args.text.now c.args.events.now text status c.in-Err-bind.why c.in-Ok.ensures.sound lacks (rw (c.unbound_place-place.ensures, c.in-Ok.ensures.table, c.laws-book.ensures) at is))
     c.unbound.ensures.told

@@ -1,6 +1,6 @@
 use Rattle.std.proofs.Common.{sym, ◌∙◌, List, subst}
 use Rattle.bench_line.specs.Line.{LineView}
-use Rattle.bench_line.specs.Lines.{StandFor, lifted_one}
+use Rattle.bench_line.specs.Lines.{AreLinesAfter, lifted_one}
 use Rattle.bench_line.specs.Talk.{meaning}
 use Rattle.bench_line.proofs.LiftLemmas.{with_line-none, set-line, stands-lift, unlifted}
 use Rattle.bench_line.proofs.lines.Lines.lift.Goals as goal
@@ -16,7 +16,7 @@ pub returns-then-lift-clause-stands : goal.returns-then-lift-clause-stands
 returns-then-lift-clause-stands g c =
     let m = meaning g.T.Hears.heard g.T.Hears.turned g.T.Hears.octets_of c.self.inside.rules in
     let e = set-line c.self.inside.lines.items c.args.line c.in-Ok.place c.index_mut-at.result.now c.lift.new.self lifted_one (rw (← c.self.view_is) at c.in-Ok.ensures.ok) c.index_mut-at.ensures.value c.lift.ensures.lifted in
-    rw (← c.self.view_is) (λ pasts s. subst (λ (ls : List LineView). StandFor m ls pasts) (sym e) (stands-lift m c.self.inside.lines.items c.args.line pasts s))
+    rw (← c.self.view_is) (λ pasts s. subst (λ (ls : List LineView). AreLinesAfter m ls pasts) (sym e) (stands-lift m c.self.inside.lines.items c.args.line pasts s))
 
 pub returns-then-lift-clause-undone : goal.returns-then-lift-clause-undone
 returns-then-lift-clause-undone g c =

@@ -1,7 +1,7 @@
 use Rattle.std.proofs.Common.{List, map, sym, subst}
 use Rattle.bench_item.specs.Lines.{Undialled}
 use Rattle.bench_line.specs.Line.{LineView, undialled}
-use Rattle.bench_line.specs.Lines.{StandFor, one_more}
+use Rattle.bench_line.specs.Lines.{AreLinesAfter, one_more}
 use Rattle.bench_line.specs.Talk.{meaning}
 use Rattle.bench_line.proofs.DialLemmas.{stands-undialled, counts-undialled, redialled-undialled, written}
 use Rattle.bench_line.proofs.lines.Lines.undial.Goals as goal
@@ -11,7 +11,7 @@ returns-clause-stands g c =
     let m = meaning g.T.Hears.heard g.T.Hears.turned g.T.Hears.octets_of c.self.inside.rules in
     let items = c.self.inside.lines.items in
     let w = written (undialled c.args.peer c.args.generation) items c.deref_mut.result.now c.undial.new.lines c.self.inside.lines.len c.deref_mut.ensures.value c.undial.ensures c.self.inside.lines.ok.0 in
-    rw (← c.self.view_is) (λ pasts s. subst (λ (ls : List LineView). StandFor m ls (map (one_more (Undialled c.args.peer c.args.generation)) pasts)) (sym w) (stands-undialled m c.args.peer c.args.generation items pasts s))
+    rw (← c.self.view_is) (λ pasts s. subst (λ (ls : List LineView). AreLinesAfter m ls (map (one_more (Undialled c.args.peer c.args.generation)) pasts)) (sym w) (stands-undialled m c.args.peer c.args.generation items pasts s))
 
 pub returns-clause-undone : goal.returns-clause-undone
 returns-clause-undone g c =

@@ -19,12 +19,12 @@ loop-avp-preserved g c = λ enough.
     let i = c.loop-avp.avp-index in
     elim c.if-is_coded.branch [
       | then-is_coded+else-is_err w ↦
-          let value = w.value-value.ensures (sym w.wanting-is ∙ enough) in
+          let value = w.value-value.ensures (sym w.no_memory-is ∙ enough) in
           let before = c.loop-avp.invariant value.0 in
           let pushed = where_ok w.push.result (sym w.is_err.ensures.value ∙ w.if-is_err.false) w.push.ensures.ok in
           (before.0, rw (w.values-is, pushed) (values_next Is code avps i _ c.loop-avp.values w.value-value.result c.loop-avp-test.true (sym c.is_coded.ensures ∙ w.if-is_coded.true) before.1 value.1))
-      | then-is_coded+then-is_err w ↦ absurd (true≢false (sym w.wanting-is ∙ enough))
+      | then-is_coded+then-is_err w ↦ absurd (true≢false (sym w.no_memory-is ∙ enough))
       | else-is_coded w ↦
-          let before = c.loop-avp.invariant (sym w.wanting-is ∙ enough) in
+          let before = c.loop-avp.invariant (sym w.no_memory-is ∙ enough) in
           (before.0, rw w.values-is (values_other Is code avps i _ c.loop-avp.values c.loop-avp-test.true (sym c.is_coded.ensures ∙ w.if-is_coded.false) before.1))
     ]

@@ -8,8 +8,8 @@ abbrev pub invariant-lines : goal.invariant-lines
 invariant-lines g l =
     (used : List ℕ) × (l.text ≡ used ++ l.rest)
     × (l.self.reading.characters + length l.rest ≤ l.initial.self.reading.characters + length l.text)
-    × ((before written : List ℕ) → LinesSoFar (says_by (g.M.Manner.Says l.glossary)) g.M.Manner.line_text l.initial.self before written
-    → LinesSoFar (says_by (g.M.Manner.Says l.glossary)) g.M.Manner.line_text l.self (before ++ used) written)
+    × ((before written : List ℕ) → LinesSoFar (says_by (g.M.Printer.Says l.glossary)) g.M.Printer.line_text l.initial.self before written
+    → LinesSoFar (says_by (g.M.Printer.Says l.glossary)) g.M.Printer.line_text l.self (before ++ used) written)
 
 -- each turn uses a newline
 abbrev pub decreases-lines : goal.decreases-lines

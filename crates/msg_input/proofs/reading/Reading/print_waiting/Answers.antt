@@ -6,5 +6,5 @@ pub loop-frame-preserved : goal.loop-frame-preserved
 loop-frame-preserved g c = (
   c.loop-frame.invariant.0,
   c.loop-frame.invariant.1,
-  PrintsSome-more (g.M.Manner.Says c.args.glossary.now c.args.line) _ _ _ _ _ _ _ _ _ c.loop-frame.invariant.2 c.in-Some.ensures.oldest (rw c.as_slice.ensures at c.in_ok-message.ensures.ok.2) (rw c.as_slice.ensures at c.in_ok-message.ensures.ok.3),
+  PrintsSome-more (g.M.Printer.Says c.args.glossary.now c.args.line) _ _ _ _ _ _ _ _ _ c.loop-frame.invariant.2 c.in-Some.ensures.oldest (rw c.as_slice.ensures at c.in_ok-message.ensures.ok.2) (rw c.as_slice.ensures at c.in_ok-message.ensures.ok.3),
 )

@@ -6,7 +6,7 @@ use Rattle.msg_input.proofs.reading.Reading.print_waiting.Given as goal
 abbrev pub invariant-loop-frame : goal.invariant-loop-frame
 invariant-loop-frame g l =
     (l.self.half ≡ l.initial.self.half) × (l.self.characters ≡ l.initial.self.characters)
-    × PrintsSome (g.M.Manner.Says l.glossary l.line) l.initial.self.framer l.self.framer l.initial.self.report l.self.report
+    × PrintsSome (g.M.Printer.Says l.glossary l.line) l.initial.self.framer l.self.framer l.initial.self.report l.self.report
 
 -- each turn takes a frame that waits
 abbrev pub decreases-loop-frame : goal.decreases-loop-frame

@@ -21,7 +21,7 @@ returns-in_err-take_piece-clause-taken g c = λ first before written so_far.
     let count : c.take_piece.new.self.characters ≡ c.pieces.self.characters + length (take decoded.used rest) = omega arith in
     let taken = c.in_err-take_piece.ensures.stands first so.octets written so.stands in
     let few : length (take decoded.made c.decode-decoded.new.piece) ≤ 4096 = let shorter = front_is_no_longer decoded.made c.decode-decoded.new.piece in omega arith in
-    TakesText-refused (g.M.Manner.Says c.args.glossary.now c.args.line) first c.pieces.self c.take_piece.new.self before used (take decoded.used rest) (drop decoded.used rest) _ written c.args.text.now decoded.half
+    TakesText-refused (g.M.Printer.Says c.args.glossary.now c.args.line) first c.pieces.self c.take_piece.new.self before used (take decoded.used rest) (drop decoded.used rest) _ written c.args.text.now decoded.half
     c.from_residual.result c.in_err-take_piece.field-0.0 answer.0 answer.1 answer.2
     (c.pieces.invariant.1 ∙ front_more used rest decoded.used) so c.decode-decoded.ensures.meaning c.take_piece.ensures.kept.0 count taken few
 
@@ -44,7 +44,7 @@ returns-in-BadCharacter-clause-taken g c = λ first before written so_far.
       drop (decoded.used + 1) rest,
       c.pieces.invariant.1 ∙ (front_more used rest decoded.used ∙ parts),
       stops.1,
-      SoFar-more (g.M.Manner.Says c.args.glossary.now c.args.line) first c.pieces.self c.take_piece.new.self before used (take decoded.used rest) _ written decoded.half _ so c.decode-decoded.ensures.meaning c.take_piece.ensures.kept.0 count taken,
+      SoFar-more (g.M.Printer.Says c.args.glossary.now c.args.line) first c.pieces.self c.take_piece.new.self before used (take decoded.used rest) _ written decoded.half _ so c.decode-decoded.ensures.meaning c.take_piece.ensures.kept.0 count taken,
     )
 
 -- what was used before, and what was used now
@@ -62,12 +62,12 @@ pieces-preserved g c =
       (let so_far = c.pieces.invariant.2 in omega arith),
       λ first before written so_far.
           let so = c.pieces.invariant.3 first before written so_far in
-          SoFar-more (g.M.Manner.Says c.args.glossary.now c.args.line) first c.pieces.self c.take_piece.new.self before used (take decoded.used rest) _ written decoded.half _ so c.decode-decoded.ensures.meaning c.take_piece.ensures.kept.0 count
+          SoFar-more (g.M.Printer.Says c.args.glossary.now c.args.line) first c.pieces.self c.take_piece.new.self before used (take decoded.used rest) _ written decoded.half _ so c.decode-decoded.ensures.meaning c.take_piece.ensures.kept.0 count
           (c.in_ok-take_piece.ensures.stands first so.octets written so.stands),
     )
 
 -- all of the text is used
 pub returns-clause-taken : goal.returns-clause-taken
 returns-clause-taken g c = λ first before written so_far.
-    SoFar-whole (g.M.Manner.Says c.args.glossary.now c.args.line) first c.pieces.self before c.pieces.invariant.0 c.pieces.rest.now c.args.text.now written (sym c.is_empty.ensures ∙ c.pieces-test.false) c.pieces.invariant.1
+    SoFar-whole (g.M.Printer.Says c.args.glossary.now c.args.line) first c.pieces.self before c.pieces.invariant.0 c.pieces.rest.now c.args.text.now written (sym c.is_empty.ensures ∙ c.pieces-test.false) c.pieces.invariant.1
     (c.pieces.invariant.3 first before written so_far)

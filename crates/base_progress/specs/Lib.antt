@@ -1,0 +1,2 @@
+-- The definitions that the contracts of base_progress speak of.
+pub mod Shown

@@ -1,8 +1,0 @@
-use Rattle.std.proofs.Common.{◌≡◌, drop}
-use Rattle.std.specs.Prelude.{find}
-use Rattle.dia_tree.specs.Faults.{is_coded}
-use Rattle.charge_facts.proofs.group.first.Given as goal
-
--- none that was looked at has the code
-abbrev pub invariant-loop-avp : goal.invariant-loop-avp
-invariant-loop-avp l = find (is_coded l.code) l.avps ≡ find (is_coded l.code) (drop l.avp-index l.avps)

@@ -1,0 +1,37 @@
+-- What stands on accounts of a node together.
+use Rattle.std.specs.Prelude.{ℕ, List, Option, None, Some, sum_by}
+use Rattle.acct_book.specs.Book.{Opened}
+use Rattle.acct_totals.specs.declared.answer.Totals.{Totals}
+use Rattle.bench_open.specs.declared.account.Account.{Account}
+use Rattle.bench_spec.specs.Taken.{Run, shown}
+use Rattle.live_stats.specs.declared.stats.Sums.{Sums}
+
+-- what is reserved on an account, and what is debited, if it is there
+abbrev pub reserved_on : Option Totals → ℕ
+reserved_on None = 0
+reserved_on (Some totals) = totals.reserved
+
+abbrev pub debited_on : Option Totals → ℕ
+debited_on None = 0
+debited_on (Some totals) = totals.debited
+
+-- of the account of a number
+unfoldable pub reserved_at : Run → ℕ → ℕ
+reserved_at run id = reserved_on ((shown run).totals_at id)
+
+unfoldable pub debited_at : Run → ℕ → ℕ
+debited_at run id = debited_on ((shown run).totals_at id)
+
+-- the sums over some accounts
+abbrev pub sums_over : Run → List Account → Sums
+sums_over run accounts = record {
+  reserved = sum_by (λ (account : Account). reserved_at run account.id) accounts;
+  debited = sum_by (λ (account : Account). debited_at run account.id) accounts;
+}
+
+-- the sums over all accounts that the node was opened with
+unfoldable pub sums_of : Run → Sums
+sums_of run = record {
+  reserved = sum_by (λ (account : Opened). reserved_at run account.id) run.settings.accounts;
+  debited = sum_by (λ (account : Opened). debited_at run account.id) run.settings.accounts;
+}

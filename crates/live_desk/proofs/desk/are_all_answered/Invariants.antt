@@ -1,0 +1,8 @@
+use Rattle.std.proofs.Common.{◌≡◌, true, take}
+use Rattle.std.specs.List.{list_all}
+use Rattle.live_desk.specs.Desks.{is_answered}
+use Rattle.live_desk.proofs.desk.are_all_answered.Given as goal
+
+-- those so far wait for none
+abbrev pub invariant-texts : goal.invariant-texts
+invariant-texts l = list_all (is_answered l.core l.desk l.round) (take l.text-index l.texts) ≡ true

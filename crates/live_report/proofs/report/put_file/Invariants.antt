@@ -1,7 +1,0 @@
-use Rattle.std.proofs.Common.{◌≡◌, ◌++◌, take, flat_map}
-use Rattle.live_report.specs.Files.{file_octet}
-use Rattle.live_report.proofs.report.put_file.Given as goal
-
--- the octets so far were put
-abbrev pub invariant-loop-octet : goal.invariant-loop-octet
-invariant-loop-octet l = l.out.items ≡ l.initial.out.items ++ flat_map file_octet (take l.octet-index l.host)

@@ -1,0 +1,4 @@
+pub mod Kept
+pub mod Worked
+pub mod Carried
+pub mod Happened

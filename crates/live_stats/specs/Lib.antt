@@ -1,0 +1,5 @@
+-- The definitions that the contracts of live_stats speak of.
+pub mod Seen
+pub mod Exchanges
+pub mod Tallies
+pub mod Lines

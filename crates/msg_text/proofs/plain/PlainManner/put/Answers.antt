@@ -1,5 +1,0 @@
-use Rattle.msg_text.proofs.plain.PlainManner.put.Goals as goal
-
--- what is printed by the definitions of the glossary
-pub returns : goal.returns
-returns c = rw c.definitions.ensures at c.read.ensures

@@ -1,0 +1,3 @@
+-- The definitions that the contracts of node_logs speak of.
+pub mod Files
+pub mod Logs

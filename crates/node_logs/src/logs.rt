@@ -1,0 +1,71 @@
+//! The logs of nodes, written.
+ghost use Rattle.std.specs.Prelude.{◌≡◌, ◌∷◌, [], IfOk, OnOk};
+ghost use Rattle.node_logs.specs.Files.{with_files};
+ghost use Rattle.node_logs.specs.Logs.{file_name, log_file, log_of, logs_of};
+
+use crate::files::{FileError, FileSink};
+use crate::text::{log_text, put_file_name};
+use bench_core::Core;
+use bench_nodes::Node;
+use std::alloc::{AllocError, Global};
+
+/// Why logs are not written.
+#[derive(Drop)]
+pub enum LogError {
+    /// The file of this name can't be written.
+    Failed(Vec<u8>),
+    NoMemory,
+}
+
+impl From<AllocError> for LogError {
+    fn from(_e: AllocError) -> LogError {
+        LogError::NoMemory
+    }
+}
+
+/// The name of the file of a host's log.
+fn name_of(alloc: Global, host: &[u8]) -> Result<Vec<u8>, AllocError>
+    ensures { IfOk result (λ name. name.items ≡ file_name host.now) }
+{
+    let mut name = Vec::new(alloc);
+    put_file_name(&mut name, host)?;
+    Ok(name)
+}
+
+/// Writes the log of a bench to the file of its host.
+pub fn write_log<F: FileSink>(
+    alloc: Global,
+    host: &[u8],
+    core: &Core,
+    files: &mut F,
+) -> Result<(), LogError>
+    ensures { OnOk result (F.files files.new ≡ with_files (F.files files.old) (log_file host.now core.now ∷ [])) }
+{
+    let name = name_of(alloc, host)?;
+    let text = log_text(alloc, core)?;
+    match files.put(alloc, &name, &text) {
+        Ok(()) => Ok(()),
+        Err(FileError::Failed) => Err(LogError::Failed(name)),
+        Err(FileError::NoMemory) => Err(LogError::NoMemory),
+    }
+}
+
+/// Writes the log of a node.
+fn write_node<F: FileSink>(alloc: Global, node: &Node, files: &mut F) -> Result<(), LogError>
+    ensures { OnOk result (F.files files.new ≡ with_files (F.files files.old) (log_of node.now ∷ [])) }
+{
+    write_log(alloc, node.host.as_slice(), &node.core, files)
+}
+
+/// Writes the log of each node to the file of its host, from the last node to the first, so that of nodes with one host
+/// the first keeps the file.
+pub fn write_logs<F: FileSink>(alloc: Global, nodes: &[Node], files: &mut F) -> Result<(), LogError>
+    ensures { OnOk result (F.files files.new ≡ with_files (F.files files.old) (logs_of nodes.now)) }
+{
+    let mut left = nodes.len();
+    'nodes: while left > 0 {
+        left -= 1;
+        write_node(alloc, &nodes[left], files)?;
+    }
+    Ok(())
+}
