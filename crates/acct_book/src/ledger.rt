@@ -224,6 +224,17 @@ impl Ledger {
         }
     }
 
+    /// The outcome that an operation has where it is booked next.
+    pub(crate) fn outcome(&self, op: Op) -> Outcome
+        requires { IsKept self.now }
+        ensures { result ≡ outcome_of (book_of self.now) op }
+    {
+        match self.totals(op.account()) {
+            Some(totals) => totals.outcome(self.held_on(op), op),
+            None => Outcome::Refused,
+        }
+    }
+
     /// Books an operation, for which there is room.
     pub(crate) fn book(&mut self, op: Op) -> Outcome
         requires kept { IsKept self.old }

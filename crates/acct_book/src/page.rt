@@ -160,6 +160,13 @@ impl Page {
         Ok(())
     }
 
+    /// The one outcome that the book allows to an operation now, which is not booked. Takes no memory.
+    pub fn outcome(&self, op: Op) -> Outcome
+        ensures { result ≡ outcome_of self.now.book op }
+    {
+        self.ledger.outcome(op)
+    }
+
     /// Carries an operation out and books it, with the one outcome that the book allows.
     pub fn apply(&mut self, op: Op) -> Result<Outcome, NoMemory>
         ensures outcome { IfOk result (λ outcome. outcome ≡ outcome_of self.old.book op) }

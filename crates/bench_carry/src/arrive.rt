@@ -207,7 +207,7 @@ pub(crate) fn arrive(
 {
     match item.event() {
         Some(event) => {
-            let copy = event.copy(alloc)?;
+            let copy = event.copy()?;
             let arrival = put_event(shards, copy)?;
             Ok(arrival)
         }

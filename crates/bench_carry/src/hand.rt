@@ -68,12 +68,12 @@ pub(crate) fn keep(alloc: Global, item: Option<&Item>) -> Result<Option<KeptItem
 }
 
 /// A copy of an item that is kept, if there is one.
-pub(crate) fn copy(alloc: Global, kept: Option<&KeptItem>) -> Result<Option<KeptItem>, AllocError>
+pub(crate) fn copy(kept: Option<&KeptItem>) -> Result<Option<KeptItem>, AllocError>
     ensures { IfOk result (λ copy. copy ≡ option_copied kept.entry) }
 {
     match kept {
         None => Ok(None),
-        Some(kept) => Ok(Some(kept.copy(alloc)?)),
+        Some(kept) => Ok(Some(kept.copy()?)),
     }
 }
 
@@ -134,9 +134,9 @@ pub fn hand_copy(
 {
     match source {
         Source::Line(line) => keep(alloc, held_on_line(lines, carried, line)),
-        Source::Shard(shard) => copy(alloc, held_in_shard(shards, shard as usize)),
-        Source::Desk(desk) => copy(alloc, held_at(outboxes, desk as usize + 1)),
-        Source::Clock => copy(alloc, held_at(outboxes, 0)),
+        Source::Shard(shard) => copy(held_in_shard(shards, shard as usize)),
+        Source::Desk(desk) => copy(held_at(outboxes, desk as usize + 1)),
+        Source::Clock => copy(held_at(outboxes, 0)),
     }
 }
 

@@ -66,9 +66,9 @@ pub fn next_item(
 {
     match source {
         Source::Line(line) => next_on_line(alloc, lines, line),
-        Source::Shard(shard) => copy(alloc, next_in_shard(shards, shard as usize)),
-        Source::Desk(desk) => copy(alloc, next_at(outboxes, desk as usize + 1)),
-        Source::Clock => copy(alloc, next_at(outboxes, 0)),
+        Source::Shard(shard) => copy(next_in_shard(shards, shard as usize)),
+        Source::Desk(desk) => copy(next_at(outboxes, desk as usize + 1)),
+        Source::Clock => copy(next_at(outboxes, 0)),
     }
 }
 

@@ -55,27 +55,6 @@ impl Core {
         }
     }
 
-    // Takes a step that is not refused, unless memory is.
-    fn take(
-        &mut self,
-        registries: &[Registry],
-        step: Step,
-        room: &mut Stepped,
-    ) -> Result<(), AllocError>
-        requires laws { Each (λ r. r.book ≡ self.old.settings.node.laws) registries.now }
-        requires count { length registries.now ≡ self.old.settings.node.shards }
-        requires could { refusal self.old.settings self.old.log self.old.paused step ≡ None }
-        ensures ok { OnOk result (Takes self.old self.new step) }
-        ensures err { OnErr result (self.new ≡ self.old) }
-    {
-        match step {
-            Step::Work(shard) => self.work(&registries[shard as usize], shard, room),
-            Step::Lift(source) => self.lift(source),
-            Step::Drop(source) => self.drop_item(source),
-            carried => self.take_carried(carried),
-        }
-    }
-
     /// Takes a step, or refuses it: for the first of its reasons, and for memory only where there is none.
     /// The registries' callbacks are asked where a shard works; `room` is where a move is decided, and
     /// what stands there is gone.
@@ -94,9 +73,13 @@ impl Core {
         if let Some(fault) = self.refusal(&step) {
             return Err(fault);
         }
-        match self.take(registries, step, room) {
-            Ok(()) => Ok(()),
-            Err(AllocError) => Err(StepFault::NoMemory),
+        // A step is large: here it is handed on only where it has to be.
+        match step {
+            Step::Work(shard) => self.work(&registries[shard as usize], shard, room)?,
+            Step::Lift(source) => self.lift(source)?,
+            Step::Drop(source) => self.drop_item(source)?,
+            carried => self.take_carried(carried)?,
         }
+        Ok(())
     }
 }

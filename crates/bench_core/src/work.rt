@@ -1,5 +1,5 @@
 //! A shard handles its oldest item.
-ghost use Rattle.std.specs.Prelude.{◌≡◌, ◌≤◌, ◌-◌, [], None, OnOk, OnErr, fold, length, max};
+ghost use Rattle.std.specs.Prelude.{◌≡◌, ◌≤◌, ◌-◌, [], IfOk, None, OnOk, OnErr, fold, length, max};
 ghost use Rattle.acct_book.specs.Book.{after, with_book};
 ghost use Rattle.bench_item.specs.declared.step.Step.TheVariants as steps;
 ghost use Rattle.bench_queue.specs.Inbox.{next_in};
@@ -7,7 +7,7 @@ ghost use Rattle.bench_shard.specs.Tasks.{IsTask};
 ghost use Rattle.bench_shard.specs.Works.{Fits};
 ghost use Rattle.bench_spec.specs.Refusal.{refusal};
 ghost use Rattle.bench_spec.specs.Taken.{Takes};
-ghost use Rattle.bench_core.specs.Working.{Holds, IsDone, IsUnwritten, IsWritten};
+ghost use Rattle.bench_core.specs.Working.{Holds, IsDone, IsUnwritten, IsWritten, work_entry};
 
 use crate::keeping::Core;
 use crate::room::make_room;
@@ -43,6 +43,22 @@ fn book(page: &mut Page, ops: &[Op])
     }
 }
 
+/// The entry in which a shard handles its oldest item, which the entry shares with the inbox.
+fn keep_work(
+    alloc: Global,
+    number: u32,
+    shard: &ShardState,
+    work: &Work,
+) -> Result<KeptEntry, AllocError>
+    requires { Fits shard.now work.now.item work.now.handled }
+    ensures { IfOk result (λ kept. kept ≡ work_entry number work.now.item work.now.handled) }
+{
+    match shard.next_item_kept() {
+        Some(item) => KeptEntry::keep_work(alloc, number, item, &work.handled),
+        None => unreachable!(),
+    }
+}
+
 /// Writes what a shard is to do: all of it, or nothing where memory is refused.
 pub(crate) fn write(
     alloc: Global,
@@ -60,7 +76,7 @@ pub(crate) fn write(
     ensures err { OnErr result (IsUnwritten shard.old shard.new page.old page.new log.old.entries log.new.entries
         undo.old.records undo.new.records) }
 {
-    let kept = KeptEntry::keep_work(alloc, number, &work.item, &work.handled)?;
+    let kept = keep_work(alloc, number, shard, work)?;
     let ops = work.effects.ops.as_slice();
     make_room(log, undo)?;
     make_page_room(page, ops.len())?;

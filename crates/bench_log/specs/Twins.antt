@@ -6,6 +6,8 @@ use Rattle.bench_item.specs.declared.step.Step.{Step}
 use Rattle.bench_item.specs.declared.step.Step.TheVariants as steps
 use Rattle.bench_item.specs.declared.entry.Handled.{Handled}
 use Rattle.bench_item.specs.declared.entry.Handled.TheVariants as handled
+use Rattle.bench_item.specs.declared.item.MachineItem.{MachineItem}
+use Rattle.bench_log.specs.declared.item.EventForm.{EventForm}
 use Rattle.bench_log.specs.declared.item.KeptLineItem.{KeptLineItem}
 use Rattle.bench_log.specs.declared.item.ItemForm.{ItemForm}
 use Rattle.bench_log.specs.declared.item.ItemForm.TheVariants.{ToMachine, ToLine, Dial, Undial, Arm, Disarm}
@@ -16,9 +18,13 @@ use Rattle.bench_log.specs.declared.step.KeptStep.TheVariants.{Lift, Drop, Work}
 use Rattle.bench_log.specs.declared.entry.KeptHandled.{KeptHandled}
 use Rattle.bench_log.specs.declared.entry.KeptHandled.TheVariants.{TooBusy, Stale, Move}
 
+-- an item for a machine
+abbrev pub event_item_of : EventForm → MachineItem
+event_item_of k = record { key = k.key; event = k.event; condition = k.condition; session = k.session }
+
 -- an item for a connection
 abbrev pub line_item_of : KeptLineItem → LineItem
-line_item_of k = record { line = k.line; deed = k.deed; session = k.session }
+line_item_of k = record { line = k.form.value.line; deed = k.form.value.deed; session = k.form.value.session }
 
 -- an item
 abbrev pub item_of : ItemForm → Item

@@ -164,14 +164,14 @@ impl KeptEntry {
     pub fn keep_work(
         alloc: Global,
         shard: u32,
-        item: &MachineItem,
+        item: &KeptMachineItem,
         handled: &Handled,
     ) -> Result<KeptEntry, AllocError>
         ensures { IfOk result (λ kept. kept
             ≡ entry_with (steps.Work shard) (Some (ToMachine item.now)) (Some handled.now)) }
     {
         let handled = KeptHandled::keep(alloc, handled)?;
-        let event = KeptMachineItem::keep(alloc, item)?;
+        let event = item.copy()?;
         Ok(KeptEntry {
             step: KeptStep::Work(shard),
             item: Some(KeptItem::of_event(event)),

@@ -9,24 +9,26 @@ use base_list::Octets;
 use bench_item::{Condition, Item, Key, LineItem, MachineItem};
 use std::alloc::{AllocError, Global};
 use std::marker::Model;
+use std::sync::Arc;
 
-/// An event on its way to a machine, kept small. A contract sees the plain item.
-pub struct KeptMachineItem {
+/// What an item for a machine holds.
+#[derive(Drop)]
+struct EventForm {
     key: Key,
     event: KeptEvent,
     condition: Option<Condition>,
     session: Octets,
 }
 
+/// An event on its way to a machine, kept small, and once: its copies share it. A contract sees the plain item.
+pub struct KeptMachineItem {
+    form: Arc<EventForm>,
+}
+
 // A derived `drop` is proved anew in each crate that holds such an item; this one is a call.
 impl Drop for KeptMachineItem {
     fn drop(self) {
-        let KeptMachineItem {
-            key,
-            event,
-            condition: _,
-            session,
-        } = self;
+        let KeptMachineItem { form } = self;
     }
 }
 
@@ -35,7 +37,9 @@ impl Model for KeptMachineItem {
 
     ghost Value = { MachineItem };
 
-    ghost view = { λ k. record { key = k.key; event = k.event; condition = k.condition; session = k.session } };
+    ghost use Rattle.bench_log.specs.Twins.{event_item_of};
+
+    ghost view = { λ k. event_item_of k.form.value };
 }
 
 impl KeptMachineItem {
@@ -46,11 +50,14 @@ impl KeptMachineItem {
         let key = copy_key(alloc, &plain.key)?;
         let event = KeptEvent::keep(alloc, &plain.event)?;
         let session = plain.session.copy(alloc)?;
-        Ok(KeptMachineItem {
+        let form = EventForm {
             key,
             event,
             condition: plain.condition,
             session,
+        };
+        Ok(KeptMachineItem {
+            form: Arc::new(alloc, form)?,
         })
     }
 
@@ -58,28 +65,22 @@ impl KeptMachineItem {
     pub fn show(&self, alloc: Global) -> Result<MachineItem, AllocError>
         ensures { IfOk result (λ plain. plain ≡ self.now) }
     {
-        let key = copy_key(alloc, &self.key)?;
-        let session = self.session.copy(alloc)?;
+        let key = copy_key(alloc, &self.form.key)?;
+        let session = self.form.session.copy(alloc)?;
         Ok(MachineItem {
             key,
-            event: self.event.show(),
-            condition: self.condition,
+            event: self.form.event.show(),
+            condition: self.form.condition,
             session,
         })
     }
 
-    /// The same item in memory of its own.
-    pub fn copy(&self, alloc: Global) -> Result<KeptMachineItem, AllocError>
+    /// The same item, in the same memory.
+    pub fn copy(&self) -> Result<KeptMachineItem, AllocError>
         ensures { IfOk result (λ copy. copy ≡ self.now) }
     {
-        let key = copy_key(alloc, &self.key)?;
-        let event = self.event.copy(alloc)?;
-        let session = self.session.copy(alloc)?;
         Ok(KeptMachineItem {
-            key,
-            event,
-            condition: self.condition,
-            session,
+            form: Arc::try_clone(&self.form)?,
         })
     }
 }
@@ -89,16 +90,22 @@ impl KeptMachineItem {
     pub fn key(&self) -> &Key
         ensures { result.now ≡ self.now.key }
     {
-        &self.key
+        &self.form.key
     }
+}
+
+/// What a deed on its way to a connection holds.
+#[derive(Drop)]
+struct DeedForm {
+    line: u64,
+    deed: KeptDeed,
+    session: Octets,
 }
 
 /// A deed on its way to a connection.
 #[derive(Drop)]
 pub(crate) struct KeptLineItem {
-    line: u64,
-    deed: KeptDeed,
-    session: Octets,
+    form: Arc<DeedForm>,
 }
 
 impl KeptLineItem {
@@ -107,33 +114,32 @@ impl KeptLineItem {
     {
         let deed = KeptDeed::keep(alloc, &plain.deed)?;
         let session = plain.session.copy(alloc)?;
-        Ok(KeptLineItem {
+        let form = DeedForm {
             line: plain.line,
             deed,
             session,
+        };
+        Ok(KeptLineItem {
+            form: Arc::new(alloc, form)?,
         })
     }
 
     fn show(&self, alloc: Global) -> Result<LineItem, AllocError>
         ensures { IfOk result (λ plain. plain ≡ line_item_of self.now) }
     {
-        let session = self.session.copy(alloc)?;
+        let session = self.form.session.copy(alloc)?;
         Ok(LineItem {
-            line: self.line,
-            deed: self.deed.show(),
+            line: self.form.line,
+            deed: self.form.deed.show(),
             session,
         })
     }
 
-    fn copy(&self, alloc: Global) -> Result<KeptLineItem, AllocError>
+    fn copy(&self) -> Result<KeptLineItem, AllocError>
         ensures { IfOk result (λ copy. line_item_of copy ≡ line_item_of self.now) }
     {
-        let deed = self.deed.copy(alloc)?;
-        let session = self.session.copy(alloc)?;
         Ok(KeptLineItem {
-            line: self.line,
-            deed,
-            session,
+            form: Arc::try_clone(&self.form)?,
         })
     }
 }
@@ -216,12 +222,12 @@ impl ItemForm {
         })
     }
 
-    fn copy(&self, alloc: Global) -> Result<ItemForm, AllocError>
+    fn copy(&self) -> Result<ItemForm, AllocError>
         ensures { IfOk result (λ copy. item_of copy ≡ item_of self.now) }
     {
         Ok(match self {
-            ItemForm::ToMachine(item) => ItemForm::ToMachine(item.copy(alloc)?),
-            ItemForm::ToLine(item) => ItemForm::ToLine(item.copy(alloc)?),
+            ItemForm::ToMachine(item) => ItemForm::ToMachine(item.copy()?),
+            ItemForm::ToLine(item) => ItemForm::ToLine(item.copy()?),
             ItemForm::Dial { peer, generation } => ItemForm::Dial {
                 peer: *peer,
                 generation: *generation,
@@ -290,11 +296,11 @@ impl KeptItem {
         }
     }
 
-    /// The same item in memory of its own.
-    pub fn copy(&self, alloc: Global) -> Result<KeptItem, AllocError>
+    /// The same item, in the same memory.
+    pub fn copy(&self) -> Result<KeptItem, AllocError>
         ensures { IfOk result (λ copy. copy ≡ self.now) }
     {
-        let form = self.form.copy(alloc)?;
+        let form = self.form.copy()?;
         Ok(KeptItem { form })
     }
 

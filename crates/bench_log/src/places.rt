@@ -76,16 +76,6 @@ impl Places {
         })
     }
 
-    /// The same numbers in memory of their own.
-    pub(crate) fn copy(&self, alloc: Global) -> Result<Places, AllocError>
-        ensures { IfOk result (λ copy. copy ≡ self.now) }
-    {
-        Ok(Places {
-            octets: Vec::from_slice(alloc, self.octets.as_slice())?,
-            count: self.count,
-        })
-    }
-
     /// The numbers that are kept. Takes no memory.
     pub(crate) fn show(&self) -> [u64; PLACES]
         ensures { result ≡ self.now }

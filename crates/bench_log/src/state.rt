@@ -73,15 +73,6 @@ impl KeptEvent {
         Ok(KeptEvent { kind, facts })
     }
 
-    /// The same event in memory of its own.
-    pub(crate) fn copy(&self, alloc: Global) -> Result<KeptEvent, AllocError>
-        ensures { IfOk result (λ copy. copy ≡ self.now) }
-    {
-        let facts = self.facts.copy(alloc)?;
-        let kind = self.kind;
-        Ok(KeptEvent { kind, facts })
-    }
-
     /// The event. Takes no memory.
     pub(crate) fn show(&self) -> Event
         ensures { result ≡ self.now }
@@ -114,15 +105,6 @@ impl KeptDeed {
     {
         let a = Places::keep(alloc, &plain.a)?;
         let code = plain.code;
-        Ok(KeptDeed { code, a })
-    }
-
-    /// The same deed in memory of its own.
-    pub(crate) fn copy(&self, alloc: Global) -> Result<KeptDeed, AllocError>
-        ensures { IfOk result (λ copy. copy ≡ self.now) }
-    {
-        let a = self.a.copy(alloc)?;
-        let code = self.code;
         Ok(KeptDeed { code, a })
     }
 

@@ -20,7 +20,7 @@ pub filter_map-none : {X Y : Type 0} (f : X → Option Y) (xs : List X) (i : ℕ
 filter_map-none f xs i d l n = rw (take_more xs i d l, filter_map-append f (take i xs) (get_or xs i d ∷ []), n) (append-nil (filter_map f (take i xs)))
 
 -- the outcome of one more operation
-outcomes_of-more : (book : Book) (ops : List Op) (op : Op) → outcomes_of book (ops ++ op ∷ []) ≡ outcomes_of book ops ++ outcome_of (fold after book ops) op ∷ []
+pub outcomes_of-more : (book : Book) (ops : List Op) (op : Op) → outcomes_of book (ops ++ op ∷ []) ≡ outcomes_of book ops ++ outcome_of (fold after book ops) op ∷ []
 outcomes_of-more book [] op = refl
 outcomes_of-more book (o ∷ ops) op = ap (λ rest. outcome_of book o ∷ rest) (outcomes_of-more (after book o) ops op)
 

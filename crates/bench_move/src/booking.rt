@@ -1,6 +1,6 @@
 //! The operations of deeds, and the outcomes that the account book allows to them.
 
-ghost use Rattle.std.specs.Prelude.{◌≡◌, ◌≤◌, ◌+◌, ◌-◌, ◌++◌, fold, filter, filter_map, length, max, replicate, IfOk};
+ghost use Rattle.std.specs.Prelude.{◌≡◌, ◌≤◌, ◌+◌, ◌-◌, ◌++◌, ◌∷◌, [], fold, filter, filter_map, length, max, replicate, IfOk};
 ghost use Rattle.std.specs.Prelude.{OnOk, OnErr, vec_len, vec_capacity};
 ghost use Rattle.acct_book.specs.Book.{after, with_book};
 ghost use Rattle.acct_totals.specs.declared.op.Outcome.TheVariants.{Refused};
@@ -120,16 +120,35 @@ fn take_back(page: &mut Page, count: usize)
     }
 }
 
-/// The outcomes that a page allows to operations, one after the other. They are booked and taken back.
+/// The outcomes that a page allows to operations, the last of them apart: those before it are booked for it, and taken
+/// back.
+fn outcomes_with(
+    alloc: Global,
+    page: &mut Page,
+    earlier: &[Op],
+    last: Op,
+) -> Result<Vec<Outcome>, AllocError>
+    ensures outcomes { IfOk result (λ outcomes. outcomes.items ≡ outcomes_of page.old.book (earlier.now ++ last ∷ [])) }
+    ensures page { page.new ≡ with_book page.old page.old.book page.new.room }
+{
+    let mut outcomes = Vec::with_capacity(alloc, earlier.len().saturating_add(1))?;
+    make_room(page, earlier.len())?;
+    apply_all(page, earlier, &mut outcomes);
+    let outcome = page.outcome(last);
+    take_back(page, earlier.len());
+    outcomes.push(outcome)?;
+    Ok(outcomes)
+}
+
+/// The outcomes that a page allows to operations, one after the other.
 fn page_outcomes(alloc: Global, page: &mut Page, ops: &[Op]) -> Result<Vec<Outcome>, AllocError>
     ensures outcomes { IfOk result (λ outcomes. outcomes.items ≡ outcomes_of page.old.book ops.now) }
     ensures page { page.new ≡ with_book page.old page.old.book page.new.room }
 {
-    let mut outcomes = Vec::with_capacity(alloc, ops.len())?;
-    make_room(page, ops.len())?;
-    apply_all(page, ops, &mut outcomes);
-    take_back(page, ops.len());
-    Ok(outcomes)
+    match ops.split_last() {
+        None => Ok(Vec::new(alloc)),
+        Some((last, earlier)) => outcomes_with(alloc, page, earlier, *last),
+    }
 }
 
 /// The outcomes of deeds that came of an item that asked this, which are these operations.

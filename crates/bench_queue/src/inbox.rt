@@ -1,6 +1,6 @@
 //! What comes to a shard.
 ghost use Rattle.std.specs.Prelude.{◌≡◌, ◌<◌, ◌≤◌, ◌∷◌, ◌-◌, [], None, Ok, IsOk, IfOk, OnOk, OnErr, IsTrue};
-ghost use Rattle.std.specs.Prelude.{length, max, nat_lt};
+ghost use Rattle.std.specs.Prelude.{length, max, nat_lt, option_copied};
 ghost use Rattle.bench_queue.specs.Inbox.{InboxState, items_in, next_in, nothing_in, put_in, unworked_one};
 ghost use Rattle.bench_queue.specs.Inbox.{waiting_in, without_in, worked_one};
 
@@ -14,7 +14,7 @@ use std::marker::Model;
 /// can be put without memory.
 ///
 /// In: `reserve`, `put`, taken back by `unput`. Out: `work_one`, taken back by `unwork`.
-/// Looks: `waiting`, `next`, `items`.
+/// Looks: `waiting`, `next`, `next_kept`, `items`.
 pub struct Inbox {
     items: Vec<KeptMachineItem>,
     worked: usize,
@@ -73,6 +73,13 @@ impl Inbox {
             None => Ok(None),
             Some(kept) => Ok(Some(kept.show(alloc)?)),
         }
+    }
+
+    /// The oldest item that waits as it is kept, if one does. Takes no memory.
+    pub fn next_kept(&self) -> Option<&KeptMachineItem>
+        ensures { option_copied result ≡ next_in self.now.view }
+    {
+        self.items.get(self.worked)
     }
 
     /// The items that wait, oldest first.
