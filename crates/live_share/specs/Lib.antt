@@ -1,4 +1,0 @@
-pub mod Kept
-pub mod Worked
-pub mod Carried
-pub mod Happened
