@@ -2,8 +2,8 @@ use Rattle.std.proofs.Common.{◌≡◌, None, Option, rules, subst, true}
 use Rattle.std.specs.Prelude.{IfErr, IfOk, unwrap_or}
 use Rattle.bench_desk.specs.declared.fault.DeskFault.{DeskFault}
 use Rattle.bench_desk.specs.declared.fault.DeskFault.TheVariants.{NoMemory}
-use Rattle.live_slot.proofs.SlotLemmas.{home-is, look-home}
-use Rattle.live_slot.proofs.slot.Slot.look.Goals as goal
+use Rattle.live_share.proofs.SlotLemmas.{home-is, look-home}
+use Rattle.live_share.proofs.slot.Slot.look.Goals as goal
 
 pub returns-clause-could : goal.returns-clause-could
 returns-clause-could g c =

@@ -5,13 +5,13 @@ ghost use Rattle.bench_desk.specs.Working.{Holds, IsWorked, key_in_part, lift_re
 ghost use Rattle.bench_desk.specs.Working.{work_refusal};
 ghost use Rattle.bench_queue.specs.Outbox.{next_out};
 ghost use Rattle.bench_shard.specs.Tasks.{IsTask};
-ghost use Rattle.live_slot.specs.Slots.{is_idle, key_for};
+ghost use Rattle.live_share.specs.Slots.{is_idle, key_for};
 
-use crate::hand::Hand;
 use acct_book::Page;
 use bench_desk::{CarryFault, ShardPart};
 use bench_item::{Item, Key};
 use bench_shard::{Task, WorkFault};
+use live_slot::Hand;
 use std::alloc::AllocError;
 use tab_call::Registry;
 use tab_step::Stepped;

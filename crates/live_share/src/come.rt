@@ -8,13 +8,13 @@ ghost use Rattle.bench_item.specs.declared.source.Source.TheVariants.{Desk as Fr
 ghost use Rattle.bench_spec.specs.Desks.{agrees, tell_kept};
 ghost use Rattle.bench_spec.specs.Merged.{Saw};
 ghost use Rattle.bench_spec.specs.Settings.{Settings};
-ghost use Rattle.live_slot.specs.Slots.{HasArrived, is_for, is_home_of, look_refusal_at, tell_refusal_at};
+ghost use Rattle.live_share.specs.Slots.{HasArrived, is_for, is_home_of, look_refusal_at, tell_refusal_at};
 
 use crate::slot::Slot;
-use crate::turn::Turn;
 use bench_desk::{Desk, DeskFault, Look, ShardPart};
 use bench_item::{Key, MachineItem, Source, home};
 use bench_shard::PutError;
+use live_slot::Turn;
 use tab_step::Event;
 
 /// Whether a part is that of the shard of a machine, of so many.

@@ -6,7 +6,7 @@ use Rattle.bench_desk.specs.Parts.{PartView}
 use Rattle.bench_desk.specs.declared.fault.DeskFault.TheVariants.{Unknown}
 use Rattle.bench_item.specs.declared.key.Key.{Key}
 use Rattle.bench_spec.specs.Settings.{Settings}
-use Rattle.live_slot.specs.Slots.{is_home_of, look_refusal_at}
+use Rattle.live_share.specs.Slots.{is_home_of, look_refusal_at}
 
 -- what was found of so many shards holds of the desk's, which are as many
 pub home-is : (part : PartView) (shards own : ℕ) (key : Key) (r : Bool) → r ≡ is_home_of part own key → own ≡ shards → r ≡ true

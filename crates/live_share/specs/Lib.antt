@@ -1,0 +1,5 @@
+pub mod Slots
+pub mod Kept
+pub mod Worked
+pub mod Carried
+pub mod Happened
