@@ -1,10 +1,13 @@
 -- What an input that is read whole gives, and why one is not read whole.
-use Rattle.std.specs.Prelude.{◌≡◌, ◌≤◌, ℕ, ◌+◌, List, Option, codes}
+use Rattle.std.specs.Prelude.{◌≡◌, ◌≤◌, ℕ, ◌+◌, ◌++◌, ◌⊎◌, List, Option, Some, None, codes}
 use Rattle.std.specs.Io.KnownBytes.{Consumes, IsAtEnd}
 use Rattle.base_device.specs.Devices.{Tells}
 use Rattle.base_device.specs.declared.status.Status.{Status}
 use Rattle.base_device.specs.declared.status.Status.TheVariants.{Fault}
 use Rattle.base_device.specs.declared.status.Status.TheVariants as statuses
+use Rattle.base_device.specs.declared.inputs.OpenError.{OpenError}
+use Rattle.base_device.specs.declared.inputs.OpenError.TheVariants.{Directory}
+use Rattle.base_device.specs.declared.inputs.OpenError.TheVariants as opens
 use Rattle.base_device.specs.declared.whole.InputError.{InputError}
 use Rattle.base_device.specs.declared.whole.InputError.TheVariants.{NotOpened, Failed, NoEnd, NoMemory}
 
@@ -37,3 +40,29 @@ IsToldUnread contents failures idle old new NoMemory answer =
     Tells contents failures idle old new (codes "no memory\n") statuses.NoMemory answer
 IsToldUnread contents failures idle old new why answer =
     (text : List ℕ) × Tells contents failures idle old new text Fault answer
+
+-- what is said of a file that is not opened
+abbrev pub not_opened : List ℕ → OpenError → List ℕ
+not_opened name Directory = codes "read fault: " ++ name ++ codes " is a directory\n"
+not_opened name opens.Failed = codes "read fault: " ++ name ++ codes " can't be opened\n"
+
+-- what is said of an input that is not read whole: a file of this name, or standard input
+abbrev pub not_read : Option (List ℕ) → InputError → List ℕ
+not_read name NoMemory = codes "no memory\n"
+not_read name NoEnd = codes "read fault: no end of input after 1048576 reads\n"
+not_read (Some name) (NotOpened why) = not_opened name why
+not_read (Some name) Failed = codes "read fault: " ++ name ++ codes " can't be read\n"
+not_read None (NotOpened why) = codes "read fault\n"
+not_read None Failed = codes "read fault\n"
+
+-- the status that it is told with
+abbrev pub unread_status : InputError → Status
+unread_status NoMemory = statuses.NoMemory
+unread_status why = Fault
+
+-- This is told with this status; where memory is wanting for a text that holds a name, only that a read failed.
+abbrev pub IsSaid : {O : Type 0} → (contents : O → Option (List ℕ)) → (failures idle : O → ℕ) → (old new : O)
+    → (text : List ℕ) → (status answer : Status) → Type 0
+IsSaid contents failures idle old new text status answer =
+    Tells contents failures idle old new text status answer
+    ⊎ Tells contents failures idle old new (codes "read fault\n") Fault answer

@@ -1,7 +1,16 @@
 //! Inputs that are read whole.
-ghost use Rattle.std.specs.Prelude.{◌≡◌, ◌<◌, ◌≤◌, ◌+◌, ◌-◌, ◌^◌, max, length, List, [], ℕ, IfOk, IfErr, OnOk};
+ghost use Rattle.std.specs.Prelude.{◌≡◌, ◌<◌, ◌≤◌, ◌+◌, ◌-◌, ◌^◌, max, length, List, [], ℕ, Some, option_copied, IfOk, IfErr, OnOk};
 ghost use Rattle.base_device.specs.Devices.{failures_after, Tells};
-ghost use Rattle.base_device.specs.Inputs.{IsRead, IsInput, IsUnread, IsToldUnread};
+ghost use Rattle.base_device.specs.Inputs.{
+  IsRead,
+  IsInput,
+  IsUnread,
+  IsToldUnread,
+  IsSaid,
+  not_opened,
+  not_read,
+  unread_status,
+};
 
 use crate::device::{ByteSink, ByteSource};
 use crate::inputs::{FileSource, OpenError};
@@ -126,7 +135,9 @@ pub fn read_input<I: FileSource>(
     read_whole(alloc, source)
 }
 
-fn not_opened_text(alloc: Global, name: &str, why: OpenError) -> Result<String, AllocError> {
+fn not_opened_text(alloc: Global, name: &str, why: OpenError) -> Result<String, AllocError>
+    ensures { IfOk result (λ text. text.bytes.items ≡ not_opened name.now why) }
+{
     match why {
         OpenError::Directory => format!(in alloc; "read fault: {name} is a directory\n"),
         OpenError::Failed => format!(in alloc; "read fault: {name} can't be opened\n"),
@@ -143,6 +154,7 @@ pub fn tell_not_opened<O: ByteSink>(
     requires idle { O.idle sink.old ≡ 0 }
     requires failures { O.failures sink.old < 2 ^ 64 - 1 }
     ensures told { (text : List ℕ) × Tells O.contents O.failures O.idle sink.old sink.new text Status.Fault result }
+    ensures said { IsSaid O.contents O.failures O.idle sink.old sink.new (not_opened name.now why) Status.Fault result }
     ensures row { O.most_idle sink.new ≤ max (O.most_idle sink.old) MAX_IDLE_WRITES }
 {
     match not_opened_text(alloc, name, why) {
@@ -151,7 +163,9 @@ pub fn tell_not_opened<O: ByteSink>(
     }
 }
 
-fn not_read_text(alloc: Global, name: &str) -> Result<String, AllocError> {
+fn not_read_text(alloc: Global, name: &str) -> Result<String, AllocError>
+    ensures { IfOk result (λ text. text.bytes.items ≡ not_read (Some name.now) InputError.Failed) }
+{
     format!(in alloc; "read fault: {name} can't be read\n")
 }
 
@@ -160,6 +174,7 @@ fn tell_not_read<O: ByteSink>(alloc: Global, name: &str, sink: &mut O) -> Status
     requires idle { O.idle sink.old ≡ 0 }
     requires failures { O.failures sink.old < 2 ^ 64 - 1 }
     ensures told { (text : List ℕ) × Tells O.contents O.failures O.idle sink.old sink.new text Status.Fault result }
+    ensures said { IsSaid O.contents O.failures O.idle sink.old sink.new (not_read (Some name.now) InputError.Failed) Status.Fault result }
     ensures row { O.most_idle sink.new ≤ max (O.most_idle sink.old) MAX_IDLE_WRITES }
 {
     match not_read_text(alloc, name) {
@@ -178,6 +193,7 @@ pub fn tell_unread<O: ByteSink>(
     requires idle { O.idle sink.old ≡ 0 }
     requires failures { O.failures sink.old < 2 ^ 64 - 1 }
     ensures told { IsToldUnread O.contents O.failures O.idle sink.old sink.new why result }
+    ensures said { IsSaid O.contents O.failures O.idle sink.old sink.new (not_read (option_copied name.entry) why) (unread_status why) result }
     ensures row { O.most_idle sink.new ≤ max (O.most_idle sink.old) MAX_IDLE_WRITES }
 {
     match (why, name) {

@@ -22,6 +22,8 @@ pub struct Lines<'a> {
 }
 
 impl<'a> Clone for Lines<'a> {
+    ghost is_clone = { λ own copy. copy ≡ own };
+
     fn clone(&self) -> Result<Lines<'a>, AllocError> {
         Ok(*self)
     }

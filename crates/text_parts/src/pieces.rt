@@ -13,6 +13,8 @@ pub struct Pieces<'a> {
 }
 
 impl<'a> Clone for Pieces<'a> {
+    ghost is_clone = { λ own copy. copy ≡ own };
+
     fn clone(&self) -> Result<Pieces<'a>, AllocError> {
         Ok(*self)
     }
