@@ -211,9 +211,15 @@ pub(crate) fn arrive(
             let arrival = put_event(shards, copy)?;
             Ok(arrival)
         }
-        None => {
-            let plain = item.show(alloc)?;
-            arrive_elsewhere(shards, lines, carried, wheel, &plain)
-        }
+        None => match item.deed() {
+            Some(deed) => {
+                let delivered = deliver(lines, deed)?;
+                Ok(delivered)
+            }
+            None => {
+                let plain = item.show(alloc)?;
+                arrive_elsewhere(shards, lines, carried, wheel, &plain)
+            }
+        },
     }
 }

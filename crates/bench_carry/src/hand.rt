@@ -27,7 +27,11 @@ fn dropped_on(carried: &[usize], line: u32) -> Option<usize>
 }
 
 /// The item in the hand of a connection, if one lies there.
-fn held_on_line<'a>(lines: &'a Lines<Listener>, carried: &[usize], line: u32) -> Option<&'a Item>
+fn held_on_line<'a>(
+    lines: &'a Lines<Listener>,
+    carried: &[usize],
+    line: u32,
+) -> Option<&'a KeptItem>
     ensures { option_copied result ≡ hand_on lines.now.lines carried.now line }
 {
     let count = dropped_on(carried, line)?;
@@ -57,16 +61,6 @@ fn held_in_shard(shards: &[ShardState], place: usize) -> Option<&KeptItem>
     }
 }
 
-/// An item, if there is one, kept small.
-pub(crate) fn keep(alloc: Global, item: Option<&Item>) -> Result<Option<KeptItem>, AllocError>
-    ensures { IfOk result (λ kept. kept ≡ option_copied item.entry) }
-{
-    match item {
-        None => Ok(None),
-        Some(item) => Ok(Some(KeptItem::keep(alloc, item)?)),
-    }
-}
-
 /// A copy of an item that is kept, if there is one.
 pub(crate) fn copy(kept: Option<&KeptItem>) -> Result<Option<KeptItem>, AllocError>
     ensures { IfOk result (λ copy. copy ≡ option_copied kept.entry) }
@@ -74,19 +68,6 @@ pub(crate) fn copy(kept: Option<&KeptItem>) -> Result<Option<KeptItem>, AllocErr
     match kept {
         None => Ok(None),
         Some(kept) => Ok(Some(kept.copy()?)),
-    }
-}
-
-/// A copy of an item, if there is one.
-fn again(alloc: Global, item: Option<&Item>) -> Result<Option<Item>, AllocError>
-    ensures { IfOk result (λ copy. copy ≡ option_copied item.entry) }
-{
-    match item {
-        None => Ok(None),
-        Some(item) => {
-            let kept = KeptItem::keep(alloc, item)?;
-            Ok(Some(kept.show(alloc)?))
-        }
     }
 }
 
@@ -113,7 +94,7 @@ pub fn hand_item(
         → item ≡ hand_of source (with_hands s shards.now outboxes.now lines.now.lines carried.now)) }
 {
     match source {
-        Source::Line(line) => again(alloc, held_on_line(lines, carried, line)),
+        Source::Line(line) => show(alloc, held_on_line(lines, carried, line)),
         Source::Shard(shard) => show(alloc, held_in_shard(shards, shard as usize)),
         Source::Desk(desk) => show(alloc, held_at(outboxes, desk as usize + 1)),
         Source::Clock => show(alloc, held_at(outboxes, 0)),
@@ -122,7 +103,6 @@ pub fn hand_item(
 
 /// A copy of the item in the hand of a source, kept small, if one lies there.
 pub fn hand_copy(
-    alloc: Global,
     shards: &[ShardState],
     outboxes: &[Outbox],
     lines: &Lines<Listener>,
@@ -133,7 +113,7 @@ pub fn hand_copy(
         → item ≡ hand_of source (with_hands s shards.now outboxes.now lines.now.lines carried.now)) }
 {
     match source {
-        Source::Line(line) => keep(alloc, held_on_line(lines, carried, line)),
+        Source::Line(line) => copy(held_on_line(lines, carried, line)),
         Source::Shard(shard) => copy(held_in_shard(shards, shard as usize)),
         Source::Desk(desk) => copy(held_at(outboxes, desk as usize + 1)),
         Source::Clock => copy(held_at(outboxes, 0)),
@@ -171,21 +151,8 @@ fn is_home_crowded(shards: &[ShardState], key: &Key) -> bool
     }
 }
 
-/// Whether there is no room where an item is for: in the inbox of its machine's shard, or for one more connection.
-/// Takes no memory.
-pub fn lacks_room(shards: &[ShardState], lines: &Lines<Listener>, item: &Item) -> bool
-    requires some { 0 < length shards.now }
-    requires few { length shards.now ≤ MAX_SHARDS }
-    ensures { result ≡ lacks_room shards.now lines.now.lines item.now }
-{
-    match item {
-        Item::ToMachine(item) => is_home_crowded(shards, &item.key),
-        Item::Dial { .. } => lines.is_full(),
-        _ => false,
-    }
-}
-
-/// The same of an item that is kept, if there is one.
+/// Whether there is no room where an item is for, if there is one: in the inbox of its machine's shard, or for one more
+/// connection.
 fn kept_lacks_room(shards: &[ShardState], lines: &Lines<Listener>, kept: Option<&KeptItem>) -> bool
     requires some { 0 < length shards.now }
     requires few { length shards.now ≤ MAX_SHARDS }
@@ -214,10 +181,9 @@ pub fn hand_lacks_room(
         (hand_of source (with_hands s shards.now outboxes.now lines.now.lines carried.now)) false }
 {
     match source {
-        Source::Line(line) => match held_on_line(lines, carried, line) {
-            None => false,
-            Some(item) => lacks_room(shards, lines, item),
-        },
+        Source::Line(line) => {
+            kept_lacks_room(shards, lines, held_on_line(lines, carried, line))
+        }
         Source::Shard(shard) => {
             kept_lacks_room(shards, lines, held_in_shard(shards, shard as usize))
         }

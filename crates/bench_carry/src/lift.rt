@@ -1,7 +1,6 @@
 //! The oldest item that waits at a source is lifted into its hand.
 ghost use Rattle.std.specs.Prelude.{◌≡◌, true, IfOk, option_copied, slice_get, Some};
 ghost use Rattle.std.specs.Option.{option_and_then};
-ghost use Rattle.bench_line.specs.Lines.{next_on};
 ghost use Rattle.bench_queue.specs.Outbox.{OutboxState, can_lift, lifted_one, next_out, unlifted_one};
 ghost use Rattle.bench_shard.specs.View.{ShardView, with_outbox};
 ghost use Rattle.bench_views.specs.Behind.{changed_at, lifted_from};
@@ -12,7 +11,7 @@ ghost use Rattle.bench_carry.specs.Placed.{IsPlaced};
 ghost use Rattle.bench_carry.specs.Seen.{CanBeLifted, views_of, with_seen};
 ghost use Rattle.bench_carry.specs.Undone.{BooksNothing, undone};
 
-use crate::hand::{copy, keep};
+use crate::hand::copy;
 use bench_item::Source;
 use bench_line::Lines;
 use bench_log::KeptItem;
@@ -20,18 +19,7 @@ use bench_queue::Outbox;
 use bench_shard::ShardState;
 use bench_undo::Undo;
 use line_message::Listener;
-use std::alloc::{AllocError, Global};
-
-/// A copy of the oldest item that waits on a connection, if one does.
-fn next_on_line(
-    alloc: Global,
-    lines: &Lines<Listener>,
-    line: u32,
-) -> Result<Option<KeptItem>, AllocError>
-    ensures { IfOk result (λ item. item ≡ next_on lines.now.lines line) }
-{
-    keep(alloc, lines.next(line as u64))
-}
+use std::alloc::AllocError;
 
 /// The oldest item that waits in the outbox at a place, if one does.
 fn next_at(outboxes: &[Outbox], place: usize) -> Option<&KeptItem>
@@ -55,7 +43,6 @@ fn next_in_shard(shards: &[ShardState], place: usize) -> Option<&KeptItem>
 
 /// A copy of the oldest item that waits at a source, if one does.
 pub fn next_item(
-    alloc: Global,
     shards: &[ShardState],
     outboxes: &[Outbox],
     lines: &Lines<Listener>,
@@ -65,7 +52,7 @@ pub fn next_item(
         → item ≡ next_of source (with_seen s shards.now outboxes.now lines.now.lines)) }
 {
     match source {
-        Source::Line(line) => next_on_line(alloc, lines, line),
+        Source::Line(line) => copy(lines.next(line as u64)),
         Source::Shard(shard) => copy(next_in_shard(shards, shard as usize)),
         Source::Desk(desk) => copy(next_at(outboxes, desk as usize + 1)),
         Source::Clock => copy(next_at(outboxes, 0)),

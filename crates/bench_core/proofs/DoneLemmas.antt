@@ -135,7 +135,7 @@ pub record Done (settings : Settings) (log : List Entry) (k p : ℕ) (v : ShardV
   pub asked : IsAskedBy settings p item handled
   pub posts_are : own ≡ handled_posts settings.node handled item
 
-done-facts : (settings : Settings) (log logged : List Entry) (s : Stored) (pages : List Paged) (k p : ℕ) (v w : ShardView) (page paged : Paged) (undos undone : List Undo) → IsTied settings log s → s.books ≡ map (λ p. p.book) pages → slice_get s.shards k ≡ Some v → slice_get pages p ≡ Some page → ((item : MachineItem) → next_in v.inbox ≡ Some item → IsAsked settings.pages p (wanted settings.node.laws v item)) → (done : IsDone (tables_of settings) k p v w page paged log logged undos undone) → Done settings log k p v page done.work.item done.work.handled done.work.effects.posts
+done-facts : (settings : Settings) (log logged : List Entry) (s : Stored) (pages : List Paged) (k p : ℕ) (v w : ShardView) (page paged : Paged) (undos undone : List Undo) → IsTied settings log s → s.books ≡ map (λ p. p.book) pages → slice_get s.shards k ≡ Some v → slice_get pages p ≡ Some page → ((item : MachineItem) → next_in v.inbox ≡ Some item → IsAsked settings.pages p (wanted settings.node.laws v item)) → (done : IsDone (tables_of settings) k p v w page paged log logged undos undone) → Done settings log k p v page done.work.item done.work.handled done.work.effects.posts.items
 done-facts settings log logged s pages k p v w page paged undos undone tied kept at there asked done = record {
   next = next;
   becomes = (becomes-logged settings log v page.book done.work.item done.work.handled stands next same).0 done.decided.becomes;
@@ -162,18 +162,18 @@ done-follows settings log logged paused s pages k p v w page paged undos undone 
 pub done-whole : (settings : Settings) (log logged : List Entry) (paused : List Bool) (s : Stored) (pages : List Paged) (k p : ℕ) (v w : ShardView) (page paged : Paged) (undos undone : List Undo) → IsWhole settings log s undos → s.books ≡ map (λ p. p.book) pages → refusal settings log paused (Work k) ≡ None → slice_get s.shards k ≡ Some v → slice_get pages p ≡ Some page → ((item : MachineItem) → next_in v.inbox ≡ Some item → IsAsked settings.pages p (wanted settings.node.laws v item)) → IsDone (tables_of settings) k p v w page paged log logged undos undone → IsWhole settings logged (record s { shards = slice_set s.shards k w; books = map (λ p. p.book) (slice_set pages p paged) }) undone
 done-whole settings log logged paused s pages k p v w page paged undos undone whole kept could at there asked done =
     rw (done.written.log_is, shards, books, undos_are)
-    (work-whole settings log paused s undos k p v page.book done.work.item done.work.handled done.work.effects.posts done.written.change whole could at booked d.next d.becomes d.asked d.posts_are back)
+    (work-whole settings log paused s undos k p v page.book done.work.item done.work.handled done.work.effects.posts.items done.written.change whole could at booked d.next d.becomes d.asked d.posts_are back)
   where
-    d : Done settings log k p v page done.work.item done.work.handled done.work.effects.posts
+    d : Done settings log k p v page done.work.item done.work.handled done.work.effects.posts.items
     d = done-facts settings log logged s pages k p v w page paged undos undone whole.tied kept at there asked done
 
     booked : slice_get s.books p ≡ Some page.book
     booked = ap (λ bs. slice_get bs p) kept ∙ slice_get-map (λ p. p.book) pages p ∙ ap (option_map (λ p. p.book)) there
 
-    back : taken_back done.written.change (after_work v done.work.item done.work.handled done.work.effects.posts) ≡ v
+    back : taken_back done.written.change (after_work v done.work.item done.work.handled done.work.effects.posts.items) ≡ v
     back = subst (λ u. taken_back done.written.change u ≡ v) done.written.shard_is done.written.back
 
-    shards : slice_set s.shards k w ≡ slice_set s.shards k (after_work v done.work.item done.work.handled done.work.effects.posts)
+    shards : slice_set s.shards k w ≡ slice_set s.shards k (after_work v done.work.item done.work.handled done.work.effects.posts.items)
     shards = ap (slice_set s.shards k) done.written.shard_is
 
     books : map (λ p. p.book) (slice_set pages p paged) ≡ slice_set s.books p (booked_on settings done.work.item done.work.handled page.book)

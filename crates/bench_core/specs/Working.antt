@@ -25,7 +25,7 @@ Holds old new book = (new.number ≡ old.number) × (new.pages ≡ old.pages) ×
 -- what is written where work is done: the shard, the page, the entry, and the record that takes it back
 pub record IsWritten (shard page : ℕ) (work : Work) (v w : ShardView) (p q : Paged) (log logged : List Entry)
     (undos undone : List Undo) : Type 0 where
-  pub shard_is : w ≡ after_work v work.item work.handled work.effects.posts
+  pub shard_is : w ≡ after_work v work.item work.handled work.effects.posts.items
   pub page_is : Holds p q (fold after p.book work.effects.ops)
   pub log_is : logged ≡ log ++ work_entry shard work.item work.handled ∷ []
   pub change : ShardRecord

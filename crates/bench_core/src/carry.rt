@@ -18,8 +18,7 @@ impl Core {
         ensures ok { OnOk result (Takes self.old self.new (steps.Lift source)) }
         ensures err { OnErr result (self.new ≡ self.old) }
     {
-        let alloc = self.alloc;
-        let item = next_item(alloc, &self.shards, &self.outboxes, &self.lines, source)?;
+        let item = next_item(&self.shards, &self.outboxes, &self.lines, source)?;
         let entry = KeptEntry::of_lift(source, item);
         make_room(&mut self.log, &mut self.undo)?;
         let undo = lift_at(
@@ -41,7 +40,6 @@ impl Core {
     {
         let alloc = self.alloc;
         let item = match hand_copy(
-            alloc,
             &self.shards,
             &self.outboxes,
             &self.lines,

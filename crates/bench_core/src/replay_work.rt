@@ -14,7 +14,7 @@ use crate::work::write;
 use acct_book::Page;
 use bench_carry::are_machine_items_same;
 use bench_item::{Handled, MachineItem};
-use bench_log::Log;
+use bench_log::{KeptHandled, KeptMachineItem, Log};
 use bench_move::Roles;
 use bench_shard::{ShardState, Task, Work};
 use bench_undo::UndoLog;
@@ -43,18 +43,18 @@ fn redo_task(
     ensures err { OnErr result (IsUnwritten shard.old shard.new page.old page.new log.old.entries log.new.entries
         undo.old.records undo.new.records) }
 {
-    if !are_machine_items_same(&task.item, &item) {
+    if !are_machine_items_same(task.item.plain(), &item) {
         return Err(ReplayError::Illegal);
     }
     match shard.check(alloc, roles, page, task, &handled, room)? {
         None => Err(ReplayError::Illegal),
         Some(effects) => {
             let work = Work {
-                item,
-                handled,
+                item: KeptMachineItem::new(alloc, item)?,
+                handled: KeptHandled::keep(alloc, &handled)?,
                 effects,
             };
-            write(alloc, number, shard, place, page, log, undo, &work)?;
+            write(number, shard, place, page, log, undo, work)?;
             Ok(())
         }
     }

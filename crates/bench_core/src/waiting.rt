@@ -9,19 +9,10 @@ ghost use Rattle.bench_core.specs.Waiting.{waiting_at, waiting_in, waiting_of, w
 use crate::keeping::Core;
 use bench_item::{Item, Series, Source};
 use bench_line::Lines;
-use bench_log::KeptItem;
 use bench_queue::Outbox;
 use bench_shard::ShardState;
 use line_message::Listener;
 use std::alloc::{AllocError, Global};
-
-/// A copy of an item.
-fn copy(alloc: Global, item: &Item) -> Result<Item, AllocError>
-    ensures { IfOk result (λ copy. copy ≡ item.now) }
-{
-    let kept = KeptItem::keep(alloc, item)?;
-    kept.show(alloc)
-}
 
 /// The items that wait on a connection, oldest first; none where it is not there.
 fn waiting_on(alloc: Global, lines: &Lines<Listener>, line: u64) -> Result<Vec<Item>, AllocError>
@@ -31,7 +22,7 @@ fn waiting_on(alloc: Global, lines: &Lines<Listener>, line: u64) -> Result<Vec<I
     for place in lines.lifted(line)..usize::MAX {
         match lines.item(line, place) {
             None => return Ok(items),
-            Some(item) => items.push(copy(alloc, item)?)?,
+            Some(item) => items.push(item.show(alloc)?)?,
         }
     }
     // No memory holds as many.

@@ -15,7 +15,7 @@ use acct_book::Page;
 use acct_totals::Op;
 use bench_log::{KeptEntry, Log};
 use bench_move::Roles;
-use bench_shard::{ShardState, Task, Work};
+use bench_shard::{Effects, ShardState, Task, Work};
 use bench_undo::{Undo, UndoLog};
 use std::alloc::{AllocError, Global};
 use tab_call::Registry;
@@ -43,47 +43,33 @@ fn book(page: &mut Page, ops: &[Op])
     }
 }
 
-/// The entry in which a shard handles its oldest item, which the entry shares with the inbox.
-fn keep_work(
-    alloc: Global,
-    number: u32,
-    shard: &ShardState,
-    work: &Work,
-) -> Result<KeptEntry, AllocError>
-    requires { Fits shard.now work.now.item work.now.handled }
-    ensures { IfOk result (λ kept. kept ≡ work_entry number work.now.item work.now.handled) }
-{
-    match shard.next_item_kept() {
-        Some(item) => KeptEntry::keep_work(alloc, number, item, &work.handled),
-        None => unreachable!(),
-    }
-}
-
 /// Writes what a shard is to do: all of it, or nothing where memory is refused.
 pub(crate) fn write(
-    alloc: Global,
     number: u32,
     shard: &mut ShardState,
     place: u64,
     page: &mut Page,
     log: &mut Log,
     undo: &mut UndoLog,
-    work: &Work,
+    work: Work,
 ) -> Result<(), AllocError>
-    requires { Fits shard.old work.now.item work.now.handled }
-    ensures ok { OnOk result (IsWritten number place work.now shard.old shard.new page.old page.new log.old.entries
+    requires { Fits shard.old work.item work.handled }
+    ensures ok { OnOk result (IsWritten number place work shard.old shard.new page.old page.new log.old.entries
         log.new.entries undo.old.records undo.new.records) }
     ensures err { OnErr result (IsUnwritten shard.old shard.new page.old page.new log.old.entries log.new.entries
         undo.old.records undo.new.records) }
 {
-    let kept = keep_work(alloc, number, shard, work)?;
-    let ops = work.effects.ops.as_slice();
+    let Work {
+        item,
+        handled,
+        effects,
+    } = work;
+    let Effects { posts, ops } = effects;
     make_room(log, undo)?;
     make_page_room(page, ops.len())?;
-    let posts = work.effects.posts.as_slice();
-    let record = shard.commit(&work.item, &work.handled, posts)?;
-    book(page, ops);
-    log.put(kept);
+    let record = shard.commit(item.plain(), &handled, posts)?;
+    book(page, ops.as_slice());
+    log.put(KeptEntry::of_work(number, item, handled));
     undo.put(Undo::Worked {
         shard: number,
         record,
@@ -115,7 +101,7 @@ fn do_task(
         undo.old.records undo.new.records) }
 {
     let work = shard.prepare(alloc, roles, registry, page, task, room)?;
-    write(alloc, number, shard, place, page, log, undo, &work)
+    write(number, shard, place, page, log, undo, work)
 }
 
 impl Core {

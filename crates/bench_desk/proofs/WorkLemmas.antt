@@ -164,7 +164,7 @@ pub tied-done : (tables decided : Tables) (sources : List Source) (stamp : ℕ) 
 tied-done tables decided sources stamp v w p q log logged stamps drawn t d =
     let item = d.work.item in
     let handled = d.work.handled in
-    let posts = d.work.effects.posts in
+    let posts = d.work.effects.posts.items in
     rw (d.written.shard_is, d.written.log_is, d.written.stamps_are) (
       IsKept-work tables v sources log item handled posts t.0 d.decided.fits.item_is,
       one-more stamps log stamp (work_entry v.number item handled) t.1,
@@ -202,7 +202,7 @@ worked-done tables stamp v w p q log logged stamps drawn same d = record {
     entered : List Stamped → PartView
     entered es = record {
       tables = tables;
-      shard = after_work v d.work.item d.work.handled d.work.effects.posts;
+      shard = after_work v d.work.item d.work.handled d.work.effects.posts.items;
       entries = es;
     }
 

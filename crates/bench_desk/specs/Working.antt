@@ -41,21 +41,6 @@ or_full full None = if full then Some faults.Full else None
 abbrev pub work_refusal : PartView → Option WorkFault
 work_refusal v = or_full (is_log_full (entries_in v)) (shard_refusal v.shard)
 
--- the shard may handle the item of an entry, and once it did
-abbrev pub FitsEntry : ShardView → Entry → Type 0
-FitsEntry v e = by e.item e.handled
-  where
-    by : Option Item → Option Handled → Type 0
-    by (Some (ToMachine item)) (Some handled) = Fits v item handled
-    by item handled = ⊥
-
-abbrev pub after_entry : ShardView → Entry → List Item → ShardView
-after_entry v e posts = by e.item e.handled
-  where
-    by : Option Item → Option Handled → ShardView
-    by (Some (ToMachine item)) (Some handled) = after_work v item handled posts
-    by item handled = v
-
 -- a page with another book
 abbrev pub Holds : Paged → Paged → Book → Type 0
 Holds old new book = (new.number ≡ old.number) × (new.pages ≡ old.pages) × (new.book ≡ book)
@@ -63,7 +48,7 @@ Holds old new book = (new.number ≡ old.number) × (new.pages ≡ old.pages) ×
 -- what is written where work is done: the shard, the page, the entry and its stamp
 pub record IsWritten (work : Work) (stamp : ℕ) (v w : ShardView) (p q : Paged) (log logged : List Entry)
     (stamps drawn : List ℕ) : Type 0 where
-  pub shard_is : w ≡ after_work v work.item work.handled work.effects.posts
+  pub shard_is : w ≡ after_work v work.item work.handled work.effects.posts.items
   pub page_is : Holds p q (fold after p.book work.effects.ops)
   pub log_is : logged ≡ log ++ work_entry v.number work.item work.handled ∷ []
   pub stamps_are : drawn ≡ stamps ++ stamp ∷ []
@@ -87,7 +72,7 @@ pub record IsDone (tables : Tables) (stamp : ℕ) (v w : ShardView) (p q : Paged
 abbrev pub with_work : PartView → ℕ → Work → PartView
 with_work v stamp work = record {
   tables = v.tables;
-  shard = after_work v.shard work.item work.handled work.effects.posts;
+  shard = after_work v.shard work.item work.handled work.effects.posts.items;
   entries = v.entries ++ record { stamp = stamp; entry = work_entry v.shard.number work.item work.handled } ∷ [];
 }
 

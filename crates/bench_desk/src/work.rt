@@ -9,48 +9,22 @@ ghost use Rattle.bench_spec.specs.Merged.{Did};
 ghost use Rattle.bench_spec.specs.Refusal.{is_empty};
 ghost use Rattle.bench_parts.specs.Views.{kept_in};
 ghost use Rattle.bench_desk.specs.Parts.{entries_in};
-ghost use Rattle.bench_desk.specs.Working.{FitsEntry, Holds, IsDone, IsLifted, IsUnwritten, IsWorked, IsWritten};
-ghost use Rattle.bench_desk.specs.Working.{after_entry, key_in_part, lift_entry, lift_refusal, paused_part};
-ghost use Rattle.bench_desk.specs.Working.{with_lift, work_entry, work_refusal};
+ghost use Rattle.bench_desk.specs.Working.{Holds, IsDone, IsLifted, IsUnwritten, IsWorked, IsWritten};
+ghost use Rattle.bench_desk.specs.Working.{key_in_part, lift_entry, lift_refusal, paused_part};
+ghost use Rattle.bench_desk.specs.Working.{with_lift, work_refusal};
 
 use crate::fault::CarryFault;
 use crate::part::ShardPart;
 use acct_book::Page;
 use acct_totals::Op;
-use bench_item::{Entry, Handled, Item, Key, MAX_MACHINES, MachineItem, Source, Step};
+use bench_item::{Entry, Item, Key, MAX_MACHINES, Source, Step};
 use bench_log::{KeptEntry, Log, LogError};
 use bench_move::Roles;
 use bench_parts::Lent;
-use bench_shard::{ShardState, Task, Work, WorkFault};
+use bench_shard::{Effects, ShardState, Task, Work, WorkFault};
 use std::alloc::{AllocError, Global};
 use tab_call::Registry;
 use tab_step::Stepped;
-
-/// The entry in which a shard handles an item.
-fn work_entry(shard: u32, item: MachineItem, handled: Handled) -> Entry
-    ensures { result ≡ work_entry shard item handled }
-{
-    Entry {
-        step: Step::Work(shard),
-        item: Some(Item::ToMachine(item)),
-        handled: Some(handled),
-    }
-}
-
-/// The shard handles the item of an entry.
-fn commit(shard: &mut ShardState, entry: &Entry, posts: &[Item]) -> Result<(), AllocError>
-    requires { FitsEntry shard.old entry.now }
-    ensures ok { OnOk result (shard.new ≡ after_entry shard.old entry.now posts.now) }
-    ensures err { OnErr result (shard.new ≡ shard.old) }
-{
-    match (&entry.item, &entry.handled) {
-        (Some(Item::ToMachine(item)), Some(handled)) => {
-            let _record = shard.commit(item, handled, posts)?;
-            Ok(())
-        }
-        _ => unreachable!(),
-    }
-}
 
 /// Makes room for operations on a page.
 fn make_page_room(page: &mut Page, count: usize) -> Result<(), AllocError>
@@ -90,7 +64,6 @@ fn make_room(log: &mut Log, stamps: &mut Vec<u64>) -> Result<(), AllocError>
 
 /// Writes what a shard is to do, all of it with the stamp that was drawn for it, or nothing where memory is refused.
 fn write(
-    alloc: Global,
     shard: &mut ShardState,
     page: &mut Page,
     log: &mut Log,
@@ -109,16 +82,14 @@ fn write(
         handled,
         effects,
     } = work;
+    let Effects { posts, ops } = effects;
     let _shards = shard.peers().shards();
     let number = shard.number() as u32;
-    let entry = work_entry(number, item, handled);
-    let kept = KeptEntry::keep(alloc, &entry)?;
-    let ops = effects.ops.as_slice();
     make_room(log, stamps)?;
     make_page_room(page, ops.len())?;
-    commit(shard, &entry, effects.posts.as_slice())?;
-    book(page, ops);
-    log.put(kept);
+    let _record = shard.commit(item.plain(), &handled, posts)?;
+    book(page, ops.as_slice());
+    log.put(KeptEntry::of_work(number, item, handled));
     stamps.push(stamp).unwrap();
     Ok(())
 }
@@ -144,7 +115,7 @@ fn do_task(
         stamps.old.items stamps.new.items) }
 {
     let work = shard.prepare(alloc, roles, registry, page, task, room)?;
-    write(alloc, shard, page, log, stamps, stamp, work)
+    write(shard, page, log, stamps, stamp, work)
 }
 
 /// The entry of an item that is lifted from a shard.

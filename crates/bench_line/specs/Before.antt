@@ -20,7 +20,7 @@ before_of framer l = record {
 abbrev pub framer_before : FramerBefore → FramerState → FramerState
 framer_before Same framer = framer
 framer_before (Rest len) framer = record framer { rest = take len framer.rest }
-framer_before (Whole before) framer = before
+framer_before (Whole before) framer = before.value
 
 -- the line as it was before
 abbrev pub restored : Before → LineView → LineView

@@ -41,7 +41,7 @@ impl Line {
         ensures err { OnErr result (self.new ≡ self.old) }
     {
         let post = rules.on_event(alloc, self.found(line), LineEvent::Acknowledged)?;
-        self.put_out(post)?;
+        self.put_out(alloc, post)?;
         self.state = LineState::Open;
         Ok(())
     }
@@ -58,7 +58,7 @@ impl Line {
         ensures err { OnErr result (self.new ≡ self.old) }
     {
         let post = rules.on_event(alloc, self.found(line), self.loss())?;
-        self.put_out(post)?;
+        self.put_out(alloc, post)?;
         self.state = LineState::Closed;
         Ok(())
     }
@@ -128,7 +128,8 @@ impl Line {
             round,
             ended,
         } = self.listen(alloc, rules, line, piece)?;
-        let framer = self.keep(framer, round)?;
+        let next = Box::new(alloc, framer)?;
+        let framer = self.keep(next, round)?;
         before.framer = FramerBefore::Whole(framer);
         Ok((ended, before))
     }
@@ -158,10 +159,10 @@ impl Line {
         })
     }
 
-    // Keeps what was heard, and hands out the framer before it.
-    fn keep(&mut self, framer: Framer, round: Round) -> Result<Framer, StepFault>
-        ensures ok { OnOk result (self.new ≡ kept framer round self.old) }
-        ensures before { IfOk result (λ f. f ≡ self.old.framer) }
+    // Keeps what was heard, and hands out the framer before it in the memory of the new one.
+    fn keep(&mut self, framer: Box<Framer>, round: Round) -> Result<Box<Framer>, StepFault>
+        ensures ok { OnOk result (self.new ≡ kept framer.value round self.old) }
+        ensures before { IfOk result (λ f. f.value ≡ self.old.framer) }
         ensures fault { IfErr result (λ f. f ≡ StepFault.NoMemory) }
         ensures err { OnErr result (self.new ≡ self.old) }
     {
@@ -178,7 +179,9 @@ impl Line {
         if closed {
             self.state = LineState::Closed;
         }
-        Ok(mem::replace(&mut self.framer, framer))
+        let mut before = framer;
+        mem::swap(&mut self.framer, &mut *before);
+        Ok(before)
     }
 
     /// A deed is dropped there. A closed connection does nothing.

@@ -5,6 +5,7 @@ ghost use Rattle.std.specs.Prelude.{nat_lt, ◌-◌};
 use crate::limit::MAX_MESSAGE;
 use crate::places::Call;
 use bench_item::{Heard, Item, LineEvent, LineState, MAX_WAITING, Opening, StepFault};
+use bench_log::KeptItem;
 use dia_frame::Framer;
 use std::alloc::Global;
 use std::marker::Model;
@@ -17,7 +18,7 @@ pub enum FramerBefore {
     /// The call put octets behind its rest, which had so many.
     Rest(usize),
     /// It was this.
-    Whole(Framer),
+    Whole(Box<Framer>),
 }
 
 impl FramerBefore {
@@ -30,7 +31,7 @@ impl FramerBefore {
         match self {
             FramerBefore::Same => {}
             FramerBefore::Rest(len) => framer.truncate_rest(len),
-            FramerBefore::Whole(before) => *framer = before,
+            FramerBefore::Whole(before) => *framer = Box::into_inner(before),
         }
     }
 }
@@ -53,7 +54,7 @@ pub(crate) struct Line {
     pub(crate) framer: Framer,
     pub(crate) greeted: Option<u64>,
     // All that was ever put out. The first `lifted` items were lifted.
-    pub(crate) outbox: Vec<Item>,
+    pub(crate) outbox: Vec<KeptItem>,
     pub(crate) lifted: usize,
     pub(crate) sent: Vec<u8>,
 }
@@ -128,13 +129,13 @@ impl Line {
     }
 
     /// Puts an item out, if there is one.
-    pub(crate) fn put_out(&mut self, post: Option<Item>) -> Result<(), StepFault>
+    pub(crate) fn put_out(&mut self, alloc: Global, post: Option<Item>) -> Result<(), StepFault>
         ensures ok { OnOk result (self.new ≡ record self.old { outbox = self.old.outbox ++ option_to_list post }) }
         ensures fault { IfErr result (λ f. f ≡ StepFault.NoMemory) }
         ensures err { OnErr result (self.new ≡ self.old) }
     {
         if let Some(item) = post {
-            self.outbox.push(item)?;
+            self.outbox.push(KeptItem::new(alloc, item)?)?;
         }
         Ok(())
     }
@@ -223,7 +224,7 @@ impl Line {
     }
 
     /// An item that was put out, by its place from 0.
-    pub(crate) fn item(&self, place: usize) -> Option<&Item>
+    pub(crate) fn item(&self, place: usize) -> Option<&KeptItem>
         ensures { option_copied result ≡ slice_get self.now.outbox place }
     {
         self.outbox.get(place)
@@ -237,7 +238,7 @@ impl Line {
     }
 
     /// The oldest item that waits.
-    pub(crate) fn next(&self) -> Option<&Item>
+    pub(crate) fn next(&self) -> Option<&KeptItem>
         ensures { option_copied result ≡ slice_get self.now.outbox self.now.lifted }
     {
         self.outbox.get(self.lifted)

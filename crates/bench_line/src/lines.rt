@@ -3,7 +3,8 @@ ghost use Rattle.std.specs.Prelude.{◌≡◌, ◌+◌, ◌++◌, ◌∷◌, [],
 ghost use Rattle.std.specs.Prelude.{option_copied, unwrap_or, min, take, drop, map};
 
 use crate::line::Line;
-use bench_item::{Hears, Item, LineState, MAX_LINES, Opening, StepFault};
+use bench_item::{Hears, LineState, MAX_LINES, Opening, StepFault};
+use bench_log::KeptItem;
 use std::alloc::Global;
 use std::marker::Model;
 
@@ -141,7 +142,7 @@ impl<T: Hears> Lines<T> {
     }
 
     /// An item that a connection put out, by its place from 0; those that were lifted stay readable. Takes no memory.
-    pub fn item(&self, line: u64, place: usize) -> Option<&Item>
+    pub fn item(&self, line: u64, place: usize) -> Option<&KeptItem>
         ensures { option_copied result ≡ item_on self.now.lines line place }
     {
         let Ok(found) = self.find(line) else {
@@ -172,7 +173,7 @@ impl<T: Hears> Lines<T> {
     }
 
     /// The oldest item that waits on a connection, if one does. Takes no memory.
-    pub fn next(&self, line: u64) -> Option<&Item>
+    pub fn next(&self, line: u64) -> Option<&KeptItem>
         ensures { option_copied result ≡ next_on self.now.lines line }
     {
         let Ok(place) = self.find(line) else {

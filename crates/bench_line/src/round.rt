@@ -4,6 +4,7 @@ ghost use Rattle.std.specs.Prelude.{◌≡◌, ◌++◌, [], ℕ, List, IfOk, If
 ghost use Rattle.dia_frame.specs.Framer.{Shows};
 
 use bench_item::{Heard, Hears, Item, LineEvent, StepFault, Turn};
+use bench_log::KeptItem;
 use dia_frame::{FeedError, FrameFault, Framer};
 use std::alloc::Global;
 use std::marker::Model;
@@ -12,7 +13,7 @@ use std::marker::Model;
 #[derive(Drop)]
 pub(crate) struct Round {
     pub(crate) at: Heard,
-    pub(crate) posts: Vec<Item>,
+    pub(crate) posts: Vec<KeptItem>,
     pub(crate) answers: Vec<u8>,
     /// Whether it closes.
     pub(crate) closed: bool,
@@ -42,18 +43,18 @@ impl Round {
         }
     }
 
-    fn put_out(&mut self, post: Option<Item>) -> Result<(), StepFault>
+    fn put_out(&mut self, alloc: Global, post: Option<Item>) -> Result<(), StepFault>
         ensures ok { OnOk result (self.new ≡ record self.old { posts = self.old.posts ++ option_to_list post }) }
         ensures fault { IfErr result (λ f. f ≡ StepFault.NoMemory) }
     {
         if let Some(item) = post {
-            self.posts.push(item)?;
+            self.posts.push(KeptItem::new(alloc, item)?)?;
         }
         Ok(())
     }
 
     // Takes what is made of a message.
-    fn take(&mut self, turn: Turn) -> Result<(), StepFault>
+    fn take(&mut self, alloc: Global, turn: Turn) -> Result<(), StepFault>
         ensures ok { OnOk result (IsTurned turn self.old self.new) }
         ensures fault { IfErr result (λ f. f ≡ StepFault.NoMemory) }
     {
@@ -63,7 +64,7 @@ impl Round {
             greeted,
             closes,
         } = turn;
-        self.put_out(post)?;
+        self.put_out(alloc, post)?;
         self.answers.extend_from_slice(answer.as_slice())?;
         self.at.greeted = self.at.greeted.or(greeted);
         self.closed = closes;
@@ -76,7 +77,7 @@ impl Round {
         ensures fault { IfErr result (λ f. f ≡ StepFault.NoMemory) }
     {
         let turn = rules.on_message(alloc, self.at, octets)?;
-        self.take(turn)
+        self.take(alloc, turn)
     }
 
     /// Hears the messages that wait, up to the first that closes the connection.
@@ -115,7 +116,7 @@ impl Round {
             return Ok(None);
         }
         let post = rules.on_event(alloc, self.at, LineEvent::Disconnected)?;
-        self.put_out(post)?;
+        self.put_out(alloc, post)?;
         self.closed = true;
         Ok(fault)
     }

@@ -1,7 +1,8 @@
 -- What an item is for.
 use Rattle.std.specs.Prelude.{Bool, true, false, Option, Some, None}
 use Rattle.bench_item.specs.declared.item.Item.{Item}
-use Rattle.bench_item.specs.declared.item.Item.TheVariants.{Dial, ToMachine}
+use Rattle.bench_item.specs.declared.item.Item.TheVariants.{Dial, ToLine, ToMachine}
+use Rattle.bench_item.specs.declared.item.LineItem.{LineItem}
 use Rattle.bench_item.specs.declared.item.MachineItem.{MachineItem}
 use Rattle.bench_item.specs.declared.key.Key.{Key}
 
@@ -9,6 +10,11 @@ use Rattle.bench_item.specs.declared.key.Key.{Key}
 abbrev pub event_in : Item → Option MachineItem
 event_in (ToMachine item) = Some item
 event_in item = None
+
+-- the deed that is on its way, if it is for a connection
+abbrev pub deed_in : Item → Option LineItem
+deed_in (ToLine item) = Some item
+deed_in item = None
 
 -- the machine that it is for, if it is for one
 abbrev pub key_for : Item → Option Key

@@ -6,8 +6,6 @@ use Rattle.bench_item.specs.declared.step.Step.{Step}
 use Rattle.bench_item.specs.declared.step.Step.TheVariants as steps
 use Rattle.bench_item.specs.declared.entry.Handled.{Handled}
 use Rattle.bench_item.specs.declared.entry.Handled.TheVariants as handled
-use Rattle.bench_item.specs.declared.item.MachineItem.{MachineItem}
-use Rattle.bench_log.specs.declared.item.EventForm.{EventForm}
 use Rattle.bench_log.specs.declared.item.KeptLineItem.{KeptLineItem}
 use Rattle.bench_log.specs.declared.item.ItemForm.{ItemForm}
 use Rattle.bench_log.specs.declared.item.ItemForm.TheVariants.{ToMachine, ToLine, Dial, Undial, Arm, Disarm}
@@ -15,16 +13,12 @@ use Rattle.bench_log.specs.declared.step.KeptTold.{KeptTold}
 use Rattle.bench_log.specs.declared.step.KeptStep.{KeptStep}
 use Rattle.bench_log.specs.declared.step.KeptStep.TheVariants.{Joined, Dialled, Came, Lost, Told, Fired}
 use Rattle.bench_log.specs.declared.step.KeptStep.TheVariants.{Lift, Drop, Work}
-use Rattle.bench_log.specs.declared.entry.KeptHandled.{KeptHandled}
-use Rattle.bench_log.specs.declared.entry.KeptHandled.TheVariants.{TooBusy, Stale, Move}
-
--- an item for a machine
-abbrev pub event_item_of : EventForm → MachineItem
-event_item_of k = record { key = k.key; event = k.event; condition = k.condition; session = k.session }
+use Rattle.bench_log.specs.declared.entry.HandledForm.{HandledForm}
+use Rattle.bench_log.specs.declared.entry.HandledForm.TheVariants.{TooBusy, Stale, Move}
 
 -- an item for a connection
 abbrev pub line_item_of : KeptLineItem → LineItem
-line_item_of k = record { line = k.form.value.line; deed = k.form.value.deed; session = k.form.value.session }
+line_item_of k = k.form.value
 
 -- an item
 abbrev pub item_of : ItemForm → Item
@@ -52,7 +46,7 @@ step_of (Drop source) = steps.Drop source
 step_of (Work shard) = steps.Work shard
 
 -- what became of an item that was handled
-abbrev pub handled_of : KeptHandled → Handled
+abbrev pub handled_of : HandledForm → Handled
 handled_of TooBusy = handled.TooBusy
 handled_of (Stale state) = handled.Stale state
 handled_of (Move moved) = handled.Move moved.value

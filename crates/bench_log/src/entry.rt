@@ -1,10 +1,10 @@
 //! Entries as the log keeps them.
-ghost use Rattle.std.specs.Prelude.{◌≡◌, IfOk, None, Some};
-ghost use Rattle.std.specs.Option.{option_map};
+ghost use Rattle.std.specs.Prelude.{◌≡◌, IfOk, None, Some, option_copied};
+ghost use Rattle.bench_item.specs.declared.entry.Handled.TheVariants.{Move, Stale, TooBusy};
 ghost use Rattle.bench_item.specs.declared.item.Item.TheVariants.{ToMachine};
 ghost use Rattle.bench_item.specs.declared.step.Step.TheVariants as steps;
-ghost use Rattle.bench_log.specs.Twins.{step_of, handled_of};
-ghost use Rattle.bench_log.specs.Moves.{entry_with, machine_in, moves};
+ghost use Rattle.bench_log.specs.Twins.{step_of};
+ghost use Rattle.bench_log.specs.Moves.{entry_with, is_stale, machine_in, move_in, moves};
 
 use crate::item::{KeptItem, KeptMachineItem};
 use crate::moved::KeptMoved;
@@ -16,10 +16,31 @@ use std::marker::Model;
 
 /// What became of an item that a shard handled.
 #[derive(Drop)]
-pub(crate) enum KeptHandled {
+pub(crate) enum HandledForm {
     TooBusy,
     Stale(u8),
     Move(Box<KeptMoved>),
+}
+
+/// What became of an item that a shard handled, kept small. A contract sees the plain one.
+pub struct KeptHandled {
+    form: HandledForm,
+}
+
+impl Drop for KeptHandled {
+    fn drop(self) {
+        let KeptHandled { form } = self;
+    }
+}
+
+impl Model for KeptHandled {
+    ghost use Rattle.bench_item.specs.declared.entry.Handled.{Handled};
+
+    ghost Value = { Handled };
+
+    ghost use Rattle.bench_log.specs.Twins.{handled_of};
+
+    ghost view = { λ k. handled_of k.form };
 }
 
 /// An entry in the room that the log keeps it in. A contract sees the plain entry.
@@ -41,37 +62,85 @@ impl Drop for KeptEntry {
 }
 
 impl Model for KeptEntry {
-    ghost use Rattle.std.specs.Option.{option_map};
     ghost use Rattle.bench_item.specs.declared.entry.Entry.{Entry};
 
     ghost Value = { Entry };
 
-    ghost use Rattle.bench_log.specs.Twins.{step_of, handled_of};
+    ghost use Rattle.bench_log.specs.Twins.{step_of};
 
-    ghost view = { λ k. record { step = step_of k.step; item = k.item; handled = option_map handled_of k.handled } };
+    ghost view = { λ k. record { step = step_of k.step; item = k.item; handled = k.handled } };
 }
 
 impl KeptHandled {
-    fn keep(alloc: Global, plain: &Handled) -> Result<KeptHandled, AllocError>
-        ensures { IfOk result (λ kept. handled_of kept ≡ plain.now) }
+    /// There was no room for its session. Takes no memory.
+    pub fn too_busy() -> KeptHandled
+        ensures { result ≡ TooBusy }
     {
-        Ok(match plain {
-            Handled::TooBusy => KeptHandled::TooBusy,
-            Handled::Stale(state) => KeptHandled::Stale(*state),
-            Handled::Move(moved) => {
-                KeptHandled::Move(Box::new(alloc, KeptMoved::keep(alloc, moved)?)?)
-            }
+        KeptHandled {
+            form: HandledForm::TooBusy,
+        }
+    }
+
+    /// Its condition failed, in a machine that stands in this state. Takes no memory.
+    pub fn stale(state: u8) -> KeptHandled
+        ensures { result ≡ Stale state }
+    {
+        KeptHandled {
+            form: HandledForm::Stale(state),
+        }
+    }
+
+    /// Its machine moved so.
+    pub fn of_move(alloc: Global, moved: KeptMoved) -> Result<KeptHandled, AllocError>
+        ensures { IfOk result (λ kept. kept ≡ Move moved) }
+    {
+        Ok(KeptHandled {
+            form: HandledForm::Move(Box::new(alloc, moved)?),
         })
     }
 
-    fn show(&self, alloc: Global) -> Result<Handled, AllocError>
-        ensures { IfOk result (λ plain. plain ≡ handled_of self.now) }
+    /// Keeps what became of an item.
+    pub fn keep(alloc: Global, plain: &Handled) -> Result<KeptHandled, AllocError>
+        ensures { IfOk result (λ kept. kept ≡ plain.now) }
     {
-        Ok(match self {
-            KeptHandled::TooBusy => Handled::TooBusy,
-            KeptHandled::Stale(state) => Handled::Stale(*state),
-            KeptHandled::Move(moved) => Handled::Move(moved.show(alloc)?),
+        match plain {
+            Handled::TooBusy => Ok(KeptHandled::too_busy()),
+            Handled::Stale(state) => Ok(KeptHandled::stale(*state)),
+            Handled::Move(moved) => {
+                let kept = KeptMoved::keep(alloc, moved)?;
+                KeptHandled::of_move(alloc, kept)
+            }
+        }
+    }
+
+    fn show(&self, alloc: Global) -> Result<Handled, AllocError>
+        ensures { IfOk result (λ plain. plain ≡ self.now) }
+    {
+        Ok(match &self.form {
+            HandledForm::TooBusy => Handled::TooBusy,
+            HandledForm::Stale(state) => Handled::Stale(*state),
+            HandledForm::Move(moved) => Handled::Move(moved.show(alloc)?),
         })
+    }
+
+    /// Its machine's move, if that is what became of it. Takes no memory.
+    pub fn moved(&self) -> Option<&KeptMoved>
+        ensures { option_copied result ≡ move_in self.now }
+    {
+        match &self.form {
+            HandledForm::Move(moved) => Some(moved),
+            _ => None,
+        }
+    }
+
+    /// Whether its condition failed. Takes no memory.
+    pub fn is_stale(&self) -> bool
+        ensures { result ≡ is_stale self.now }
+    {
+        match &self.form {
+            HandledForm::Stale(_) => true,
+            _ => false,
+        }
     }
 }
 
@@ -94,7 +163,7 @@ fn show_item(alloc: Global, kept: &Option<KeptItem>) -> Result<Option<Item>, All
 }
 
 fn keep_handled(alloc: Global, plain: &Option<Handled>) -> Result<Option<KeptHandled>, AllocError>
-    ensures { IfOk result (λ kept. option_map handled_of kept ≡ plain.now) }
+    ensures { IfOk result (λ kept. kept ≡ plain.now) }
 {
     match plain {
         None => Ok(None),
@@ -103,7 +172,7 @@ fn keep_handled(alloc: Global, plain: &Option<Handled>) -> Result<Option<KeptHan
 }
 
 fn show_handled(alloc: Global, kept: &Option<KeptHandled>) -> Result<Option<Handled>, AllocError>
-    ensures { IfOk result (λ plain. plain ≡ option_map handled_of kept.now) }
+    ensures { IfOk result (λ plain. plain ≡ kept.now) }
 {
     match kept {
         None => Ok(None),
@@ -160,23 +229,15 @@ impl KeptEntry {
         }
     }
 
-    /// The entry in which a shard handles an item.
-    pub fn keep_work(
-        alloc: Global,
-        shard: u32,
-        item: &KeptMachineItem,
-        handled: &Handled,
-    ) -> Result<KeptEntry, AllocError>
-        ensures { IfOk result (λ kept. kept
-            ≡ entry_with (steps.Work shard) (Some (ToMachine item.now)) (Some handled.now)) }
+    /// The entry in which a shard handles an item, which the entry shares. Takes no memory.
+    pub fn of_work(shard: u32, item: KeptMachineItem, handled: KeptHandled) -> KeptEntry
+        ensures { result ≡ entry_with (steps.Work shard) (Some (ToMachine item)) (Some handled) }
     {
-        let handled = KeptHandled::keep(alloc, handled)?;
-        let event = item.copy()?;
-        Ok(KeptEntry {
+        KeptEntry {
             step: KeptStep::Work(shard),
-            item: Some(KeptItem::of_event(event)),
+            item: Some(KeptItem::of_event(item)),
             handled: Some(handled),
-        })
+        }
     }
 
     /// The plain entry.
@@ -212,8 +273,8 @@ impl KeptEntry {
         ensures { result ≡ machine_in self.now }
     {
         match &self.handled {
-            Some(KeptHandled::Move(moved)) => Some(moved.machine()),
-            _ => None,
+            Some(handled) => Some(handled.moved()?.machine()),
+            None => None,
         }
     }
 

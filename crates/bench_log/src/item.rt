@@ -2,27 +2,17 @@
 ghost use Rattle.std.specs.Prelude.{◌≡◌, IfOk, option_copied};
 ghost use Rattle.bench_item.specs.declared.item.Item.TheVariants.{ToMachine, ToLine};
 ghost use Rattle.bench_log.specs.Twins.{item_of, line_item_of};
-ghost use Rattle.bench_log.specs.Targets.{event_in, is_dial, key_for};
+ghost use Rattle.bench_log.specs.Targets.{deed_in, event_in, is_dial, key_for};
 
-use crate::state::{KeptDeed, KeptEvent, copy_key};
-use base_list::Octets;
-use bench_item::{Condition, Item, Key, LineItem, MachineItem};
+use crate::state::copy_key;
+use bench_item::{Item, Key, LineItem, MachineItem};
 use std::alloc::{AllocError, Global};
 use std::marker::Model;
 use std::sync::Arc;
 
-/// What an item for a machine holds.
-#[derive(Drop)]
-struct EventForm {
-    key: Key,
-    event: KeptEvent,
-    condition: Option<Condition>,
-    session: Octets,
-}
-
-/// An event on its way to a machine, kept small, and once: its copies share it. A contract sees the plain item.
+/// An event on its way to a machine, in memory once: its copies share it. A contract sees the plain item.
 pub struct KeptMachineItem {
-    form: Arc<EventForm>,
+    form: Arc<MachineItem>,
 }
 
 // A derived `drop` is proved anew in each crate that holds such an item; this one is a call.
@@ -37,42 +27,53 @@ impl Model for KeptMachineItem {
 
     ghost Value = { MachineItem };
 
-    ghost use Rattle.bench_log.specs.Twins.{event_item_of};
+    ghost view = { λ k. k.form.value };
+}
 
-    ghost view = { λ k. event_item_of k.form.value };
+/// The same item in memory of its own.
+fn copy_machine_item(alloc: Global, plain: &MachineItem) -> Result<MachineItem, AllocError>
+    ensures { IfOk result (λ copy. copy ≡ plain.now) }
+{
+    let key = copy_key(alloc, &plain.key)?;
+    let session = plain.session.copy(alloc)?;
+    Ok(MachineItem {
+        key,
+        event: plain.event,
+        condition: plain.condition,
+        session,
+    })
 }
 
 impl KeptMachineItem {
+    /// Keeps an item that is given away.
+    pub fn new(alloc: Global, plain: MachineItem) -> Result<KeptMachineItem, AllocError>
+        ensures { IfOk result (λ kept. kept ≡ plain) }
+    {
+        Ok(KeptMachineItem {
+            form: Arc::new(alloc, plain)?,
+        })
+    }
+
     /// Keeps an item.
     pub fn keep(alloc: Global, plain: &MachineItem) -> Result<KeptMachineItem, AllocError>
         ensures { IfOk result (λ kept. kept ≡ plain.now) }
     {
-        let key = copy_key(alloc, &plain.key)?;
-        let event = KeptEvent::keep(alloc, &plain.event)?;
-        let session = plain.session.copy(alloc)?;
-        let form = EventForm {
-            key,
-            event,
-            condition: plain.condition,
-            session,
-        };
-        Ok(KeptMachineItem {
-            form: Arc::new(alloc, form)?,
-        })
+        let plain = copy_machine_item(alloc, plain)?;
+        KeptMachineItem::new(alloc, plain)
     }
 
-    /// The item.
+    /// The item. Takes no memory.
+    pub fn plain(&self) -> &MachineItem
+        ensures { result.now ≡ self.now }
+    {
+        &self.form
+    }
+
+    /// The item in memory of its own.
     pub fn show(&self, alloc: Global) -> Result<MachineItem, AllocError>
         ensures { IfOk result (λ plain. plain ≡ self.now) }
     {
-        let key = copy_key(alloc, &self.form.key)?;
-        let session = self.form.session.copy(alloc)?;
-        Ok(MachineItem {
-            key,
-            event: self.form.event.show(),
-            condition: self.form.condition,
-            session,
-        })
+        copy_machine_item(alloc, &self.form)
     }
 
     /// The same item, in the same memory.
@@ -83,9 +84,7 @@ impl KeptMachineItem {
             form: Arc::try_clone(&self.form)?,
         })
     }
-}
 
-impl KeptMachineItem {
     /// The machine that it is for. Takes no memory.
     pub fn key(&self) -> &Key
         ensures { result.now ≡ self.now.key }
@@ -94,45 +93,37 @@ impl KeptMachineItem {
     }
 }
 
-/// What a deed on its way to a connection holds.
-#[derive(Drop)]
-struct DeedForm {
-    line: u64,
-    deed: KeptDeed,
-    session: Octets,
-}
-
-/// A deed on its way to a connection.
+/// A deed on its way to a connection, in memory once.
 #[derive(Drop)]
 pub(crate) struct KeptLineItem {
-    form: Arc<DeedForm>,
+    form: Arc<LineItem>,
+}
+
+/// The same item in memory of its own.
+fn copy_line_item(alloc: Global, plain: &LineItem) -> Result<LineItem, AllocError>
+    ensures { IfOk result (λ copy. copy ≡ plain.now) }
+{
+    let session = plain.session.copy(alloc)?;
+    Ok(LineItem {
+        line: plain.line,
+        deed: plain.deed,
+        session,
+    })
 }
 
 impl KeptLineItem {
-    fn keep(alloc: Global, plain: &LineItem) -> Result<KeptLineItem, AllocError>
-        ensures { IfOk result (λ kept. line_item_of kept ≡ plain.now) }
+    fn new(alloc: Global, plain: LineItem) -> Result<KeptLineItem, AllocError>
+        ensures { IfOk result (λ kept. line_item_of kept ≡ plain) }
     {
-        let deed = KeptDeed::keep(alloc, &plain.deed)?;
-        let session = plain.session.copy(alloc)?;
-        let form = DeedForm {
-            line: plain.line,
-            deed,
-            session,
-        };
         Ok(KeptLineItem {
-            form: Arc::new(alloc, form)?,
+            form: Arc::new(alloc, plain)?,
         })
     }
 
-    fn show(&self, alloc: Global) -> Result<LineItem, AllocError>
-        ensures { IfOk result (λ plain. plain ≡ line_item_of self.now) }
+    fn plain(&self) -> &LineItem
+        ensures { result.now ≡ line_item_of self.now }
     {
-        let session = self.form.session.copy(alloc)?;
-        Ok(LineItem {
-            line: self.form.line,
-            deed: self.form.deed.show(),
-            session,
-        })
+        &self.form
     }
 
     fn copy(&self) -> Result<KeptLineItem, AllocError>
@@ -168,30 +159,24 @@ pub(crate) enum ItemForm {
 }
 
 impl ItemForm {
-    fn keep(alloc: Global, plain: &Item) -> Result<ItemForm, AllocError>
-        ensures { IfOk result (λ kept. item_of kept ≡ plain.now) }
+    fn new(alloc: Global, plain: Item) -> Result<ItemForm, AllocError>
+        ensures { IfOk result (λ kept. item_of kept ≡ plain) }
     {
         Ok(match plain {
-            Item::ToMachine(item) => ItemForm::ToMachine(KeptMachineItem::keep(alloc, item)?),
-            Item::ToLine(item) => ItemForm::ToLine(KeptLineItem::keep(alloc, item)?),
-            Item::Dial { peer, generation } => ItemForm::Dial {
-                peer: *peer,
-                generation: *generation,
-            },
-            Item::Undial { peer, generation } => ItemForm::Undial {
-                peer: *peer,
-                generation: *generation,
-            },
+            Item::ToMachine(item) => ItemForm::ToMachine(KeptMachineItem::new(alloc, item)?),
+            Item::ToLine(item) => ItemForm::ToLine(KeptLineItem::new(alloc, item)?),
+            Item::Dial { peer, generation } => ItemForm::Dial { peer, generation },
+            Item::Undial { peer, generation } => ItemForm::Undial { peer, generation },
             Item::Arm {
                 machine,
                 generation,
                 ticks,
             } => ItemForm::Arm {
-                machine: *machine,
-                generation: *generation,
-                ticks: *ticks,
+                machine,
+                generation,
+                ticks,
             },
-            Item::Disarm { machine } => ItemForm::Disarm { machine: *machine },
+            Item::Disarm { machine } => ItemForm::Disarm { machine },
         })
     }
 
@@ -200,7 +185,7 @@ impl ItemForm {
     {
         Ok(match self {
             ItemForm::ToMachine(item) => Item::ToMachine(item.show(alloc)?),
-            ItemForm::ToLine(item) => Item::ToLine(item.show(alloc)?),
+            ItemForm::ToLine(item) => Item::ToLine(copy_line_item(alloc, item.plain())?),
             ItemForm::Dial { peer, generation } => Item::Dial {
                 peer: *peer,
                 generation: *generation,
@@ -271,16 +256,52 @@ impl Model for KeptItem {
     ghost view = { λ k. item_of k.form };
 }
 
+/// The same item in memory of its own.
+fn copy_item(alloc: Global, plain: &Item) -> Result<Item, AllocError>
+    ensures { IfOk result (λ copy. copy ≡ plain.now) }
+{
+    Ok(match plain {
+        Item::ToMachine(item) => Item::ToMachine(copy_machine_item(alloc, item)?),
+        Item::ToLine(item) => Item::ToLine(copy_line_item(alloc, item)?),
+        Item::Dial { peer, generation } => Item::Dial {
+            peer: *peer,
+            generation: *generation,
+        },
+        Item::Undial { peer, generation } => Item::Undial {
+            peer: *peer,
+            generation: *generation,
+        },
+        Item::Arm {
+            machine,
+            generation,
+            ticks,
+        } => Item::Arm {
+            machine: *machine,
+            generation: *generation,
+            ticks: *ticks,
+        },
+        Item::Disarm { machine } => Item::Disarm { machine: *machine },
+    })
+}
+
 impl KeptItem {
+    /// Keeps an item that is given away.
+    pub fn new(alloc: Global, plain: Item) -> Result<KeptItem, AllocError>
+        ensures { IfOk result (λ kept. kept ≡ plain) }
+    {
+        let form = ItemForm::new(alloc, plain)?;
+        Ok(KeptItem { form })
+    }
+
     /// Keeps an item.
     pub fn keep(alloc: Global, plain: &Item) -> Result<KeptItem, AllocError>
         ensures { IfOk result (λ kept. kept ≡ plain.now) }
     {
-        let form = ItemForm::keep(alloc, plain)?;
-        Ok(KeptItem { form })
+        let plain = copy_item(alloc, plain)?;
+        KeptItem::new(alloc, plain)
     }
 
-    /// The item.
+    /// The item in memory of its own.
     pub fn show(&self, alloc: Global) -> Result<Item, AllocError>
         ensures { IfOk result (λ plain. plain ≡ self.now) }
     {
@@ -310,6 +331,16 @@ impl KeptItem {
     {
         match &self.form {
             ItemForm::ToMachine(item) => Some(item),
+            _ => None,
+        }
+    }
+
+    /// The deed that is on its way, if it is for a connection. Takes no memory.
+    pub fn deed(&self) -> Option<&LineItem>
+        ensures { option_copied result ≡ deed_in self.now }
+    {
+        match &self.form {
+            ItemForm::ToLine(item) => Some(item.plain()),
             _ => None,
         }
     }

@@ -24,7 +24,8 @@ mod places;
 mod state;
 mod step;
 
-pub use entry::KeptEntry;
+pub use entry::{KeptEntry, KeptHandled};
 pub use item::{KeptItem, KeptMachineItem};
 pub use log::{Log, LogError};
+pub use moved::KeptMoved;
 pub use state::KeptState;

@@ -8,9 +8,10 @@ use bench_item::{Moved, Series};
 use std::alloc::{AllocError, Global};
 use std::marker::Model;
 use tab_law::{Deed, PLACES};
+use tab_step::{Event, Stepped};
 
-/// One move of a machine.
-pub(crate) struct KeptMoved {
+/// One move of a machine, kept small. A contract sees the plain move.
+pub struct KeptMoved {
     machine: u64,
     event: KeptEvent,
     before: KeptState,
@@ -99,8 +100,45 @@ fn show_deeds(alloc: Global, kept: &[KeptDeed]) -> Result<Vec<Deed>, AllocError>
 }
 
 impl KeptMoved {
+    /// The move of the machine of that number from what a step left.
+    pub fn of_step(
+        alloc: Global,
+        machine: u64,
+        event: &Event,
+        before: &KeptState,
+        stepped: &Stepped,
+        outcomes: Vec<Outcome>,
+    ) -> Result<KeptMoved, AllocError>
+        ensures { IfOk result (λ moved. moved ≡ record {
+          machine = machine;
+          event = event.now;
+          before = before.now;
+          after = stepped.now.after;
+          row = stepped.now.row;
+          chain = stepped.now.chain;
+          deeds = stepped.now.deeds;
+          outcomes = outcomes.items;
+        }) }
+    {
+        let event = KeptEvent::keep(alloc, event)?;
+        let before = before.copy()?;
+        let after = KeptState::keep(alloc, &stepped.after)?;
+        let chain = keep_chain(alloc, stepped.chain.as_slice())?;
+        let deeds = keep_deeds(alloc, stepped.deeds.as_slice())?;
+        Ok(KeptMoved {
+            machine,
+            event,
+            before,
+            after,
+            row: stepped.row,
+            chain,
+            deeds,
+            outcomes,
+        })
+    }
+
     /// Keeps a move.
-    pub(crate) fn keep(alloc: Global, plain: &Moved) -> Result<KeptMoved, AllocError>
+    pub fn keep(alloc: Global, plain: &Moved) -> Result<KeptMoved, AllocError>
         ensures { IfOk result (λ kept. kept ≡ plain.now) }
     {
         let event = KeptEvent::keep(alloc, &plain.event)?;
@@ -138,6 +176,13 @@ impl KeptMoved {
             deeds: Series::new(deeds),
             outcomes: Series::new(outcomes),
         })
+    }
+
+    /// Where the machine came to stand.
+    pub fn after(&self) -> &KeptState
+        ensures { result.now ≡ self.now.after }
+    {
+        &self.after
     }
 
     /// The number of the machine.

@@ -5,13 +5,14 @@ use crate::places::Places;
 use bench_item::Key;
 use std::alloc::{AllocError, Global};
 use std::marker::Model;
+use std::sync::Arc;
 use tab_law::Deed;
 use tab_step::{Event, MachineState};
 
-/// Where a machine stands, kept small. A contract sees the plain state.
+/// Where a machine stands, kept small, and once: its copies share it. A contract sees the plain state.
 pub struct KeptState {
     state: u8,
-    regs: Places,
+    regs: Arc<Places>,
 }
 
 impl Drop for KeptState {
@@ -25,7 +26,7 @@ impl Model for KeptState {
 
     ghost Value = { MachineState };
 
-    ghost view = { λ k. record { state = k.state; regs = k.regs } };
+    ghost view = { λ k. record { state = k.state; regs = k.regs.value } };
 }
 
 impl KeptState {
@@ -35,7 +36,17 @@ impl KeptState {
     {
         let regs = Places::keep(alloc, &plain.regs)?;
         let state = plain.state;
-        Ok(KeptState { state, regs })
+        Ok(KeptState {
+            state,
+            regs: Arc::new(alloc, regs)?,
+        })
+    }
+
+    /// The state alone, without the registers.
+    pub fn state(&self) -> u8
+        ensures { result ≡ self.now.state }
+    {
+        self.state
     }
 
     /// Where the machine stands. Takes no memory.
@@ -45,6 +56,16 @@ impl KeptState {
         let regs = self.regs.show();
         let state = self.state;
         MachineState { state, regs }
+    }
+
+    /// The same state, in the same memory.
+    pub fn copy(&self) -> Result<KeptState, AllocError>
+        ensures { IfOk result (λ copy. copy ≡ self.now) }
+    {
+        Ok(KeptState {
+            state: self.state,
+            regs: Arc::try_clone(&self.regs)?,
+        })
     }
 }
 

@@ -1,3 +1,4 @@
 pub mod BookLemmas
+pub mod DecideLemmas
 pub mod FitLemmas
 pub mod NextLemmas

@@ -45,7 +45,7 @@ ops_for laws item moved = ops_of (want_of laws item moved.before) moved.deeds
 pub record IsDecided (tables : Tables) (configured : Configured) (book : Book) (number : ℕ) (before : MachineState)
     (item : MachineItem) (decided : Decided) : Type 0 where
   pub move : IsMoveOf tables.laws (table_of tables item.key.role) book number before item decided.moved
-  pub posts : decided.posts ≡ posts_for tables.laws configured item decided.moved
+  pub posts : decided.posts.items ≡ posts_for tables.laws configured item decided.moved
   pub ops : decided.ops ≡ ops_for tables.laws item decided.moved
 
 -- the book without its last operations, so many

@@ -2,6 +2,7 @@
 
 ghost use Rattle.std.specs.Prelude.{◌≡◌, IfOk};
 ghost use Rattle.acct_book.specs.Book.{with_book};
+ghost use Rattle.bench_spec.specs.Booked.{want_of};
 ghost use Rattle.tab_law.specs.Books.{NamedPermits};
 ghost use Rattle.tab_step.specs.Moves.{IsStep};
 ghost use Rattle.bench_move.specs.Moves.{IsDecided};
@@ -12,8 +13,10 @@ use crate::posting::posts_of_all;
 use crate::quoting::event_with_quote;
 use crate::roles::Roles;
 use acct_book::Page;
-use acct_totals::{Op, Outcome};
-use bench_item::{Item, MachineItem, Moved, Peers, Role, Series};
+use acct_totals::Op;
+use bench_item::{MachineItem, Peers, Role, Series};
+use bench_log::{KeptItem, KeptMoved, KeptState};
+use charge_session::Want;
 use std::alloc::{AllocError, Global};
 use tab_call::Registry;
 use tab_image::run_event_into;
@@ -22,45 +25,11 @@ use tab_step::{Event, MachineState, Stepped};
 /// A move of a machine, with what its deeds post and ask of the account book.
 #[derive(Drop)]
 pub struct Decided {
-    pub moved: Moved,
+    pub moved: KeptMoved,
     /// What the deeds post, in order.
-    pub posts: Series<Item>,
+    pub posts: Vec<KeptItem>,
     /// The operations of the account book that the deeds ask for, in order.
     pub ops: Series<Op>,
-}
-
-/// The move of the machine of that number from what a step left.
-fn moved_of(
-    alloc: Global,
-    number: u64,
-    before: &MachineState,
-    event: &Event,
-    stepped: &Stepped,
-    outcomes: Vec<Outcome>,
-) -> Result<Moved, AllocError>
-    ensures { IfOk result (λ moved. moved ≡ record {
-      machine = number;
-      event = event.now;
-      before = before.now;
-      after = stepped.now.after;
-      row = stepped.now.row;
-      chain = stepped.now.chain;
-      deeds = stepped.now.deeds;
-      outcomes = outcomes.items;
-    }) }
-{
-    let chain = Vec::from_slice(alloc, stepped.chain.as_slice())?;
-    let deeds = Vec::from_slice(alloc, stepped.deeds.as_slice())?;
-    Ok(Moved {
-        machine: number,
-        event: *event,
-        before: *before,
-        after: stepped.after,
-        row: stepped.row,
-        chain: Series::new(chain),
-        deeds: Series::new(deeds),
-        outcomes: Series::new(outcomes),
-    })
 }
 
 impl Roles {
@@ -81,8 +50,8 @@ impl Roles {
         run_event_into(&ready.program, registry, before, event, room);
     }
 
-    /// Decides the move of the machine of that number, which stands there, at an item for it: what the account book
-    /// says to what the item asks becomes facts of the event, the role's program is run with the registry's
+    /// Decides the move of the machine of that number, which stands there, at an item for it that asks this: what the
+    /// account book says to it becomes facts of the event, the role's program is run with the registry's
     /// callbacks, and the book tells what it allows to the deeds. The page is that of the account which the item
     /// asks for, any other where it asks for none; its book stays as it is. `room` is what the step is written
     /// into, for the caller to keep.
@@ -93,25 +62,26 @@ impl Roles {
         peers: &Peers,
         page: &mut Page,
         number: u64,
-        before: &MachineState,
+        before: &KeptState,
         item: &MachineItem,
+        want: &Option<Want>,
         room: &mut Stepped,
     ) -> Result<Decided, AllocError>
-        requires { registry.now.book ≡ self.now.laws }
+        requires laws { registry.now.book ≡ self.now.laws }
+        requires want { want.now ≡ want_of self.now.laws item.now before.now }
         ensures decided { IfOk result (IsDecided self.now peers.now page.old.book number before.now item.now) }
         ensures page { page.new ≡ with_book page.old page.old.book page.new.room }
     {
-        let want = self.want(item, before);
-        let event = event_with_quote(page, &want, &item.event);
-        self.step(registry, item.key.role, before, &event, room);
+        let event = event_with_quote(page, want, &item.event);
+        self.step(registry, item.key.role, &before.show(), &event, room);
         let deeds = room.deeds.as_slice();
         let posts = posts_of_all(alloc, self.laws(), peers, number, item, deeds)?;
-        let ops = ops_of(alloc, &want, deeds)?;
-        let outcomes = outcomes_for(alloc, page, &want, deeds, ops.as_slice())?;
-        let moved = moved_of(alloc, number, before, &event, room, outcomes)?;
+        let ops = ops_of(alloc, want, deeds)?;
+        let outcomes = outcomes_for(alloc, page, want, deeds, ops.as_slice())?;
+        let moved = KeptMoved::of_step(alloc, number, &event, before, room, outcomes)?;
         Ok(Decided {
             moved,
-            posts: Series::new(posts),
+            posts,
             ops: Series::new(ops),
         })
     }

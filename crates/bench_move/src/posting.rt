@@ -7,7 +7,8 @@ ghost use Rattle.bench_post.specs.Nodes.{doer_of};
 ghost use Rattle.bench_move.specs.Moves.{posts_for};
 
 use crate::roles::Roles;
-use bench_item::{Item, MachineItem, Moved, Peers, Series};
+use bench_item::{MachineItem, Moved, Peers};
+use bench_log::KeptItem;
 use bench_post::posts_of;
 use std::alloc::{AllocError, Global};
 use tab_law::{Deed, LawBook};
@@ -20,14 +21,14 @@ pub(crate) fn posts_of_all(
     machine: u64,
     item: &MachineItem,
     deeds: &[Deed],
-) -> Result<Vec<Item>, AllocError>
+) -> Result<Vec<KeptItem>, AllocError>
     ensures { IfOk result (λ posts. posts.items
         ≡ flat_map (posts_of (node_of laws.now peers.now) (doer_of machine item.now)) deeds.now) }
 {
     let mut posts = Vec::new(alloc);
     for deed in deeds {
         if let Some(post) = posts_of(alloc, laws, peers, machine, item, deed)? {
-            posts.push(post)?;
+            posts.push(KeptItem::new(alloc, post)?)?;
         }
     }
     Ok(posts)
@@ -41,11 +42,10 @@ impl Roles {
         peers: &Peers,
         item: &MachineItem,
         moved: &Moved,
-    ) -> Result<Series<Item>, AllocError>
-        ensures { IfOk result (λ posts. posts ≡ posts_for self.now.laws peers.now item.now moved.now) }
+    ) -> Result<Vec<KeptItem>, AllocError>
+        ensures { IfOk result (λ posts. posts.items ≡ posts_for self.now.laws peers.now item.now moved.now) }
     {
         let deeds = moved.deeds.as_slice();
-        let posts = posts_of_all(alloc, self.laws(), peers, moved.machine, item, deeds)?;
-        Ok(Series::new(posts))
+        posts_of_all(alloc, self.laws(), peers, moved.machine, item, deeds)
     }
 }

@@ -41,7 +41,7 @@ ops_in laws item handled = []
 -- what a handled item posts, and what it asks of the account book
 pub record AreEffects (laws : Laws) (v : ShardView) (item : MachineItem) (handled : Handled)
     (effects : Effects) : Type 0 where
-  pub posts : effects.posts ≡ handled_posts (node_of laws v.peers) handled item
+  pub posts : effects.posts.items ≡ handled_posts (node_of laws v.peers) handled item
   pub ops : effects.ops ≡ ops_in laws item handled
 
 -- the item is the oldest, and its machine has room unless it is too busy

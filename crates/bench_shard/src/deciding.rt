@@ -2,8 +2,9 @@
 ghost use Rattle.std.specs.Prelude.{◌≡◌, ◌↔◌, [], None, Some, IfOk, IfSome, IsSome, IsTrue, option_to_list};
 ghost use Rattle.acct_book.specs.Book.{Book};
 ghost use Rattle.acct_book.specs.Book.{with_book};
+ghost use Rattle.bench_spec.specs.Booked.{want_of};
 ghost use Rattle.bench_queue.specs.Inbox.{next_in};
-ghost use Rattle.bench_shard.specs.Tasks.{IsTask, fate_of};
+ghost use Rattle.bench_shard.specs.Tasks.{IsTask, fate_of, want_by};
 ghost use Rattle.bench_shard.specs.View.{number_for, state_for};
 ghost use Rattle.bench_shard.specs.Works.{AreEffects, BecomesIn, Fits, IsWork};
 
@@ -12,49 +13,71 @@ use crate::task::{Fate, Task};
 use crate::work::{Effects, Work};
 use acct_book::Page;
 use bench_item::{Handled, Item, MachineItem, Moved, Series};
+use bench_log::{KeptHandled, KeptItem, KeptMachineItem, KeptState};
 use bench_move::{Decided, Roles};
 use bench_post::busy_posts;
+use charge_session::Want;
 use std::alloc::{AllocError, Global};
 use tab_call::Registry;
 use tab_step::{MachineState, Stepped};
 
 /// One item, or none, as a list.
-fn series_of(alloc: Global, item: Option<Item>) -> Result<Series<Item>, AllocError>
-    ensures { IfOk result (λ items. items ≡ option_to_list item) }
+fn list_of(alloc: Global, item: Option<Item>) -> Result<Vec<KeptItem>, AllocError>
+    ensures { IfOk result (λ items. items.items ≡ option_to_list item) }
 {
     let mut items = Vec::new(alloc);
     if let Some(item) = item {
-        items.push(item)?;
+        items.push(KeptItem::new(alloc, item)?)?;
     }
-    Ok(Series::new(items))
+    Ok(items)
 }
 
 /// An item that leads to nothing.
 fn no_effects(alloc: Global) -> Effects
-    ensures { (result.posts ≡ []) × (result.ops ≡ []) }
+    ensures { (result.posts.items ≡ []) × (result.ops ≡ []) }
 {
     Effects {
-        posts: Series::empty(alloc),
+        posts: Vec::new(alloc),
         ops: Series::empty(alloc),
     }
 }
 
 impl ShardState {
+    // What an item asks of the account book to which that is to become, in its machine, which stands there.
+    fn want_by(
+        &self,
+        roles: &Roles,
+        fate: Fate,
+        item: &MachineItem,
+        state: &MachineState,
+    ) -> Option<Want>
+        requires { state.now ≡ state_for self.now item.now.key }
+        ensures { result ≡ want_by fate roles.now.laws self.now item.now }
+    {
+        match fate {
+            Fate::Moves => roles.want(item, state),
+            Fate::Busy | Fate::Stale => None,
+        }
+    }
+
     // What is to become of an item, and what it asks.
-    fn task_of(&self, alloc: Global, roles: &Roles, item: MachineItem) -> Result<Task, AllocError>
+    fn task_of(
+        &self,
+        alloc: Global,
+        roles: &Roles,
+        item: KeptMachineItem,
+    ) -> Result<Task, AllocError>
         requires { next_in self.now.inbox ≡ Some item }
         ensures task { IfOk result (IsTask roles.now.laws self.now) }
         ensures item { IfOk result (λ task. task.item ≡ item) }
     {
-        let found = self.find(alloc, &item.key)?;
+        let found = self.find(alloc, item.key())?;
         let place = found.unwrap_or(self.machines());
         let number = self.number_for(place);
-        let before = self.state_for(place);
-        let fate = self.fate(found, &item, &before);
-        let want = match fate {
-            Fate::Moves => roles.want(&item, &before),
-            Fate::Busy | Fate::Stale => None,
-        };
+        let before = self.state_for(place)?;
+        let state = before.show();
+        let fate = self.fate(found, item.plain(), &state);
+        let want = self.want_by(roles, fate, item.plain(), &state);
         Ok(Task {
             item,
             number,
@@ -69,9 +92,9 @@ impl ShardState {
         ensures task { IfOk result (λ task. IfSome task (IsTask roles.now.laws self.now)) }
         ensures none { IfOk result (λ task. task ≡ None ↔ (next_in self.now.inbox ≡ None)) }
     {
-        match self.inbox.next(alloc)? {
+        match self.inbox.next_kept() {
             None => Ok(None),
-            Some(item) => Ok(Some(self.task_of(alloc, roles, item)?)),
+            Some(item) => Ok(Some(self.task_of(alloc, roles, item.copy()?)?)),
         }
     }
 
@@ -81,7 +104,7 @@ impl ShardState {
     {
         let post = busy_posts(alloc, roles.laws(), &self.peers, item)?;
         Ok(Effects {
-            posts: series_of(alloc, post)?,
+            posts: list_of(alloc, post)?,
             ops: Series::empty(alloc),
         })
     }
@@ -123,17 +146,17 @@ impl ShardState {
         &self,
         alloc: Global,
         roles: &Roles,
-        item: MachineItem,
+        item: KeptMachineItem,
     ) -> Result<Work, AllocError>
         requires next { next_in self.now.inbox ≡ Some item }
         requires fate { fate_of self.now item ≡ Fate.Busy }
         ensures work { (book : Book) → IfOk result (IsWork roles.now book self.now) }
         ensures item { IfOk result (λ work. work.item ≡ item) }
     {
-        let effects = self.busy(alloc, roles, &item)?;
+        let effects = self.busy(alloc, roles, item.plain())?;
         Ok(Work {
             item,
-            handled: Handled::TooBusy,
+            handled: KeptHandled::too_busy(),
             effects,
         })
     }
@@ -146,14 +169,16 @@ impl ShardState {
         registry: &Registry,
         page: &mut Page,
         number: u64,
-        before: &MachineState,
-        item: MachineItem,
+        before: &KeptState,
+        item: KeptMachineItem,
+        want: &Option<Want>,
         room: &mut Stepped,
     ) -> Result<Work, AllocError>
         requires next { next_in self.now.inbox ≡ Some item }
         requires fate { fate_of self.now item ≡ Fate.Moves }
         requires number { number ≡ number_for self.now item.key }
         requires before { before.now ≡ state_for self.now item.key }
+        requires want { want.now ≡ want_of roles.now.laws item before.now }
         requires laws { registry.now.book ≡ roles.now.laws }
         ensures work { IfOk result (IsWork roles.now page.old.book self.now) }
         ensures item { IfOk result (λ work. work.item ≡ item) }
@@ -166,13 +191,14 @@ impl ShardState {
             page,
             number,
             before,
-            &item,
+            item.plain(),
+            want,
             room,
         )?;
         let Decided { moved, posts, ops } = decided;
         Ok(Work {
             item,
-            handled: Handled::Move(moved),
+            handled: KeptHandled::of_move(alloc, moved)?,
             effects: Effects { posts, ops },
         })
     }
@@ -200,17 +226,17 @@ impl ShardState {
             number,
             before,
             fate,
-            want: _,
+            want,
         } = task;
         match fate {
             Fate::Busy => self.prepare_busy(alloc, roles, item),
             Fate::Stale => Ok(Work {
                 item,
-                handled: Handled::Stale(before.state),
+                handled: KeptHandled::stale(before.state()),
                 effects: no_effects(alloc),
             }),
             Fate::Moves => self.prepare_move(
-                alloc, roles, registry, page, number, &before, item, room,
+                alloc, roles, registry, page, number, &before, item, &want, room,
             ),
         }
     }
@@ -232,7 +258,9 @@ impl ShardState {
     {
         match handled {
             Handled::TooBusy => Ok(task.fate == Fate::Busy),
-            Handled::Stale(state) => Ok(task.fate == Fate::Stale && *state == task.before.state),
+            Handled::Stale(state) => {
+                Ok(task.fate == Fate::Stale && *state == task.before.state())
+            }
             Handled::Move(moved) => {
                 if task.fate != Fate::Moves {
                     return Ok(false);
@@ -241,8 +269,8 @@ impl ShardState {
                     alloc,
                     page,
                     task.number,
-                    &task.before,
-                    &task.item,
+                    &task.before.show(),
+                    task.item.plain(),
                     moved,
                     room,
                 )
@@ -272,6 +300,6 @@ impl ShardState {
         if !self.becomes(alloc, roles, page, task, handled, room)? {
             return Ok(None);
         }
-        Ok(Some(self.effects(alloc, roles, &task.item, handled)?))
+        Ok(Some(self.effects(alloc, roles, task.item.plain(), handled)?))
     }
 }

@@ -1,7 +1,7 @@
 //! What comes to a shard, what is carried on from it, and pauses.
 ghost use Rattle.std.specs.Prelude.{◌≡◌, ◌≤◌, ◌∷◌, [], None, Ok, IfOk, IfErr, OnOk, OnErr, IsTrue, false};
 ghost use Rattle.std.specs.Prelude.{true, length, option_copied};
-ghost use Rattle.bench_queue.specs.Inbox.{items_in, next_in, put_in, without_in};
+ghost use Rattle.bench_queue.specs.Inbox.{items_in, put_in, without_in};
 ghost use Rattle.bench_queue.specs.Outbox.{can_lift, dropped_one, hand_out, has_hand, lifted_one};
 ghost use Rattle.bench_queue.specs.Outbox.{next_out, undropped_one, unlifted_one};
 ghost use Rattle.bench_spec.specs.Refusal.{is_crowded};
@@ -53,13 +53,6 @@ impl ShardState {
         self.inbox.reserve(1)?;
         self.inbox.put(item);
         Ok(())
-    }
-
-    /// The oldest item that waits as it is kept, if one does. Takes no memory.
-    pub fn next_item_kept(&self) -> Option<&KeptMachineItem>
-        ensures { option_copied result ≡ next_in self.now.inbox }
-    {
-        self.inbox.next_kept()
     }
 
     /// The item that came last never came, unless it was handled. Takes no memory.

@@ -1,5 +1,5 @@
-//! A machine is looked for without memory.
-ghost use Rattle.std.specs.Prelude.{◌≡◌, ◌<◌, false, length, slice_get};
+//! A machine is looked for.
+ghost use Rattle.std.specs.Prelude.{◌≡◌, ◌<◌, IfOk, false, length, slice_get};
 ghost use Rattle.std.specs.Option.{option_map_or};
 ghost use Rattle.std.specs.Str.{bytes_eq};
 ghost use Rattle.bench_shard.specs.Names.{key_octets};
@@ -7,11 +7,12 @@ ghost use Rattle.bench_shard.specs.View.{place_in};
 ghost use Rattle.bench_shard.specs.declared.seek.TheConstants.{SHORT};
 ghost use Rattle.sess_dir.specs.Names.{place_of};
 
-use crate::name::role_octet;
+use crate::name::{key_octets, role_octet};
 use crate::state::ShardState;
 use base_list::FixedList;
 use bench_item::Key;
 use sess_dir::Directory;
+use std::alloc::{AllocError, Global};
 
 /// A name of fewer octets lies beside its role in room of fixed size.
 const SHORT: usize = 256;
@@ -50,6 +51,21 @@ fn find_each(names: &Directory, key: &Key) -> Option<usize>
         }
     }
     None
+}
+
+/// The place of a machine, by a hash of its octets: memory is taken for a name that is not short.
+pub(crate) fn find(
+    alloc: Global,
+    names: &Directory,
+    key: &Key,
+) -> Result<Option<usize>, AllocError>
+    ensures { IfOk result (λ place. place ≡ place_of names.now (key_octets key.now)) }
+{
+    if key.name.as_slice().len() < SHORT {
+        return Ok(find_short(names, key));
+    }
+    let octets = key_octets(alloc, key)?;
+    Ok(names.find(&octets))
 }
 
 impl ShardState {

@@ -7,12 +7,12 @@ ghost use Rattle.bench_shard.specs.Settling.{IsStood, names_left, settled_names,
 ghost use Rattle.bench_shard.specs.Settling.{states_left, unsettled_names, unsettled_states};
 
 use crate::name::key_octets;
+use crate::seek::find;
 use bench_item::Key;
 use bench_log::KeptState;
 use sess_dir::Directory;
 use std::alloc::{AllocError, Global};
 use std::mem;
-use tab_step::MachineState;
 
 /// What became of a shard's machines, for it to be taken back.
 #[derive(Drop)]
@@ -76,23 +76,22 @@ fn settle(
     names: &mut Directory,
     states: &mut Vec<KeptState>,
     key: &Key,
-    state: &MachineState,
+    state: KeptState,
 ) -> Result<Settled, AllocError>
     requires each { length states.old.items ≡ length names.old }
     requires room { place_of names.old (key_octets key.now) ≡ None → length names.old < MAX_NAMES }
     ensures names { OnOk result (names.new ≡ settled_names names.old key.now) }
-    ensures states { OnOk result (states.new.items ≡ settled_states names.old states.old.items key.now state.now) }
+    ensures states { OnOk result (states.new.items ≡ settled_states names.old states.old.items key.now state) }
     ensures undone { IfOk result (λ settled. (unsettled_names settled names.new ≡ names.old)
         × (unsettled_states settled states.new.items ≡ states.old.items)) }
     ensures each { length states.new.items ≡ length names.new }
     ensures err { OnErr result ((names.new ≡ names.old) × (states.new.items ≡ states.old.items)) }
 {
-    let kept = KeptState::keep(alloc, state)?;
-    let octets = key_octets(alloc, key)?;
-    match names.find(&octets) {
-        Some(place) => Ok(stand(states, place, kept)),
+    match find(alloc, names, key)? {
+        Some(place) => Ok(stand(states, place, state)),
         None => {
-            come(names, states, &octets, kept)?;
+            let octets = key_octets(alloc, key)?;
+            come(names, states, &octets, state)?;
             Ok(Settled::Came)
         }
     }
@@ -104,12 +103,12 @@ pub(crate) fn settle_left(
     names: &mut Directory,
     states: &mut Vec<KeptState>,
     key: &Key,
-    left: &Option<MachineState>,
+    left: Option<KeptState>,
 ) -> Result<Settled, AllocError>
     requires each { length states.old.items ≡ length names.old }
-    requires room { IsSome left.now → place_of names.old (key_octets key.now) ≡ None → length names.old < MAX_NAMES }
-    ensures names { OnOk result (names.new ≡ names_left names.old key.now left.now) }
-    ensures states { OnOk result (states.new.items ≡ states_left names.old states.old.items key.now left.now) }
+    requires room { IsSome left → place_of names.old (key_octets key.now) ≡ None → length names.old < MAX_NAMES }
+    ensures names { OnOk result (names.new ≡ names_left names.old key.now left) }
+    ensures states { OnOk result (states.new.items ≡ states_left names.old states.old.items key.now left) }
     ensures undone { IfOk result (λ settled. (unsettled_names settled names.new ≡ names.old)
         × (unsettled_states settled states.new.items ≡ states.old.items)) }
     ensures each { length states.new.items ≡ length names.new }

@@ -7,7 +7,8 @@ ghost use Rattle.bench_shard.specs.Lent.{key_lent};
 ghost use Rattle.bench_shard.specs.Names.{key_in};
 ghost use Rattle.bench_shard.specs.View.{place_in};
 
-use crate::name::{LentKey, key_in, key_octets, lent_key};
+use crate::name::{LentKey, key_in, lent_key};
+use crate::seek::find;
 use bench_item::{Item, Key, MachineItem, Peers, Series};
 use bench_log::KeptState;
 use bench_queue::{Inbox, Outbox};
@@ -98,8 +99,7 @@ impl ShardState {
         ensures place { IfOk result (λ place. place ≡ place_in self.now key.now) }
         ensures within { IfOk result (λ place. IfSome place (λ place. place < length self.now.names)) }
     {
-        let octets = key_octets(alloc, key)?;
-        Ok(self.names.find(&octets))
+        find(alloc, &self.names, key)
     }
 
     /// The machine at a place, if there is one.

@@ -14,8 +14,9 @@ use crate::fault::WorkFault;
 use crate::open::{number_at, start};
 use crate::state::ShardState;
 use bench_item::{Condition, Key, MAX_MACHINES, MAX_WAITING, MachineItem, WORK_ROOM};
+use bench_log::{KeptMachineItem, KeptState};
 use charge_session::Want;
-use std::alloc::{AllocError, Global};
+use std::alloc::AllocError;
 use tab_law::PLACES;
 use tab_step::MachineState;
 
@@ -33,11 +34,11 @@ pub enum Fate {
 /// What a shard is to do next: its oldest item, and the item's machine.
 #[derive(Drop)]
 pub struct Task {
-    pub item: MachineItem,
+    pub item: KeptMachineItem,
     /// The number that the machine has, or gets where it is not there yet.
     pub number: u64,
     /// Where it stands: at its start where it is not there yet.
-    pub before: MachineState,
+    pub before: KeptState,
     pub fate: Fate,
     /// What the item asks of the account book: only one that moves its machine asks something.
     pub want: Option<Want>,
@@ -88,22 +89,23 @@ impl ShardState {
     }
 
     // Where the machine at a place stands: at its start behind all.
-    pub(crate) fn state_for(&self, place: usize) -> MachineState
+    pub(crate) fn state_for(&self, place: usize) -> Result<KeptState, AllocError>
         requires { place ≤ length self.now.names }
-        ensures { result ≡ unwrap_or (slice_get self.now.states place) (start (number_at self.now.number place)) }
+        ensures { IfOk result (λ state. state
+            ≡ unwrap_or (slice_get self.now.states place) (start (number_at self.now.number place))) }
     {
-        match self.state(place) {
-            Some(state) => state,
-            None => start(self.number_for(place)),
+        match self.states.get(place) {
+            Some(state) => state.copy(),
+            None => KeptState::keep(self.alloc, &start(self.number_for(place))),
         }
     }
 
     // Where a machine stands: at its start where it is not there.
-    pub(crate) fn before(&self, key: &Key) -> Result<MachineState, AllocError>
+    pub(crate) fn before(&self, key: &Key) -> Result<KeptState, AllocError>
         ensures { IfOk result (λ state. state ≡ state_for self.now key.now) }
     {
         let place = self.find(self.alloc, key)?.unwrap_or(self.names.len());
-        Ok(self.state_for(place))
+        self.state_for(place)
     }
 
     // What is to become of an item for the machine at that place, if it is there, which stands there.

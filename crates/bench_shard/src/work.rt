@@ -5,16 +5,15 @@ ghost use Rattle.bench_shard.specs.Works.{Fits, after_work, state_left, taken_ba
 use crate::settle::{Settled, settle_left, unsettle};
 use crate::state::ShardState;
 use acct_totals::Op;
-use bench_item::{Handled, Item, MachineItem, Series};
-use bench_log::KeptItem;
-use std::alloc::{AllocError, Global};
-use tab_step::MachineState;
+use bench_item::{MachineItem, Series};
+use bench_log::{KeptHandled, KeptItem, KeptMachineItem, KeptState};
+use std::alloc::AllocError;
 
 /// What a handled item leads to.
 #[derive(Drop)]
 pub struct Effects {
     /// What the shard puts out, in order.
-    pub posts: Series<Item>,
+    pub posts: Vec<KeptItem>,
     /// The operations that the account book is to do, in order.
     pub ops: Series<Op>,
 }
@@ -22,8 +21,8 @@ pub struct Effects {
 /// A shard's oldest item, what becomes of it and what that leads to.
 #[derive(Drop)]
 pub struct Work {
-    pub item: MachineItem,
-    pub handled: Handled,
+    pub item: KeptMachineItem,
+    pub handled: KeptHandled,
     pub effects: Effects,
 }
 
@@ -35,31 +34,22 @@ pub struct ShardRecord {
     pub settled: Settled,
 }
 
-/// Keeps items.
-fn keep_items(alloc: Global, plain: &[Item]) -> Result<Vec<KeptItem>, AllocError>
-    ensures { IfOk result (λ kept. kept.items ≡ plain.now) }
-{
-    let mut kept = Vec::with_capacity(alloc, plain.len())?;
-    for item in plain {
-        kept.push(KeptItem::keep(alloc, item)?)?;
-    }
-    Ok(kept)
-}
-
 impl ShardState {
     // Where the machine of a handled item comes to stand.
     fn left(
         &self,
         item: &MachineItem,
-        handled: &Handled,
-    ) -> Result<Option<MachineState>, AllocError>
+        handled: &KeptHandled,
+    ) -> Result<Option<KeptState>, AllocError>
         ensures { IfOk result (λ left. left ≡ state_left self.now item.now handled.now) }
     {
-        match handled {
-            Handled::TooBusy => Ok(None),
-            Handled::Stale(_) => Ok(Some(self.before(&item.key)?)),
-            Handled::Move(moved) => Ok(Some(moved.after)),
+        if let Some(moved) = handled.moved() {
+            return Ok(Some(moved.after().copy()?));
         }
+        if handled.is_stale() {
+            return Ok(Some(self.before(&item.key)?));
+        }
+        Ok(None)
     }
 
     /// Does the work on its oldest item, which is this one: it is handled, its machine comes to stand where that leaves
@@ -67,21 +57,19 @@ impl ShardState {
     pub fn commit(
         &mut self,
         item: &MachineItem,
-        handled: &Handled,
-        posts: &[Item],
+        handled: &KeptHandled,
+        posts: Vec<KeptItem>,
     ) -> Result<ShardRecord, AllocError>
         requires { Fits self.old item.now handled.now }
-        ensures ok { OnOk result (self.new ≡ after_work self.old item.now handled.now posts.now) }
+        ensures ok { OnOk result (self.new ≡ after_work self.old item.now handled.now posts.items) }
         ensures undone { IfOk result (λ change. taken_back change self.new ≡ self.old) }
         ensures err { OnErr result (self.new ≡ self.old) }
     {
-        let alloc = self.alloc;
         let left = self.left(item, handled)?;
-        let kept = keep_items(alloc, posts)?;
-        let posted = kept.len();
+        let posted = posts.len();
         self.outbox.reserve(posted)?;
-        let settled = settle_left(alloc, &mut self.names, &mut self.states, &item.key, &left)?;
-        self.outbox.put_all(kept);
+        let settled = settle_left(self.alloc, &mut self.names, &mut self.states, &item.key, left)?;
+        self.outbox.put_all(posts);
         self.inbox.work_one();
         Ok(ShardRecord { posted, settled })
     }

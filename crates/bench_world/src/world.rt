@@ -1,6 +1,7 @@
 //! A world: all of a bench in one value.
 ghost use Rattle.std.specs.Prelude.{◌≡◌, [], None, IfOk, IfErr, IsErrOf, IsFalse, IsTrue, OnOk, OnErr, false, map};
 ghost use Rattle.std.specs.Prelude.{nat_lt, replicate, slice_set, true};
+ghost use Rattle.bench_item.specs.declared.step.Step.TheVariants as steps;
 ghost use Rattle.bench_open.specs.Given.{config_of};
 ghost use Rattle.bench_open.specs.Faults.{IsOpeningError};
 ghost use Rattle.bench_spec.specs.Legal.{MayFollow};
@@ -8,7 +9,7 @@ ghost use Rattle.bench_spec.specs.Opening.{opening_refusal, settings_of};
 ghost use Rattle.bench_spec.specs.Taken.{GoesBackTo, Replays, Runs, Takes, fault_of, opened, with_paused};
 
 use bench_core::{Core, ReplayError};
-use bench_item::{Entry, Step, StepFault};
+use bench_item::{Entry, Source, Step, StepFault};
 use bench_open::Config;
 use bench_spec::OpeningError;
 use std::alloc::Global;
@@ -73,6 +74,33 @@ impl World {
         ensures err { OnErr result (self.new.core ≡ self.old.core) }
     {
         self.core.step(&self.registries, step, &mut self.room)
+    }
+
+    /// Takes the step that lifts the oldest item of a source, as `step` does in more time.
+    pub fn lift(&mut self, source: Source) -> Result<(), StepFault>
+        ensures ok { OnOk result (Takes self.old.core self.new.core (steps.Lift source)) }
+        ensures fault { IfErr result (λ f. f ≡ fault_of self.old.core (steps.Lift source)) }
+        ensures err { OnErr result (self.new.core ≡ self.old.core) }
+    {
+        self.core.take_lift(source)
+    }
+
+    /// Takes the step that drops the item in a source's hand, as `step` does in more time.
+    pub fn drop_item(&mut self, source: Source) -> Result<(), StepFault>
+        ensures ok { OnOk result (Takes self.old.core self.new.core (steps.Drop source)) }
+        ensures fault { IfErr result (λ f. f ≡ fault_of self.old.core (steps.Drop source)) }
+        ensures err { OnErr result (self.new.core ≡ self.old.core) }
+    {
+        self.core.take_drop(source)
+    }
+
+    /// Takes the step in which a shard handles its oldest item, as `step` does in more time.
+    pub fn work(&mut self, shard: u32) -> Result<(), StepFault>
+        ensures ok { OnOk result (Takes self.old.core self.new.core (steps.Work shard)) }
+        ensures fault { IfErr result (λ f. f ≡ fault_of self.old.core (steps.Work shard)) }
+        ensures err { OnErr result (self.new.core ≡ self.old.core) }
+    {
+        self.core.take_work(&self.registries, shard, &mut self.room)
     }
 
     /// Takes steps in their order, up to the first that is refused: answers its place in the list, from 0, and why.

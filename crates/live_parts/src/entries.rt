@@ -7,7 +7,7 @@ use bench_log::{KeptEntry, KeptItem};
 use std::alloc::{AllocError, Global};
 
 /// The same item in memory of its own.
-pub(crate) fn copy_item(alloc: Global, item: &Item) -> Result<Item, AllocError>
+fn copy_item(alloc: Global, item: &Item) -> Result<Item, AllocError>
     ensures { IfOk result (λ copy. copy ≡ item.now) }
 {
     let kept = KeptItem::keep(alloc, item)?;

@@ -8,7 +8,7 @@ ghost use Rattle.bench_spec.specs.Merged.{Did};
 ghost use Rattle.live_parts.specs.Entries.{bare_entry, carried_entry};
 ghost use Rattle.live_parts.specs.LineParts.{IsAdded, entries_of, fault_or_full, joined_refusal, lift_refusal};
 
-use crate::entries::{bare_entry, carried_entry, copy_item};
+use crate::entries::{bare_entry, carried_entry};
 use crate::stamped::StampedLog;
 use base_list::Octets;
 use bench_item::{Item, Source, Step, StepFault};
@@ -218,7 +218,7 @@ impl LinesPart {
         ensures { IfOk result (λ item. next_on self.now.lines line ≡ Some item) }
     {
         match self.lines.next(line as u64) {
-            Some(item) => copy_item(self.alloc, item),
+            Some(item) => item.show(self.alloc),
             None => unreachable!(),
         }
     }

@@ -27,3 +27,12 @@ returns-in_ok-arrival-in-Some-clause-undone c =
 
 pub returns-in_ok-arrival-in-Some-clause-placed : goal.returns-in_ok-arrival-in-Some-clause-placed
 returns-in_ok-arrival-in-Some-clause-placed c = λ source. c.in_ok-arrival-in-Some.ensures.placed c.args.wheel.now source
+
+pub returns-in_ok-delivered-in-Some-deed-clause-undone : goal.returns-in_ok-delivered-in-Some-deed-clause-undone
+returns-in_ok-delivered-in-Some-deed-clause-undone c =
+    λ s. c.in_ok-delivered-in-Some-deed.ensures.undone
+    (record s { shards = c.args.shards.now; carried = c.args.carried.now.items; timers = c.args.wheel.now.armed })
+
+pub returns-in_ok-delivered-in-Some-deed-clause-placed : goal.returns-in_ok-delivered-in-Some-deed-clause-placed
+returns-in_ok-delivered-in-Some-deed-clause-placed c =
+    λ source. c.in_ok-delivered-in-Some-deed.ensures.placed c.args.wheel.now source
