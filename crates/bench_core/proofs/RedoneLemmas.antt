@@ -118,3 +118,14 @@ redone-is tables shard page item handled effects v w p m q log logged undos undo
   item_is = refl;
   handled_is = refl;
 }
+
+-- the same where the item and what became of it were kept
+pub redone-kept : (tables : Tables) (shard page : ℕ) (item kept : MachineItem) (handled became : Handled) (effects : Effects) (v w : ShardView) (p m q : Paged)
+    (log logged : List Entry) (undos undone : List Undo) → kept ≡ item → became ≡ handled → Fits v item handled → BecomesIn tables p.book v item handled
+    → AreEffects tables.laws v item handled effects → m ≡ with_book p p.book m.room
+    → IsWritten shard page (record { item = kept; handled = became; effects = effects }) v w m q log logged undos undone
+    → IsRedone tables shard page item handled v w p q log logged undos undone
+redone-kept tables shard page item kept handled became effects v w p m q log logged undos undone same is fits becomes are held written =
+    redone-is tables shard page item handled effects v w p m q log logged undos undone fits becomes are held
+    (subst (λ h. IsWritten shard page (record { item = item; handled = h; effects = effects }) v w m q log logged undos undone) is
+    (subst (λ i. IsWritten shard page (record { item = i; handled = became; effects = effects }) v w m q log logged undos undone) same written))

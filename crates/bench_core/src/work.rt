@@ -101,7 +101,8 @@ fn do_task(
         undo.old.records undo.new.records) }
 {
     let work = shard.prepare(alloc, roles, registry, page, task, room)?;
-    write(number, shard, place, page, log, undo, work)
+    write(number, shard, place, page, log, undo, work)?;
+    Ok(())
 }
 
 impl Core {

@@ -115,7 +115,8 @@ fn do_task(
         stamps.old.items stamps.new.items) }
 {
     let work = shard.prepare(alloc, roles, registry, page, task, room)?;
-    write(shard, page, log, stamps, stamp, work)
+    write(shard, page, log, stamps, stamp, work)?;
+    Ok(())
 }
 
 /// The entry of an item that is lifted from a shard.

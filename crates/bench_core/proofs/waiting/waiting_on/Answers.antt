@@ -10,7 +10,7 @@ returns-in-None c = copied-all c.args.lines.now.lines c.args.line c.loop-place.p
 pub loop-place-preserved : goal.loop-place-preserved
 loop-place-preserved c =
     let lines = c.args.lines.now.lines in
-    let item = c.in_ok-copy-in-Some.field-0 in
-    let there : Some item ≡ item_on lines c.args.line c.loop-place.place = ap Some c.in_ok-copy-in-Some.ensures ∙ c.in-Some.ensures in
+    let item = c.in_ok-show-in-Some.field-0 in
+    let there : Some item ≡ item_on lines c.args.line c.loop-place.place = ap Some c.in_ok-show-in-Some.ensures ∙ c.in-Some.ensures in
     ap (λ items. items ++ drop (c.loop-place.place + 1) (put_out_on lines c.args.line)) c.in_ok-push-in-Some.ensures.items
     ∙ copied-more lines c.args.line c.loop-place.place (c.loop-place.place + 1) c.loop-place.items.items item refl there c.loop-place.invariant

@@ -31,7 +31,7 @@ redo_task-requires c =
     record { task = subst (λ v. IsTask w.roles.laws v c.in-Some.task) (same-some c.index.result.now c.index_mut.result.now (sym one ∙ two)) is }
 
 -- the shard that works, with its page
-works : (c : goal.After-drop-task) → Works (settings_in c.self.inside) c.self.inside.log.entries [] (stored_in c.self.inside) c.self.inside.pages.items c.self.inside.undo.records c.args.shard c.unwrap_or-place.result c.index_mut.result.now c.index_mut-2.result.now c.in-Some.task
+works : (c : goal.After-drop-task-2) → Works (settings_in c.self.inside) c.self.inside.log.entries [] (stored_in c.self.inside) c.self.inside.pages.items c.self.inside.undo.records c.args.shard c.unwrap_or-place.result c.index_mut.result.now c.index_mut-2.result.now c.in-Some.task
 works c =
     let w = c.self.inside in
     let could = subst (λ run. refusal run.settings run.log [] (steps.Work c.args.shard) ≡ None) (sym c.self.view_is) c.requires in
