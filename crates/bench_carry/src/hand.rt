@@ -181,9 +181,7 @@ pub fn hand_lacks_room(
         (hand_of source (with_hands s shards.now outboxes.now lines.now.lines carried.now)) false }
 {
     match source {
-        Source::Line(line) => {
-            kept_lacks_room(shards, lines, held_on_line(lines, carried, line))
-        }
+        Source::Line(line) => { kept_lacks_room(shards, lines, held_on_line(lines, carried, line)) }
         Source::Shard(shard) => {
             kept_lacks_room(shards, lines, held_in_shard(shards, shard as usize))
         }

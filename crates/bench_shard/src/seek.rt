@@ -54,11 +54,7 @@ fn find_each(names: &Directory, key: &Key) -> Option<usize>
 }
 
 /// The place of a machine, by a hash of its octets: memory is taken for a name that is not short.
-pub(crate) fn find(
-    alloc: Global,
-    names: &Directory,
-    key: &Key,
-) -> Result<Option<usize>, AllocError>
+pub(crate) fn find(alloc: Global, names: &Directory, key: &Key) -> Result<Option<usize>, AllocError>
     ensures { IfOk result (λ place. place ≡ place_of names.now (key_octets key.now)) }
 {
     if key.name.as_slice().len() < SHORT {

@@ -68,7 +68,13 @@ impl ShardState {
         let left = self.left(item, handled)?;
         let posted = posts.len();
         self.outbox.reserve(posted)?;
-        let settled = settle_left(self.alloc, &mut self.names, &mut self.states, &item.key, left)?;
+        let settled = settle_left(
+            self.alloc,
+            &mut self.names,
+            &mut self.states,
+            &item.key,
+            left,
+        )?;
         self.outbox.put_all(posts);
         self.inbox.work_one();
         Ok(ShardRecord { posted, settled })

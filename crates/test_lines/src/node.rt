@@ -117,7 +117,7 @@ pub fn lifted(alloc: Global, lines: &mut Lines<Listener>, line: u64) -> Result<V
         let Some(item) = lines.next(line) else {
             break;
         };
-        put_item(alloc, &laws, item, &mut text)?;
+        put_item(alloc, &laws, &item.show(alloc)?, &mut text)?;
         let _ = lines.lift(line);
     }
     Ok(text)

@@ -6,9 +6,9 @@ use Rattle.bench_core.proofs.work.do_task.Goals as goal
 pub returns-clause-ok : goal.returns-clause-ok
 returns-clause-ok g c =
     let done = subst
-        (λ p. IsWritten c.args.number c.args.place c.in_ok-work.work c.args.shard.now c.write.new.shard p c.write.new.page c.args.log.now.entries
-        c.write.new.log.entries c.args.undo.now.records c.write.new.undo.records)
-        c.in_ok-work.ensures.page c.in_ok-write.ensures.ok
+    (λ p. IsWritten c.args.number c.args.place c.in_ok-work.work c.args.shard.now c.write.new.shard p c.write.new.page c.args.log.now.entries
+    c.write.new.log.entries c.args.undo.now.records c.write.new.undo.records)
+    c.in_ok-work.ensures.page c.in_ok-write.ensures.ok
     in
     record {
       work = c.in_ok-work.work;
