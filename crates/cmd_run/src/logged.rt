@@ -1,16 +1,17 @@
 //! A run that writes logs beside what it prints.
-ghost use Rattle.std.specs.Prelude.{◌≡◌, ◌≢◌, ◌⊎◌, ◌<◌, ◌≤◌, ◌+◌, ◌*◌, ◌-◌, ◌^◌, [], IfSome, map, max, not, option_map};
+ghost use Rattle.std.specs.Prelude.{◌≡◌, ◌≢◌, ◌⊎◌, ◌<◌, ◌≤◌, ◌+◌, ◌*◌, ◌-◌, ◌^◌, [], IfOk, IfSome, None, map, max, not, option_map};
 ghost use Rattle.base_device.specs.Devices.{IsRun};
 ghost use Rattle.cmd_bench.specs.Logged.{IsLoggedMet, TellsUnwritten};
-ghost use Rattle.cmd_run.specs.Logged.{wanted_by};
+ghost use Rattle.cmd_run.specs.Logged.{AskForLogs, wanted_by};
+ghost use Rattle.cmd_words.specs.Invocations.{meaning};
 ghost use Rattle.cmd_words.specs.Words.{wanted, word_faults};
 
 use crate::run::shown_of;
 use base_device::{ByteSink, FileSource, MAX_IDLE_WRITES, MAX_READS, Status};
 use cmd_bench::run_logged_nodes;
-use cmd_words::{Invocation, Task, parse_words};
+use cmd_words::{Invocation, Task, WordsError, parse_words};
 use node_logs::FileSink;
-use std::alloc::Global;
+use std::alloc::{AllocError, Global};
 use std::convert::AsStr;
 
 /// The words of `run --nodes --log`.
@@ -27,25 +28,39 @@ pub struct LogWords<'a> {
     pub script: Option<&'a str>,
 }
 
-/// The words of a run that writes logs. None where they ask for anything else, or there is no memory to understand
-/// them.
-pub fn log_words<'a, S: AsStr>(alloc: Global, words: &'a [S]) -> Option<LogWords<'a>>
-    ensures { IfSome result (λ asked. (word_faults (map S.text words.entry.now) ≡ [])
-        × (wanted (map S.text words.entry.now) ≡ wanted_by asked)) }
+/// The words of a run that writes logs, where a command asks for one.
+fn logged_in<'a>(task: Task<'a>) -> Option<LogWords<'a>>
+    ensures some { IfSome result (λ asked. meaning task ≡ wanted_by asked) }
+    ensures none { result ≡ None → AskForLogs (meaning task) → ⊥ }
+{
+    match task {
+        Task::Logged(folder, quiet, sent, totals, cut, config, script) => Some(LogWords {
+            folder,
+            quiet,
+            sent,
+            totals,
+            cut,
+            config,
+            script,
+        }),
+        _ => None,
+    }
+}
+
+/// The words of a run that writes logs; None where they are refused or ask for anything else.
+pub fn log_words<'a, S: AsStr>(
+    alloc: Global,
+    words: &'a [S],
+) -> Result<Option<LogWords<'a>>, AllocError>
+    ensures asked { IfOk result (λ found. IfSome found (λ asked. (word_faults (map S.text words.entry.now) ≡ [])
+        × (wanted (map S.text words.entry.now) ≡ wanted_by asked))) }
+    ensures none { IfOk result (λ found. found ≡ None → word_faults (map S.text words.entry.now) ≡ []
+        → AskForLogs (wanted (map S.text words.entry.now)) → ⊥) }
 {
     match parse_words(alloc, words) {
-        Ok(Invocation::Task(Task::Logged(folder, quiet, sent, totals, cut, config, script))) => {
-            Some(LogWords {
-                folder,
-                quiet,
-                sent,
-                totals,
-                cut,
-                config,
-                script,
-            })
-        }
-        _ => None,
+        Ok(Invocation::Task(task)) => Ok(logged_in(task)),
+        Ok(Invocation::Text(_)) | Err(WordsError::Refused(_)) => Ok(None),
+        Err(WordsError::NoMemory) => Err(AllocError),
     }
 }
 

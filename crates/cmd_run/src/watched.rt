@@ -1,16 +1,17 @@
 //! A quiet run, of which somebody is told how far it is.
-ghost use Rattle.std.specs.Prelude.{◌≡◌, ◌≢◌, ◌<◌, ◌≤◌, ◌+◌, ◌*◌, ◌-◌, ◌^◌, [], IfSome, false, map, max};
+ghost use Rattle.std.specs.Prelude.{◌≡◌, ◌≢◌, ◌<◌, ◌≤◌, ◌+◌, ◌*◌, ◌-◌, ◌^◌, [], IfOk, IfSome, None, false, map, max};
 ghost use Rattle.base_device.specs.Devices.{IsRun};
 ghost use Rattle.cmd_bench.specs.Met.{IsRunMet};
-ghost use Rattle.cmd_run.specs.Watched.{quiet_wanted};
+ghost use Rattle.cmd_run.specs.Watched.{AskForQuiet, quiet_wanted};
+ghost use Rattle.cmd_words.specs.Invocations.{meaning};
 ghost use Rattle.cmd_words.specs.Words.{wanted, word_faults};
 
 use crate::run::shown_of;
 use base_device::{ByteSink, FileSource, MAX_IDLE_WRITES, MAX_READS, Status};
 use base_progress::Progress;
 use cmd_bench::run_watched;
-use cmd_words::{Invocation, Task, parse_words};
-use std::alloc::Global;
+use cmd_words::{Invocation, Task, WordsError, parse_words};
+use std::alloc::{AllocError, Global};
 use std::convert::AsStr;
 
 /// The words of `run --quiet`.
@@ -22,20 +23,36 @@ pub struct QuietWords<'a> {
     pub script: Option<&'a str>,
 }
 
-/// The words of a quiet run of one node. None where they ask for anything else, or there is no memory to understand
-/// them.
-pub fn quiet_words<'a, S: AsStr>(alloc: Global, words: &'a [S]) -> Option<QuietWords<'a>>
-    ensures { IfSome result (λ asked. (word_faults (map S.text words.entry.now) ≡ [])
-        × (wanted (map S.text words.entry.now) ≡ quiet_wanted asked)) }
+/// The words of a quiet run of one node, where a command asks for one.
+fn quiet_in<'a>(task: Task<'a>) -> Option<QuietWords<'a>>
+    ensures some { IfSome result (λ asked. meaning task ≡ quiet_wanted asked) }
+    ensures none { result ≡ None → AskForQuiet (meaning task) → ⊥ }
 {
-    match parse_words(alloc, words) {
-        Ok(Invocation::Task(Task::Run(true, sent, totals, config, script))) => Some(QuietWords {
+    match task {
+        Task::Run(true, sent, totals, config, script) => Some(QuietWords {
             sent,
             totals,
             config,
             script,
         }),
         _ => None,
+    }
+}
+
+/// The words of a quiet run of one node; None where they are refused or ask for anything else.
+pub fn quiet_words<'a, S: AsStr>(
+    alloc: Global,
+    words: &'a [S],
+) -> Result<Option<QuietWords<'a>>, AllocError>
+    ensures asked { IfOk result (λ found. IfSome found (λ asked. (word_faults (map S.text words.entry.now) ≡ [])
+        × (wanted (map S.text words.entry.now) ≡ quiet_wanted asked))) }
+    ensures none { IfOk result (λ found. found ≡ None → word_faults (map S.text words.entry.now) ≡ []
+        → AskForQuiet (wanted (map S.text words.entry.now)) → ⊥) }
+{
+    match parse_words(alloc, words) {
+        Ok(Invocation::Task(task)) => Ok(quiet_in(task)),
+        Ok(Invocation::Text(_)) | Err(WordsError::Refused(_)) => Ok(None),
+        Err(WordsError::NoMemory) => Err(AllocError),
     }
 }
 

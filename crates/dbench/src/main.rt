@@ -57,12 +57,12 @@ fn run_words<I: FileSource, O: ByteSink>(
     requires idle { O.idle sink.old ≡ 0 }
     requires write_failures { O.failures sink.old < 2 ^ 64 - 1 }
 {
-    if let Some(asked) = log_words(rt.alloc(), words) {
+    if let Ok(Some(asked)) = log_words(rt.alloc(), words) {
         let mut folder = Folder::new(rt, asked.folder);
         return run_logged(rt.alloc(), asked, source, sink, &mut folder);
     }
     if rt.stderr().is_terminal() {
-        if let Some(asked) = quiet_words(rt.alloc(), words) {
+        if let Ok(Some(asked)) = quiet_words(rt.alloc(), words) {
             let mut line = ProgressLine::new(rt.alloc(), rt, rt.stderr());
             let status = run_quietly(rt.alloc(), asked, source, sink, &mut line);
             line.erase();
