@@ -30,8 +30,8 @@ pub struct LogWords<'a> {
 
 /// The words of a run that writes logs, where a command asks for one.
 fn logged_in<'a>(task: Task<'a>) -> Option<LogWords<'a>>
-    ensures some { IfSome result (λ asked. meaning task ≡ wanted_by asked) }
-    ensures none { result ≡ None → AskForLogs (meaning task) → ⊥ }
+    ensures some { IfSome result (λ asked. meaning task.entry ≡ wanted_by asked) }
+    ensures none { result ≡ None → AskForLogs (meaning task.entry) → ⊥ }
 {
     match task {
         Task::Logged(folder, quiet, sent, totals, cut, config, script) => Some(LogWords {

@@ -25,8 +25,8 @@ pub struct QuietWords<'a> {
 
 /// The words of a quiet run of one node, where a command asks for one.
 fn quiet_in<'a>(task: Task<'a>) -> Option<QuietWords<'a>>
-    ensures some { IfSome result (λ asked. meaning task ≡ quiet_wanted asked) }
-    ensures none { result ≡ None → AskForQuiet (meaning task) → ⊥ }
+    ensures some { IfSome result (λ asked. meaning task.entry ≡ quiet_wanted asked) }
+    ensures none { result ≡ None → AskForQuiet (meaning task.entry) → ⊥ }
 {
     match task {
         Task::Run(true, sent, totals, config, script) => Some(QuietWords {

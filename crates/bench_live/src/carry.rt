@@ -1,0 +1,135 @@
+//! An item goes where it is for.
+ghost use Rattle.std.specs.Prelude.{◌≡◌, false, true};
+ghost use Rattle.live_parts.specs.Clocks.{with_arm, with_disarm};
+ghost use Rattle.live_parts.specs.LineParts.{is_for_lines};
+ghost use Rattle.bench_live.specs.Carried.{DropsAtClock, DropsAtLines};
+
+use crate::shared::Shared;
+use bench_desk::CarryFault;
+use bench_item::{Item, Key, MAX_SHARDS, MachineItem, Source, home};
+use live_parts::{ClockPart, LinesPart};
+use live_slot::{Hand, Turn, draw};
+use std::sync::Wait;
+use std::sync::atomic::AtomicU64;
+
+/// An item comes from a source to the connections, whose lock is held, with a stamp that is drawn now.
+fn drop_under(lines: &mut LinesPart, stamps: &AtomicU64, source: Source, item: &Item) -> Turn
+    requires { is_for_lines item.now ≡ true }
+    ensures { DropsAtLines result lines.old lines.new source item.now }
+{
+    let stamp = draw(stamps);
+    match lines.drop_here(source, item, stamp) {
+        Ok(()) => Turn::Done,
+        Err(CarryFault::NoMemory) => Turn::NoMemory,
+        Err(CarryFault::Nothing | CarryFault::Full) => Turn::Idle,
+    }
+}
+
+/// A source arms the timer of a machine, under the lock of the timers, with a stamp that is drawn now.
+fn arm_under(
+    clock: &mut ClockPart,
+    stamps: &AtomicU64,
+    source: Source,
+    machine: u64,
+    generation: u64,
+    ticks: u64,
+    key: &Option<Key>,
+) -> Turn
+    ensures { DropsAtClock result clock.old clock.new
+        (λ stamp. with_arm clock.old source machine generation ticks key.now stamp) }
+{
+    let stamp = draw(stamps);
+    match clock.arm(source, machine, generation, ticks, key, stamp) {
+        Ok(()) => Turn::Done,
+        Err(CarryFault::NoMemory) => Turn::NoMemory,
+        Err(CarryFault::Nothing | CarryFault::Full) => Turn::Idle,
+    }
+}
+
+/// A source disarms the timer of a machine, under the lock of the timers, with a stamp that is drawn now.
+fn disarm_under(clock: &mut ClockPart, stamps: &AtomicU64, source: Source, machine: u64) -> Turn
+    ensures { DropsAtClock result clock.old clock.new (λ stamp. with_disarm clock.old source machine stamp) }
+{
+    let stamp = draw(stamps);
+    match clock.disarm(source, machine, stamp) {
+        Ok(()) => Turn::Done,
+        Err(CarryFault::NoMemory) => Turn::NoMemory,
+        Err(CarryFault::Nothing | CarryFault::Full) => Turn::Idle,
+    }
+}
+
+impl Shared {
+    // An item comes from a source to the shard that it is for.
+    fn arrive<R: Wait>(&self, rt: &R, source: Source, item: &MachineItem) -> Turn {
+        let count = self.shards.len();
+        if count == 0 || count > MAX_SHARDS {
+            return Turn::Idle;
+        }
+        let Some(shard) = self.shards.get(home(count, &item.key)) else {
+            return Turn::Idle;
+        };
+        let mut slot = shard.slot.lock(rt);
+        let stamp = draw(&self.stamps);
+        let turn = slot.arrive(source, item, stamp);
+        shard.moved.notify_all();
+        turn
+    }
+
+    // An item comes from a source to the connections.
+    fn drop_at_lines<R: Wait>(&self, rt: &R, source: Source, item: &Item) -> Turn
+        requires { is_for_lines item.now ≡ true }
+    {
+        let mut lines = self.lines.lock(rt);
+        drop_under(&mut lines, &self.stamps, source, item)
+    }
+
+    // A source arms the timer of a machine.
+    fn arm<R: Wait>(
+        &self,
+        rt: &R,
+        source: Source,
+        machine: u64,
+        generation: u64,
+        ticks: u64,
+        key: &Option<Key>,
+    ) -> Turn {
+        let mut clock = self.clock.lock(rt);
+        arm_under(
+            &mut clock.part,
+            &self.stamps,
+            source,
+            machine,
+            generation,
+            ticks,
+            key,
+        )
+    }
+
+    // A source disarms the timer of a machine.
+    fn disarm<R: Wait>(&self, rt: &R, source: Source, machine: u64) -> Turn {
+        let mut clock = self.clock.lock(rt);
+        disarm_under(&mut clock.part, &self.stamps, source, machine)
+    }
+
+    /// Drops what a source has lifted, where it is for. One whose machine was not looked up for want of memory is not
+    /// dropped yet.
+    pub(crate) fn drop_item<R: Wait>(&self, rt: &R, source: Source, hand: &Hand) -> Turn
+        ensures { hand.now.is_named ≡ false → result ≡ Turn.NoMemory }
+    {
+        if !hand.is_named {
+            return Turn::NoMemory;
+        }
+        match &hand.item {
+            Item::ToMachine(item) => self.arrive(rt, source, item),
+            Item::ToLine(_) | Item::Dial { .. } | Item::Undial { .. } => {
+                self.drop_at_lines(rt, source, &hand.item)
+            }
+            Item::Arm {
+                machine,
+                generation,
+                ticks,
+            } => self.arm(rt, source, *machine, *generation, *ticks, &hand.key),
+            Item::Disarm { machine } => self.disarm(rt, source, *machine),
+        }
+    }
+}

@@ -1,0 +1,165 @@
+//! A step of a connection is taken.
+ghost use Rattle.std.specs.Prelude.{◌≡◌, ◌≤◌, Err, IfOk, IsSome, None, OnErr, OnOk, false, length, true};
+ghost use Rattle.bench_spec.specs.Merged.{is_fed};
+ghost use Rattle.bench_live.specs.Happened.{HasHappened, HasLifted, happens};
+
+use crate::shared::Shared;
+use bench_item::{LineState, Source, Step, StepFault};
+use live_parts::LinesPart;
+use live_slot::{Hand, Turn, draw};
+use std::alloc::AllocError;
+use std::sync::Wait;
+use std::sync::atomic::AtomicU64;
+
+/// Something happens to a connection, or one is accepted, under the lock of the connections, with a stamp that is drawn
+/// now.
+fn happen_under(lines: &mut LinesPart, stamps: &AtomicU64, step: &Step) -> Result<(), StepFault>
+    ensures ok { OnOk result (HasHappened lines.old lines.new step.now) }
+    ensures other { happens step.now ≡ false → result ≡ Err StepFault.Unknown }
+    ensures err { OnErr result (lines.new ≡ lines.old) }
+{
+    let stamp = draw(stamps);
+    match step {
+        Step::Joined => {
+            lines.joined(stamp)?;
+            Ok(())
+        }
+        Step::Dialled(line) => lines.dialled(*line, stamp),
+        Step::Came { line, piece } => lines.came(*line, piece.as_slice(), stamp),
+        Step::Lost(line) => lines.lost(*line, stamp),
+        Step::Told { .. } | Step::Fired { .. } | Step::Lift(_) | Step::Drop(_) | Step::Work(_) => {
+            Err(StepFault::Unknown)
+        }
+    }
+}
+
+/// Lifts the oldest item of a connection, under the lock of the connections, with a stamp that is drawn now.
+fn lift_under(lines: &mut LinesPart, stamps: &AtomicU64, line: u32) -> Result<Hand, StepFault>
+    ensures ok { IfOk result (λ hand. HasLifted lines.old lines.new line hand) }
+    ensures err { OnErr result (lines.new ≡ lines.old) }
+{
+    let item = lines.lift(line, draw(stamps))?;
+    Ok(Hand {
+        item,
+        key: None,
+        is_named: true,
+    })
+}
+
+/// Makes a hand for the connection at a place, where there is none.
+fn make_hand(hands: &mut Vec<Option<Hand>>, place: usize) -> Result<(), AllocError> {
+    let missing = place.saturating_add(1).saturating_sub(hands.len());
+    for _more in 0..missing {
+        hands.push(None)?;
+    }
+    Ok(())
+}
+
+impl Shared {
+    /// Where a connection stands, if there is one of that number.
+    pub fn state<R: Wait>(&self, rt: &R, line: u64) -> Option<LineState> {
+        let lines = self.lines.lock(rt);
+        lines.lines().state(line)
+    }
+
+    /// How many connections there are.
+    pub fn line_count<R: Wait>(&self, rt: &R) -> usize {
+        let lines = self.lines.lock(rt);
+        lines.lines().count()
+    }
+
+    /// Copies what a connection sent from a place on, as much as there is and fits, to the front of `out`, and says how
+    /// much that is.
+    pub fn unsent<R: Wait>(&self, rt: &R, line: u64, from: usize, out: &mut [u8]) -> usize
+        ensures { result ≤ length out.new }
+    {
+        let lines = self.lines.lock(rt);
+        lines.lines().unsent(line, from, out)
+    }
+
+    // Something happens to a connection, or one is accepted.
+    fn happen<R: Wait>(&self, rt: &R, step: &Step) -> Result<(), StepFault> {
+        let mut lines = self.lines.lock(rt);
+        happen_under(&mut lines, &self.stamps, step)
+    }
+
+    // Lifts the oldest item of a connection into its hand.
+    fn lift<R: Wait>(&self, rt: &R, hand: &mut Option<Hand>, line: u32) -> Result<(), StepFault>
+        ensures full { IsSome hand.old → result ≡ Err StepFault.Nothing }
+        ensures lifted { OnOk result (IsSome hand.new) }
+        ensures err { OnErr result (hand.new ≡ hand.old) }
+    {
+        if hand.is_some() {
+            return Err(StepFault::Nothing);
+        }
+        let mut lines = self.lines.lock(rt);
+        let own = lift_under(&mut lines, &self.stamps, line)?;
+        *hand = Some(own);
+        Ok(())
+    }
+
+    // Drops what a connection lifted, where it is for.
+    fn put_down<R: Wait>(&self, rt: &R, hand: &mut Option<Hand>, line: u32) -> Result<(), StepFault>
+        ensures empty { hand.old ≡ None → result ≡ Err StepFault.Nothing }
+        ensures dropped { OnOk result (hand.new ≡ None) }
+        ensures err { OnErr result (hand.new ≡ hand.old) }
+    {
+        let turn = match hand {
+            None => return Err(StepFault::Nothing),
+            Some(own) => self.drop_item(rt, Source::Line(line), own),
+        };
+        match turn {
+            Turn::Done => {
+                *hand = None;
+                Ok(())
+            }
+            Turn::Idle => Err(StepFault::Full),
+            Turn::NoMemory => Err(StepFault::NoMemory),
+        }
+    }
+
+    // Lifts the oldest item of a connection, or drops what it lifted. There is to be such a connection.
+    fn carry<R: Wait>(
+        &self,
+        rt: &R,
+        hands: &mut Vec<Option<Hand>>,
+        line: u32,
+        lifts: bool,
+    ) -> Result<(), StepFault> {
+        if self.state(rt, u64::from(line)).is_none() {
+            return Err(StepFault::Unknown);
+        }
+        if make_hand(hands, line as usize).is_err() {
+            return Err(StepFault::NoMemory);
+        }
+        let Some(hand) = hands.get_mut(line as usize) else {
+            return Err(StepFault::NoMemory);
+        };
+        if lifts {
+            self.lift(rt, hand, line)
+        } else {
+            self.put_down(rt, hand, line)
+        }
+    }
+
+    /// Takes a step of a connection: what happens to it, and what is lifted from it, into its hand, and dropped. Each
+    /// other step is refused as Unknown.
+    pub fn take<R: Wait>(
+        &self,
+        rt: &R,
+        hands: &mut Vec<Option<Hand>>,
+        step: &Step,
+    ) -> Result<(), StepFault>
+        ensures fed { OnOk result (is_fed step.now ≡ true) }
+        ensures other { is_fed step.now ≡ false → result ≡ Err StepFault.Unknown }
+    {
+        match step {
+            Step::Joined | Step::Dialled(_) | Step::Came { .. } | Step::Lost(_) => {
+                self.happen(rt, step)
+            }
+            Step::Lift(Source::Line(line)) => self.carry(rt, hands, *line, true),
+            Step::Drop(Source::Line(line)) => self.carry(rt, hands, *line, false),
+            _ => Err(StepFault::Unknown),
+        }
+    }
+}

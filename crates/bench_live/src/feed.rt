@@ -1,0 +1,41 @@
+//! Steps of connections are fed.
+ghost use Rattle.std.specs.Prelude.{◌≡◌, ◌∷◌, ◌++◌, [], Err, OnErr, OnOk, false, true};
+ghost use Rattle.bench_spec.specs.Merged.{is_fed};
+
+use crate::live::Live;
+use bench_item::{Source, Step, StepFault};
+use std::sync::Wait;
+
+/// Whether a step is one of a connection.
+fn is_fed(step: &Step) -> bool
+    ensures { result ≡ is_fed step.now }
+{
+    match step {
+        Step::Joined | Step::Dialled(_) | Step::Came { .. } | Step::Lost(_) => true,
+        Step::Lift(Source::Line(_)) | Step::Drop(Source::Line(_)) => true,
+        Step::Told { .. } | Step::Fired { .. } | Step::Lift(_) | Step::Drop(_) | Step::Work(_) => {
+            false
+        }
+    }
+}
+
+impl Live {
+    /// Takes a step of a connection: what happens to it, and what is lifted and dropped from it. A step that is taken
+    /// is kept behind the others; where it is refused nothing is kept. Each other step is refused as Unknown.
+    pub fn feed<R: Wait>(&mut self, rt: &R, step: Step) -> Result<(), StepFault>
+        ensures ok { OnOk result (self.new.fed.items ≡ self.old.fed.items ++ step ∷ []) }
+        ensures fed { OnOk result (is_fed step ≡ true) }
+        ensures other { is_fed step ≡ false → result ≡ Err StepFault.Unknown }
+        ensures err { OnErr result (self.new.fed.items ≡ self.old.fed.items) }
+    {
+        if !is_fed(&step) {
+            return Err(StepFault::Unknown);
+        }
+        if self.fed.reserve(1).is_err() {
+            return Err(StepFault::NoMemory);
+        }
+        self.shared.take(rt, &mut self.hands, &step)?;
+        self.fed.push(step).unwrap();
+        Ok(())
+    }
+}

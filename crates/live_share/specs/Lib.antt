@@ -1,5 +1,0 @@
-pub mod Slots
-pub mod Kept
-pub mod Worked
-pub mod Carried
-pub mod Happened
