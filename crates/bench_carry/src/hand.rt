@@ -101,7 +101,7 @@ pub fn hand_item(
     }
 }
 
-/// A copy of the item in the hand of a source, kept small, if one lies there.
+/// A copy of the item in the hand of a source, as it is kept, if one lies there.
 pub fn hand_copy(
     shards: &[ShardState],
     outboxes: &[Outbox],

@@ -235,7 +235,7 @@ impl ItemForm {
     }
 }
 
-/// What is on its way from a source, kept small. A contract sees the plain item.
+/// What is on its way from a source: an event or a deed in memory once. A contract sees the plain item.
 pub struct KeptItem {
     form: ItemForm,
 }

@@ -1,7 +1,7 @@
 //! The log of a bench: every step that was taken, with what it carried and which machine it moved.
 //!
-//! Contracts see the plain list of entries. Memory holds less: of the registers of a machine, the facts of an event and
-//! the arguments of a deed, zeros at the end take no room, and the numbers before them as few octets as they need.
+//! Contracts see the plain list of entries. Memory holds less: of a move's registers, facts and arguments, zeros at the
+//! end take no room, and the numbers before them as few octets as they need; an item stands once, and copies share it.
 //!
 //! | File | What it has |
 //! |---|---|
