@@ -1,21 +1,28 @@
 -- What was booked, and journals.
 use Rattle.std.proofs.Common.{◌≡◌, ◌∙◌, ◌+◌, ◌<◌, ℕ, List, [], ◌∷◌, ◌++◌, true, length, get_or, take}
 use Rattle.std.proofs.Common.{refl, ap, arith}
-use Rattle.std.specs.Prelude.{◌&&◌, filter, filter_map, nat_eq, Option, Some, None}
+use Rattle.std.specs.Prelude.{◌&&◌, filter_map, flat_map, is_none, nat_eq, Option, Some, None}
+use Rattle.std.specs.Prelude.{option_map, option_to_list, slice_get}
 use Rattle.std.proofs.lemmas.Bool.{and_from, and_parts, eq-eqb, eqb-true, false≢true}
 use Rattle.std.proofs.lemmas.List.{append-nil, get_or_default, take_more}
 use Rattle.std.proofs.lemmas.List.Concat.{flat_map-append}
-use Rattle.std.proofs.lemmas.List.Elements.{filter-append, filter_map-append}
+use Rattle.std.proofs.lemmas.List.Elements.{filter_map-append}
 use Rattle.acct_totals.specs.declared.op.Booked.{Booked}
 use Rattle.acct_totals.specs.declared.op.Op.{Op}
 use Rattle.acct_totals.specs.declared.op.Op.TheVariants.{Charge, Debit, Refund, Release, Reserve}
 use Rattle.acct_totals.specs.declared.op.Outcome.{Outcome}
 use Rattle.acct_totals.specs.declared.op.Outcome.TheVariants.{Done, Refused}
 use Rattle.tab_law.specs.Books.{Laws}
+use Rattle.bench_item.specs.Entries.{moved_in}
+use Rattle.bench_item.specs.declared.entry.Entry.{Entry}
+use Rattle.bench_item.specs.declared.entry.Moved.{Moved}
+use Rattle.bench_log.specs.Moves.{machine_in}
 use Rattle.bench_merge.specs.declared.merging.Placed.{Placed}
-use Rattle.bench_spec.specs.Booked.{booked, booked_in}
+use Rattle.bench_parts.specs.Found.{is_still}
+use Rattle.bench_spec.specs.Booked.{booked, booked_by, booked_in}
+use Rattle.bench_spec.specs.Machines.{machine_item}
 use Rattle.bench_spec.specs.Merged.{Kept}
-use Rattle.bench_gather.specs.Checks.{is_on_page, is_same_booked, is_same_op, is_same_outcome}
+use Rattle.bench_gather.specs.Checks.{is_same_booked, is_same_op, is_same_outcome}
 use Rattle.bench_gather.specs.Ordered.{entries_at, entries_by}
 
 -- one more that gives something, and one more that gives nothing
@@ -103,20 +110,31 @@ booked-itself one =
     and_from (is_same_op one.op one.op) (is_same_outcome one.outcome one.outcome) (op-itself one.op)
     (outcome-itself one.outcome)
 
--- what one place more of an order booked on a page
-pub booked-next : (laws : Laws) (pages page : ℕ) (parts : List (List Kept)) (order : List Placed) (k : ℕ) (t : Placed)
+-- what one place more of an order booked
+pub booked-next : (laws : Laws) (parts : List (List Kept)) (order : List Placed) (k : ℕ) (t : Placed)
     → take (k + 1) order ≡ take k order ++ t ∷ []
-    → filter (is_on_page pages page) (booked laws (entries_by parts (take (k + 1) order)))
-    ≡ filter (is_on_page pages page) (booked laws (entries_by parts (take k order)))
-    ++ filter (is_on_page pages page) (booked laws (entries_at parts t))
-booked-next laws pages page parts order k t more =
+    → booked laws (entries_by parts (take (k + 1) order))
+    ≡ booked laws (entries_by parts (take k order)) ++ booked laws (entries_at parts t)
+booked-next laws parts order k t more =
     let front = entries_by parts (take k order) in
     let grown : entries_by parts (take (k + 1) order) ≡ front ++ entries_at parts t =
     ap (entries_by parts) more ∙ flat_map-append (entries_at parts) (take k order) (t ∷ [])
     ∙ ap (λ xs. front ++ xs) (append-nil (entries_at parts t)) in
-    ap (λ es. filter (is_on_page pages page) (booked laws es)) grown
-    ∙ ap (filter (is_on_page pages page)) (flat_map-append (booked_in laws) front (entries_at parts t))
-    ∙ filter-append (is_on_page pages page) (booked laws front) (booked laws (entries_at parts t))
+    ap (booked laws) grown ∙ flat_map-append (booked_in laws) front (entries_at parts t)
+
+-- where no machine moved nothing was booked
+unmoved : (moves : List Moved) → is_none (option_map (λ (m : Moved). m.machine) (slice_get moves 0)) ≡ true → moves ≡ []
+unmoved [] h = refl
+unmoved (m ∷ ms) h = absurd (false≢true h)
+
+pub still_books : (laws : Laws) (es : List Entry) → is_still es ≡ true → booked laws es ≡ []
+still_books laws [] h = refl
+still_books laws (e ∷ es) h =
+    let both = and_parts (is_none (machine_in e)) (is_still es) h in
+    ap (λ xs. booked_in laws e ++ xs) (still_books laws es both.1)
+    ∙ append-nil (booked_in laws e)
+    ∙ ap (flat_map (λ moved. flat_map (λ item. booked_by laws item moved) (flat_map machine_item (option_to_list e.item))))
+    (unmoved (moved_in e) both.0)
 
 pub same-at : (xs ys : List Booked) (k : ℕ) (d e : Booked) → k < length xs → length xs ≡ length ys
     → is_same_booked (get_or xs k e) (get_or ys k e) ≡ true → get_or xs k d ≡ get_or ys k d

@@ -11,3 +11,4 @@ pub mod MergeLemmas
 pub mod ApartLemmas
 pub mod BookLemmas
 pub mod ExactLemmas
+pub mod BriefLemmas

@@ -7,7 +7,7 @@ ghost use Rattle.bench_gather.specs.Ordered.{entries_at, entries_by};
 
 use bench_item::{Source, Step};
 use bench_merge::Placed;
-use bench_parts::{Lent, entry_of};
+use bench_parts::{Lent, step_of};
 use std::alloc::{AllocError, Global};
 
 /// Whether a source is a connection.
@@ -100,9 +100,9 @@ fn met_at(
 ) -> Result<Option<usize>, AllocError>
     ensures { IfOk result (λ next. next ≡ fold (meets fed.now) met (steps_of (entries_at (map kept_in parts.now) at))) }
 {
-    match entry_of(alloc, parts, at.part, at.place)? {
+    match step_of(alloc, parts, at.part, at.place)? {
         None => Ok(met),
-        Some(entry) => Ok(meets(fed, met, &entry.step)),
+        Some(step) => Ok(meets(fed, met, &step)),
     }
 }
 

@@ -12,7 +12,7 @@ use crate::unwind::unwind;
 use bench_core::{Core, ReplayError};
 use bench_item::Entry;
 use bench_merge::Placed;
-use bench_parts::{Lent, entry_of, is_of};
+use bench_parts::{Lent, brief_of, entry_of, is_of};
 use std::alloc::{AllocError, Global};
 use tab_step::Stepped;
 
@@ -30,14 +30,15 @@ fn add(core: &mut Core, entry: Entry, room: &mut Stepped) -> Result<(), GatherFa
 }
 
 /// Whether the entry at a place of a part, if one stands there, stands in its own.
+#[tactic(auto, using(crate::proofs::BriefLemmas::own_brief))]
 fn is_own(alloc: Global, parts: &[Lent<'_>], shards: usize, at: Placed) -> Result<bool, AllocError>
     requires some { 0 < shards }
     requires few { shards ≤ MAX_SHARDS }
     ensures { IfOk result (λ own. own ≡ list_all (is_of shards at.part) (entries_at (map kept_in parts.now) at)) }
 {
-    match entry_of(alloc, parts, at.part, at.place)? {
+    match brief_of(alloc, parts, at.part, at.place)? {
         None => Ok(true),
-        Some(entry) => Ok(is_of(shards, at.part, &entry)),
+        Some(brief) => Ok(is_of(shards, at.part, &brief)),
     }
 }
 

@@ -11,7 +11,7 @@ use acct_book::Page;
 use acct_totals::{Booked, Op, Outcome};
 use bench_item::Entry;
 use bench_merge::Placed;
-use bench_parts::{Lent, entry_of};
+use bench_parts::{Lent, entry_of, is_still};
 use std::alloc::{AllocError, Global};
 use tab_law::LawBook;
 
@@ -33,61 +33,67 @@ fn add_booked(
     Ok(())
 }
 
-/// Adds what an entry booked on a page.
+/// What of this was booked on a page, of so many.
+fn booked_on(
+    alloc: Global,
+    booked: &[Booked],
+    pages: u64,
+    page: u64,
+) -> Result<Vec<Booked>, AllocError>
+    requires { 0 < pages }
+    ensures { IfOk result (λ own. own.items ≡ filter (is_on_page pages page) booked.now) }
+{
+    let mut own = Vec::new(alloc);
+    add_booked(&mut own, booked, pages, page)?;
+    Ok(own)
+}
+
+/// Adds what an entry booked.
 fn add_entry(
     alloc: Global,
     all: &mut Vec<Booked>,
     laws: &LawBook,
     entry: &Entry,
-    pages: u64,
-    page: u64,
 ) -> Result<(), AllocError>
-    requires { 0 < pages }
-    ensures { OnOk result
-        (all.new.items ≡ all.old.items ++ filter (is_on_page pages page) (booked_in laws.now entry.now)) }
+    ensures { OnOk result (all.new.items ≡ all.old.items ++ booked_in laws.now entry.now) }
 {
     let booked = booked_in(alloc, laws, entry)?;
-    add_booked(all, &booked, pages, page)?;
+    all.extend_from_slice(&booked)?;
     Ok(())
 }
 
-/// Adds what the entry at a place booked on a page, if one stands there.
+/// Adds what the entry at a place booked, if one stands there. Where no machine moved nothing was booked.
+#[tactic(auto, using(crate::proofs::BookLemmas::still_books))]
 fn add_at(
     alloc: Global,
     all: &mut Vec<Booked>,
     laws: &LawBook,
     parts: &[Lent<'_>],
     at: Placed,
-    pages: u64,
-    page: u64,
 ) -> Result<(), AllocError>
-    requires { 0 < pages }
-    ensures { OnOk result (all.new.items
-        ≡ all.old.items
-        ++ filter (is_on_page pages page) (booked laws.now (entries_at (map kept_in parts.now) at))) }
+    ensures { OnOk result (all.new.items ≡ all.old.items ++ booked laws.now (entries_at (map kept_in parts.now) at)) }
 {
+    if is_still(parts, at.part, at.place) {
+        return Ok(());
+    }
     match entry_of(alloc, parts, at.part, at.place)? {
         None => Ok(()),
-        Some(entry) => add_entry(alloc, all, laws, &entry, pages, page),
+        Some(entry) => add_entry(alloc, all, laws, &entry),
     }
 }
 
-/// What the log of an order booked on a page.
-fn booked_on(
+/// What the log of an order booked.
+fn booked_by(
     alloc: Global,
     laws: &LawBook,
     parts: &[Lent<'_>],
     order: &[Placed],
-    pages: u64,
-    page: u64,
 ) -> Result<Vec<Booked>, AllocError>
-    requires { 0 < pages }
-    ensures { IfOk result (λ all. all.items
-        ≡ filter (is_on_page pages page) (booked laws.now (entries_by (map kept_in parts.now) order.now))) }
+    ensures { IfOk result (λ all. all.items ≡ booked laws.now (entries_by (map kept_in parts.now) order.now)) }
 {
     let mut all = Vec::new(alloc);
     for at in order {
-        add_at(alloc, &mut all, laws, parts, *at, pages, page)?;
+        add_at(alloc, &mut all, laws, parts, *at)?;
     }
     Ok(all)
 }
@@ -205,9 +211,10 @@ pub(crate) fn are_booked(
         ≡ slice_index_or (map journal_of pages.now) page [])) }
 {
     let count = pages.len() as u64;
+    let booked = booked_by(alloc, laws, parts, order)?;
     for page in 0..pages.len() {
-        let booked = booked_on(alloc, laws, parts, order, count, page as u64)?;
-        if !is_journal(&booked, pages[page].journal()) {
+        let own = booked_on(alloc, &booked, count, page as u64)?;
+        if !is_journal(&own, pages[page].journal()) {
             return Ok(false);
         }
     }

@@ -1,16 +1,17 @@
 //! Whether what desks kept are their tells, and nothing that one told is on its way.
-ghost use Rattle.std.specs.Prelude.{◌≡◌, ◌+◌, ◌<◌, ◌≤◌, ℕ, true, IfOk, fold, length, map};
+ghost use Rattle.std.specs.Prelude.{◌≡◌, ◌+◌, ◌<◌, ◌≤◌, ◌∷◌, ℕ, [], true, IfOk, None, fold, length, map};
 ghost use Rattle.std.specs.Bool.{Decides};
 ghost use Rattle.bench_item.specs.declared.limit.TheConstants.{MAX_SHARDS};
+ghost use Rattle.bench_log.specs.Moves.{entry_with};
 ghost use Rattle.bench_parts.specs.Views.{kept_in};
 ghost use Rattle.bench_gather.specs.Checks.{are_tells, counts, desk_steps, ends, is_done, is_drop_of, is_lift_of};
 ghost use Rattle.bench_gather.specs.Checks.{is_told_by};
 ghost use Rattle.bench_gather.specs.Checks.{next_tell, opens, steps_at};
 ghost use Rattle.bench_gather.specs.Ordered.{entries_at, entries_by};
 
-use bench_item::{Entry, Item, Source, Step};
+use bench_item::{Source, Step};
 use bench_merge::Placed;
-use bench_parts::{Lent, entry_of};
+use bench_parts::{Brief, Lent, brief_of, step_of};
 use std::alloc::{AllocError, Global};
 
 /// A desk tells: a tell is begun then.
@@ -62,9 +63,9 @@ fn tell_at(
     if at.part != part {
         return Ok(begun);
     }
-    match entry_of(alloc, parts, at.part, at.place)? {
+    match step_of(alloc, parts, at.part, at.place)? {
         None => Ok(begun),
-        Some(entry) => Ok(next_tell(desk, begun, &entry.step)),
+        Some(step) => Ok(next_tell(desk, begun, &step)),
     }
 }
 
@@ -106,10 +107,10 @@ pub(crate) fn desks_tell(
 }
 
 /// Whether an entry is a tell of a desk.
-fn is_told_by(desk: u32, entry: &Entry) -> bool
-    ensures { result ≡ is_told_by desk entry.now }
+fn is_told_by(desk: u32, brief: &Brief) -> bool
+    ensures { result ≡ is_told_by desk (entry_with brief.now.step brief.now.item None) }
 {
-    match &entry.step {
+    match &brief.step {
         Step::Told {
             desk: own,
             key: _,
@@ -120,21 +121,21 @@ fn is_told_by(desk: u32, entry: &Entry) -> bool
 }
 
 /// Whether an entry lifts an item from a desk.
-fn is_lift_of(desk: u32, entry: &Entry) -> bool
-    ensures { result ≡ is_lift_of desk entry.now }
+fn is_lift_of(desk: u32, brief: &Brief) -> bool
+    ensures { result ≡ is_lift_of desk (entry_with brief.now.step brief.now.item None) }
 {
-    match &entry.step {
-        Step::Lift(Source::Desk(own)) => *own == desk && entry.item.is_some(),
+    match &brief.step {
+        Step::Lift(Source::Desk(own)) => *own == desk && brief.item.is_some(),
         _ => false,
     }
 }
 
 /// Whether an entry drops an item from a desk.
-fn is_drop_of(desk: u32, entry: &Entry) -> bool
-    ensures { result ≡ is_drop_of desk entry.now }
+fn is_drop_of(desk: u32, brief: &Brief) -> bool
+    ensures { result ≡ is_drop_of desk (entry_with brief.now.step brief.now.item None) }
 {
-    match &entry.step {
-        Step::Drop(Source::Desk(own)) => *own == desk && entry.item.is_some(),
+    match &brief.step {
+        Step::Drop(Source::Desk(own)) => *own == desk && brief.item.is_some(),
         _ => false,
     }
 }
@@ -147,7 +148,22 @@ struct Carried {
     dropped: usize,
 }
 
+/// The same of one entry.
+fn carried_in(desk: u32, brief: &Brief) -> Carried
+    ensures counts { result ≡ counts desk (entry_with brief.now.step brief.now.item None ∷ []) }
+    ensures told { result.told ≤ 1 }
+    ensures lifted { result.lifted ≤ 1 }
+    ensures dropped { result.dropped ≤ 1 }
+{
+    Carried {
+        told: usize::from(is_told_by(desk, brief)),
+        lifted: usize::from(is_lift_of(desk, brief)),
+        dropped: usize::from(is_drop_of(desk, brief)),
+    }
+}
+
 /// The same at one place.
+#[tactic(auto, using(crate::proofs::BriefLemmas::counts_brief))]
 fn carried_at(
     alloc: Global,
     parts: &[Lent<'_>],
@@ -159,17 +175,13 @@ fn carried_at(
     ensures lifted { IfOk result (λ carried. carried.lifted ≤ 1) }
     ensures dropped { IfOk result (λ carried. carried.dropped ≤ 1) }
 {
-    match entry_of(alloc, parts, at.part, at.place)? {
+    match brief_of(alloc, parts, at.part, at.place)? {
         None => Ok(Carried {
             told: 0,
             lifted: 0,
             dropped: 0,
         }),
-        Some(entry) => Ok(Carried {
-            told: usize::from(is_told_by(desk, &entry)),
-            lifted: usize::from(is_lift_of(desk, &entry)),
-            dropped: usize::from(is_drop_of(desk, &entry)),
-        }),
+        Some(brief) => Ok(carried_in(desk, &brief)),
     }
 }
 

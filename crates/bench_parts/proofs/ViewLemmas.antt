@@ -1,12 +1,12 @@
 -- What parts have at their places.
-use Rattle.std.proofs.Common.{◌≡◌, ◌∙◌, ◌+◌, ◌<◌, ◌≤◌, ℕ, zero, suc, List, [], ◌∷◌, ◌++◌, Bool, true, length, map, take, get_or, refl, ap, sym, arith}
-use Rattle.std.specs.Prelude.{flat_map, nat_lt, option_to_list, slice_get, Option, Some, None}
+use Rattle.std.proofs.Common.{◌≡◌, ◌∙◌, ◌+◌, ◌<◌, ◌≤◌, ℕ, zero, suc, List, [], ◌∷◌, true, length, map, take, get_or, refl, ap, sym, arith}
+use Rattle.std.specs.Prelude.{flat_map, nat_lt, option_to_list, slice_get}
 use Rattle.std.proofs.lemmas.Bool.{lt-ltb}
 use Rattle.std.proofs.lemmas.List.{flat_map_more, length-append, take_more}
 use Rattle.std.proofs.lemmas.List.Folds.{length-flat_map-take}
 use Rattle.bench_item.specs.declared.entry.Entry.{Entry}
 use Rattle.bench_item.specs.declared.limit.TheConstants.{MAX_ENTRIES}
-use Rattle.bench_spec.specs.Merged.{Did, Kept, Stamped, entries_kept, stamp_of}
+use Rattle.bench_spec.specs.Merged.{Did, Stamped, entries_kept, stamp_of}
 use Rattle.bench_parts.specs.Views.{entries_in, entries_there, kept_of, stamped_of}
 use Rattle.bench_parts.specs.declared.view.Lent.{Lent}
 use Rattle.bench_parts.specs.declared.view.Note.{Note}

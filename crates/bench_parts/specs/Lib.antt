@@ -1,3 +1,4 @@
 -- The definitions that the contracts of bench_parts speak of.
 pub mod Views
+pub mod Found
 pub mod Own

@@ -1,10 +1,12 @@
 //! Whether an entry stands in its own part.
 ghost use Rattle.std.specs.Prelude.{◌≡◌, ◌<◌, ◌≤◌, IfSome, None};
 ghost use Rattle.bench_item.specs.declared.limit.TheConstants.{MAX_SHARDS};
+ghost use Rattle.bench_log.specs.Moves.{entry_with};
 ghost use Rattle.bench_spec.specs.Merged.{is_same_part, part_of, part_of_item, part_of_source};
 ghost use Rattle.bench_parts.specs.Own.{is_of, part_at, part_named};
 
-use bench_item::{Entry, Item, Source, Step, home};
+use crate::find::Brief;
+use bench_item::{Item, Source, Step, home};
 
 /// A part of a bench in threads.
 #[derive(Clone, Copy)]
@@ -83,12 +85,12 @@ fn part_of_drop(shards: usize, source: Source, item: &Option<Item>) -> Part
 }
 
 /// The part of an entry: where its step is taken; one that drops belongs to where it drops to.
-fn part_of(shards: usize, entry: &Entry) -> Part
+fn part_of(shards: usize, brief: &Brief) -> Part
     requires some { 0 < shards }
     requires few { shards ≤ MAX_SHARDS }
-    ensures { part_named result ≡ part_of shards entry.now }
+    ensures { part_named result ≡ part_of shards (entry_with brief.now.step brief.now.item None) }
 {
-    match &entry.step {
+    match &brief.step {
         Step::Joined | Step::Dialled(_) | Step::Came { line: _, piece: _ } | Step::Lost(_) => {
             Part::Lines
         }
@@ -102,7 +104,7 @@ fn part_of(shards: usize, entry: &Entry) -> Part
             generation: _,
         } => Part::Clock,
         Step::Lift(source) => part_of_source(*source),
-        Step::Drop(source) => part_of_drop(shards, *source, &entry.item),
+        Step::Drop(source) => part_of_drop(shards, *source, &brief.item),
         Step::Work(shard) => Part::Shard(u64::from(*shard)),
     }
 }
@@ -121,10 +123,10 @@ fn is_same(one: Part, other: Part) -> bool
 
 /// Whether an entry stands in its own part, where it stands in the part at that place:
 /// the shards are first, then the lines, the clock and the desks. Takes no memory.
-pub fn is_of(shards: usize, place: usize, entry: &Entry) -> bool
+pub fn is_of(shards: usize, place: usize, brief: &Brief) -> bool
     requires some { 0 < shards }
     requires few { shards ≤ MAX_SHARDS }
-    ensures { result ≡ is_of shards place entry.now }
+    ensures { result ≡ is_of shards place (entry_with brief.now.step brief.now.item None) }
 {
-    is_same(part_at(shards, place), part_of(shards, entry))
+    is_same(part_at(shards, place), part_of(shards, brief))
 }

@@ -1,6 +1,6 @@
 use Rattle.std.proofs.Common.{◌∙◌, ◌≤◌, ap, length, subst, sym, take}
 use Rattle.std.proofs.lemmas.List.{length-take-le}
-use Rattle.bench_parts.specs.Views.{stamped_of, stamps_in}
+use Rattle.bench_parts.specs.Views.{stamps_in}
 use Rattle.bench_parts.proofs.ViewLemmas.{count_within, stamps_are, stamps_kept_are}
 use Rattle.bench_parts.proofs.stamps.stamps_in.Goals as goal
 

@@ -1,7 +1,6 @@
-use Rattle.std.proofs.Common.{◌∙◌, ap, arith}
-use Rattle.std.specs.Prelude.{option_to_list}
+use Rattle.std.proofs.Common.{arith}
 use Rattle.bench_parts.proofs.ViewLemmas.{at_stamp, past_stamps}
-use Rattle.bench_parts.proofs.view.entry_in.Goals as goal
+use Rattle.bench_parts.proofs.find.find_stamped.Goals as goal
 
 pub returns-then-stamps-place : goal.returns-then-stamps-place
 returns-then-stamps-place c =
@@ -10,5 +9,4 @@ returns-then-stamps-place c =
 pub returns : goal.returns
 returns c =
     let within = c.if-stamps-place.false in
-    ap option_to_list c.in_ok-entry.ensures.entry
-    ∙ at_stamp c.args.stamps.now c.args.log.now.entries c.args.place (omega (arith, within))
+    at_stamp c.args.stamps.now c.args.log.now.entries c.args.place (omega (arith, within))
