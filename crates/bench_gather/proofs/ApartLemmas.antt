@@ -10,6 +10,7 @@ use Rattle.std.proofs.lemmas.List.{append-nil, get_or-drop, get_or_past, take_al
 use Rattle.std.proofs.lemmas.List.Concat.{flat_map_single}
 use Rattle.std.proofs.lemmas.List.Folds.{list_all-append, list_all-map}
 use Rattle.bench_item.specs.declared.entry.Entry.{Entry}
+use Rattle.bench_looks.specs.Parts.{stamped_in}
 use Rattle.bench_merge.specs.Order.{Clashes, IsOrder, stamps_at}
 use Rattle.bench_merge.specs.declared.merging.Placed.{Placed}
 use Rattle.bench_parts.specs.Own.{is_of, part_at}
@@ -19,7 +20,7 @@ use Rattle.bench_spec.specs.Merged.{entries_kept, entries_of, is_same_part, look
 use Rattle.bench_spec.specs.Settings.{Settings}
 use Rattle.bench_spec.proofs.RunLemmas.{both_true}
 use Rattle.bench_gather.specs.Checks.{is_did, looks_stand}
-use Rattle.bench_gather.specs.Given.{Handed, parts_of, stamped_in}
+use Rattle.bench_gather.specs.Given.{Handed, parts_of}
 use Rattle.bench_gather.specs.Ordered.{are_own, entries_at, entries_by, stamped_by, stamps_of}
 use Rattle.bench_gather.proofs.LogLemmas.{entries-alone, one-part, stamps_at-map}
 use Rattle.bench_gather.proofs.MergeLemmas.{all-looks, at_least-filter, clock-at, desk-at, lines-at, looked}

@@ -1,4 +1,4 @@
--- Gathering is exact, looks aside: Ok where the parts are merged to a legal log, and Disagree where they are not.
+-- Gathering is exact: Ok where the parts are merged to a legal log, and Disagree where they are not.
 use Rattle.std.proofs.Common.{◌≡◌, ◌∙◌, ℕ, List, [], true, ap, subst, sym, map, inl, inr}
 use Rattle.std.specs.Prelude.{filter}
 use Rattle.bench_item.specs.declared.entry.Entry.{Entry}
@@ -14,7 +14,7 @@ use Rattle.bench_spec.specs.Settings.{Settings}
 use Rattle.bench_spec.specs.Taken.{with_log}
 use Rattle.bench_gather.specs.Checks.{is_on_page, looks_stand}
 use Rattle.bench_gather.specs.Given.{Gives, Handed, parts_of}
-use Rattle.bench_gather.specs.Merging.{AreRight, GatheredIsMerged, MergedDisagrees, MergedIsGathered}
+use Rattle.bench_gather.specs.Merging.{GatheredIsMerged, MergedDisagrees, MergedIsGathered}
 use Rattle.bench_gather.specs.Ordered.{entries_by, stamped_by, stamps_of}
 use Rattle.bench_gather.proofs.ApartLemmas.{merged-only, merged-own, no-clash}
 use Rattle.bench_gather.proofs.LogLemmas.{entries-alone}
@@ -22,9 +22,9 @@ use Rattle.bench_gather.proofs.MergeLemmas.{desk-rises, order-apart, order-rises
 use Rattle.bench_gather.proofs.TimesLemmas.{rising-at_least}
 
 given-is_merged : (settings : Settings) (handed : Handed) (order : List Placed) → IsOrder (stamps_of handed.kept) order
-    → Gives settings handed order → AreRight settings handed
+    → Gives settings handed order
     → IsMerged settings (parts_of settings.node.shards handed) (entries_by handed.kept order)
-given-is_merged settings handed order o g right =
+given-is_merged settings handed order o g =
     let n = settings.node.shards in
     let stamped = stamped_by handed.kept order in
     record {
@@ -39,7 +39,7 @@ given-is_merged settings handed order o g right =
       few_desks = g.few_desks;
       desks_tell = g.desks_tell;
       desks_done = g.desks_done;
-      looks_right = right;
+      looks_right = g.right;
     }
 
 merged-gives : (settings : Settings) (handed : Handed) (log : List Entry)
@@ -51,6 +51,7 @@ merged-gives settings handed log stand m order o =
     record {
       own = merged-own settings handed log m order;
       looks = stand;
+      right = m.looks_right;
       few_desks = m.few_desks;
       desks_tell = m.desks_tell;
       desks_done =
@@ -67,8 +68,8 @@ merged-gives settings handed log stand m order o =
     }
 
 pub gathered-is_merged : GatheredIsMerged
-gathered-is_merged old new handed (order, o, g, legal, is) right =
-    (entries_by handed.kept order, given-is_merged old.settings handed order o g right, legal, is)
+gathered-is_merged old new handed (order, o, g, legal, is) =
+    (entries_by handed.kept order, given-is_merged old.settings handed order o g, legal, is)
 
 pub merged-disagrees : MergedDisagrees
 merged-disagrees old new handed at log stand m (inl (inl clash, zero_is), same) =

@@ -7,6 +7,7 @@ use Rattle.std.proofs.lemmas.Bool.{and_from, and_parts, cases_lt, cond-false, le
 use Rattle.std.proofs.lemmas.List.{get_or-drop, get_or_past, length-drop}
 use Rattle.bench_item.specs.declared.entry.Entry.{Entry}
 use Rattle.bench_item.specs.declared.source.Source.TheVariants.{Desk}
+use Rattle.bench_looks.specs.Parts.{AreRight}
 use Rattle.bench_merge.specs.Order.{IsOrder}
 use Rattle.bench_merge.specs.declared.merging.Placed.{Placed}
 use Rattle.bench_parts.specs.Own.{is_of, part_at}
@@ -162,7 +163,7 @@ all-done settings handed order ordered own few each desk =
 
 -- what was found of each
 pub record Found (settings : Settings) (handed : Handed) (order : List Placed)
-    (looks few own tell done fed booked : Bool) : Type 0 where
+    (looks few own tell done fed booked right : Bool) : Type 0 where
   pub looks_is : looks ≡ looks_stand settings.node.shards handed.kept
   pub few_is : few ≡ nat_le (length handed.kept) (settings.node.shards + 2 + settings.desks)
   pub own_is : own ≡ are_own settings.node.shards handed.kept order
@@ -170,15 +171,17 @@ pub record Found (settings : Settings) (handed : Handed) (order : List Placed)
   pub done_is : Decides done (EachIsDone settings handed order)
   pub fed_is : fed ≡ are_fed handed.fed (steps_of (entries_by handed.kept order))
   pub booked_is : Decides booked (EachIsBooked settings handed order)
+  pub right_is : Decides right (AreRight settings handed.kept)
 
 pub gives-decides : (settings : Settings) (handed : Handed) (order : List Placed)
-    (looks few own tell done fed booked : Bool)
+    (looks few own tell done fed booked right : Bool)
     → IsOrder (stamps_of handed.kept) order → length handed.journals ≡ settings.pages → 0 < settings.pages
-    → Found settings handed order looks few own tell done fed booked
-    → Decides ((((((looks && few) && own) && tell) && done) && fed) && booked) (Gives settings handed order)
-gives-decides settings handed order looks few own tell done fed booked ordered paged some f = (
+    → Found settings handed order looks few own tell done fed booked right
+    → Decides (((((((looks && few) && own) && tell) && done) && fed) && booked) && right) (Gives settings handed order)
+gives-decides settings handed order looks few own tell done fed booked right ordered paged some f = (
   λ all.
-      let o = and_parts (((((looks && few) && own) && tell) && done) && fed) booked all in
+      let n = and_parts ((((((looks && few) && own) && tell) && done) && fed) && booked) right all in
+      let o = and_parts (((((looks && few) && own) && tell) && done) && fed) booked n.0 in
       let p = and_parts ((((looks && few) && own) && tell) && done) fed o.0 in
       let q = and_parts (((looks && few) && own) && tell) done p.0 in
       let r = and_parts ((looks && few) && own) tell q.0 in
@@ -189,6 +192,7 @@ gives-decides settings handed order looks few own tell done fed booked ordered p
       record {
         own = mine;
         looks = sym f.looks_is ∙ t.0;
+        right = f.right_is.0 n.1;
         few_desks = count;
         desks_tell = all-tell settings handed order ordered count (f.tell_is.0 r.1);
         desks_done = all-done settings handed order ordered mine count (f.done_is.0 q.1);
@@ -205,7 +209,8 @@ gives-decides settings handed order looks few own tell done fed booked ordered p
       (g.desks_tell desk)) in
       let each_done : EachIsDone settings handed order =
       λ desk l. is_done-from settings desk es (g.desks_done desk).0 (g.desks_done desk).1 in
-      and_from (((((looks && few) && own) && tell) && done) && fed) booked
+      and_from ((((((looks && few) && own) && tell) && done) && fed) && booked) right
+      (and_from (((((looks && few) && own) && tell) && done) && fed) booked
       (and_from ((((looks && few) && own) && tell) && done) fed
       (and_from (((looks && few) && own) && tell) done
       (and_from ((looks && few) && own) tell
@@ -215,5 +220,6 @@ gives-decides settings handed order looks few own tell done fed booked ordered p
       (f.tell_is.1 each_tells))
       (f.done_is.1 each_done))
       (f.fed_is ∙ are_fed-from handed.fed (steps_of es) g.fed))
-      (f.booked_is.1 (λ page l. g.pages page)),
+      (f.booked_is.1 (λ page l. g.pages page)))
+      (f.right_is.1 g.right),
 )

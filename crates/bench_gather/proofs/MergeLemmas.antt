@@ -11,6 +11,7 @@ use Rattle.std.proofs.lemmas.List.{map-append, take-append-drop, take_all}
 use Rattle.std.proofs.lemmas.List.Concat.{flat_map-append}
 use Rattle.std.proofs.lemmas.List.Elements.{filter-append}
 use Rattle.std.proofs.lemmas.List.Folds.{list_all-map}
+use Rattle.bench_looks.specs.Parts.{stamped_in}
 use Rattle.bench_merge.specs.Order.{IsOrder, of_part}
 use Rattle.bench_merge.specs.declared.merging.Placed.{Placed}
 use Rattle.bench_parts.specs.Own.{is_of, part_at}
@@ -20,7 +21,7 @@ use Rattle.bench_spec.specs.Merged.{entries_kept}
 use Rattle.bench_spec.specs.Merged.{desk_kept, entries_of, is_same_part, look_stamps, looks_kept, part_of, stamp_of}
 use Rattle.bench_spec.proofs.RunLemmas.{both_true}
 use Rattle.bench_gather.specs.Checks.{is_did, looks_stand}
-use Rattle.bench_gather.specs.Given.{Handed, parts_of, stamped_in}
+use Rattle.bench_gather.specs.Given.{Handed, parts_of}
 use Rattle.bench_gather.specs.Ordered.{are_own, entries_at, stamped_by, stamps_of}
 use Rattle.bench_gather.proofs.LogLemmas.{each-part, items, items-here, items_at, stamped-items, stamps-here}
 use Rattle.bench_gather.proofs.LogLemmas.{stamps_at-map}

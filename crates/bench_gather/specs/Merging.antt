@@ -1,28 +1,19 @@
 -- What gathering comes to where the parts are merged to a log.
-use Rattle.std.specs.Prelude.{◌≡◌, ℕ, true, List, All, Ok, Err}
+use Rattle.std.specs.Prelude.{◌≡◌, ℕ, true, List, Ok, Err}
 use Rattle.bench_item.specs.declared.entry.Entry.{Entry}
 use Rattle.bench_spec.specs.Desks.{IsLongest}
 use Rattle.bench_spec.specs.Legal.{IsLegal}
-use Rattle.bench_spec.specs.Merged.{IsMerged, IsRightAt, looks_of}
-use Rattle.bench_spec.specs.Settings.{Settings}
+use Rattle.bench_spec.specs.Merged.{IsMerged}
 use Rattle.bench_spec.specs.Taken.{Run, with_log}
 use Rattle.bench_gather.specs.Checks.{looks_stand}
 use Rattle.bench_gather.specs.Gathered.{Gathers}
 use Rattle.bench_gather.specs.Given.{Handed, parts_of}
 use Rattle.bench_gather.specs.declared.fault.GatherFault.TheVariants.{Disagree}
 
--- each look of each desk is right at its stamp
-abbrev pub AreRight : Settings → Handed → Type 0
-AreRight settings handed =
-    (desk : ℕ)
-    → All (IsRightAt settings (parts_of settings.node.shards handed) desk)
-    (looks_of (parts_of settings.node.shards handed) desk)
-
--- where parts were gathered and their looks are right, they are merged to a log, which is legal, and the world is its
--- own
+-- where parts were gathered they are merged to a log, which is legal, and the world is its own
 abbrev pub GatheredIsMerged : Type 0
 GatheredIsMerged =
-    (old new : Run) (handed : Handed) → Gathers old new handed (Ok tt) → AreRight old.settings handed
+    (old new : Run) (handed : Handed) → Gathers old new handed (Ok tt)
     → (log : List Entry) × IsMerged old.settings (parts_of old.settings.node.shards handed) log
     × IsLegal old.settings log
     × (new ≡ with_log old log)

@@ -1,5 +1,5 @@
 //! Whether parts give the log of an order.
-ghost use Rattle.std.specs.Prelude.{◌≡◌, ◌<◌, ◌≤◌, ◌+◌, ◌&&◌, IfOk, length, map, nat_le};
+ghost use Rattle.std.specs.Prelude.{◌≡◌, ◌<◌, ◌≤◌, ◌+◌, ◌&&◌, [], IfOk, length, map, nat_le};
 ghost use Rattle.std.specs.Bool.{Decides};
 ghost use Rattle.bench_item.specs.declared.limit.TheConstants.{MAX_SHARDS};
 ghost use Rattle.bench_merge.specs.Order.{IsOrder};
@@ -15,6 +15,7 @@ use crate::tells::{desks_done, desks_tell};
 use acct_book::Page;
 use bench_core::Core;
 use bench_item::Step;
+use bench_looks::are_right;
 use bench_merge::Placed;
 use bench_parts::Lent;
 use std::alloc::{AllocError, Global};
@@ -36,10 +37,11 @@ fn are_all(
     done: bool,
     same: bool,
     booked: bool,
+    right: bool,
 ) -> bool
-    ensures { result ≡ ((((((looks && few) && own) && tell) && done) && same) && booked) }
+    ensures { result ≡ (((((((looks && few) && own) && tell) && done) && same) && booked) && right) }
 {
-    looks && few && own && tell && done && same && booked
+    looks && few && own && tell && done && same && booked && right
 }
 
 /// Whether parts give the log of an order.
@@ -51,6 +53,7 @@ pub(crate) fn gives(
     pages: &[Page],
     order: &[Placed],
 ) -> Result<bool, AllocError>
+    requires opening { core.now.log ≡ [] }
     requires some { 0 < core.now.settings.node.shards }
     requires few { core.now.settings.node.shards ≤ MAX_SHARDS }
     requires paged { length pages.now ≡ core.now.settings.pages }
@@ -68,5 +71,6 @@ pub(crate) fn gives(
     let done = desks_done(alloc, parts, order, desks)?;
     let same = are_fed(alloc, parts, order, fed)?;
     let booked = are_booked(alloc, core.laws(), parts, order, pages)?;
-    Ok(are_all(looks, few, own, tell, done, same, booked))
+    let right = are_right(alloc, core, parts)?;
+    Ok(are_all(looks, few, own, tell, done, same, booked, right))
 }

@@ -8,8 +8,8 @@ pub fn by_parts()
     ensures { ByParts }
 {}
 
-/// Where parts were gathered and each look is right at its stamp, they are merged to a log, as `IsMerged` of
-/// `bench_spec` says; it is legal, and the world is its own.
+/// Where parts were gathered they are merged to a log, as `IsMerged` of `bench_spec` says; it is legal, and the world
+/// is its own.
 pub fn gathered_is_merged()
     ensures { GatheredIsMerged }
 {}

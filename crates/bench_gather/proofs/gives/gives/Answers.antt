@@ -43,7 +43,7 @@ returns c =
     ≡ slice_index_or handed.journals page [])) c.laws.ensures c.in_ok-booked.ensures) in
     subst (λ b. Decides b (Gives settings handed order)) (sym c.are_all.ensures)
     (gives-decides settings handed order c.looks_stand-looks.result c.are_few-few.result c.in_ok-own.own
-    c.in_ok-tell.tell c.in_ok-done.done c.in_ok-same.same c.in_ok-booked.booked
+    c.in_ok-tell.tell c.in_ok-done.done c.in_ok-same.same c.in_ok-booked.booked c.in_ok-right.right
     c.requires.ordered (length-map c.args.pages.now journal_of ∙ c.requires.paged) c.requires.some_pages
     (record {
       looks_is = c.looks_stand-looks.ensures ∙ ap (λ n. looks_stand n kept) shards;
@@ -58,4 +58,5 @@ returns c =
       done_is = done;
       fed_is = c.in_ok-same.ensures;
       booked_is = journals;
+      right_is = c.in_ok-right.ensures;
     }))
