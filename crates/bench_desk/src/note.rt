@@ -1,13 +1,13 @@
 //! What a desk keeps, as it is stored.
 ghost use Rattle.std.specs.Prelude.{◌≡◌, [], IfOk, None, Some};
+ghost use Rattle.bench_item.specs.declared.item.Item.TheVariants.{ToMachine};
 ghost use Rattle.bench_item.specs.declared.source.Source.TheVariants.{Desk};
 ghost use Rattle.bench_item.specs.declared.step.Step.TheVariants.{Lift, Told};
-ghost use Rattle.bench_spec.specs.Items.{told_item};
 ghost use Rattle.bench_parts.specs.Views.{look_of};
 
 use base_list::Octets;
-use bench_item::{Entry, Item, Key, MachineItem, Source, Step};
-use bench_log::{KeptEntry, KeptState};
+use bench_item::{Entry, Key, MachineItem, Source, Step};
+use bench_log::{KeptEntry, KeptItem, KeptMachineItem, KeptState};
 use bench_parts::KeptLook;
 use std::alloc::{AllocError, Global};
 use tab_step::{Event, MachineState};
@@ -22,17 +22,22 @@ pub(crate) fn copy_key(alloc: Global, key: &Key) -> Result<Key, AllocError>
 }
 
 /// What a desk tells a machine, as an item.
-pub(crate) fn told_item(alloc: Global, key: &Key, event: &Event) -> Result<MachineItem, AllocError>
+pub(crate) fn told_item(
+    alloc: Global,
+    key: &Key,
+    event: &Event,
+) -> Result<KeptMachineItem, AllocError>
     ensures { IfOk result (λ item. item ≡ record { key = key.now; event = event.now; condition = None; session = [] }) }
 {
     let key = copy_key(alloc, key)?;
     let session = Octets::from_slice(alloc, b"")?;
-    Ok(MachineItem {
+    let item = MachineItem {
         key,
         event: *event,
         condition: None,
         session,
-    })
+    };
+    KeptMachineItem::new(alloc, item)
 }
 
 /// The entry of what a desk tells.
@@ -58,23 +63,13 @@ pub(crate) fn told_entry(
     KeptEntry::keep(alloc, &entry)
 }
 
-/// The entry of its Lift.
-pub(crate) fn lift_entry(
-    alloc: Global,
-    desk: u32,
-    key: &Key,
-    event: &Event,
-) -> Result<KeptEntry, AllocError>
+/// The entry of its Lift, which shares the item.
+pub(crate) fn lift_entry(desk: u32, item: &KeptMachineItem) -> Result<KeptEntry, AllocError>
     ensures { IfOk result (λ entry. entry
-        ≡ record { step = Lift (Desk desk); item = Some (told_item key.now event.now); handled = None }) }
+        ≡ record { step = Lift (Desk desk); item = Some (ToMachine item.now); handled = None }) }
 {
-    let item = told_item(alloc, key, event)?;
-    let entry = Entry {
-        step: Step::Lift(Source::Desk(desk)),
-        item: Some(Item::ToMachine(item)),
-        handled: None,
-    };
-    KeptEntry::keep(alloc, &entry)
+    let own = item.copy()?;
+    Ok(KeptEntry::of_lift(Source::Desk(desk), Some(KeptItem::of_event(own))))
 }
 
 /// What a desk saw, in memory of its own.

@@ -11,9 +11,8 @@ ghost use Rattle.bench_spec.specs.Refusal.{is_crowded, is_log_full};
 ghost use Rattle.bench_desk.specs.Parts.{arrive_error, drop_entry, entries_in, handled_from};
 ghost use Rattle.bench_desk.specs.Parts.{is_full, waiting_from, with_arrival};
 
-use base_list::Octets;
-use bench_item::{Entry, Item, Key, MAX_ENTRIES, MAX_WAITING, MachineItem, Source, Step};
-use bench_log::{KeptEntry, Log, LogError};
+use bench_item::{MAX_ENTRIES, MAX_WAITING, Source};
+use bench_log::{KeptEntry, KeptItem, KeptMachineItem, Log, LogError};
 use bench_move::Roles;
 use bench_shard::{PutError, ShardState};
 use std::alloc::{AllocError, Global};
@@ -85,33 +84,12 @@ fn make_room(
     }
 }
 
-/// The same item in memory of its own.
-fn copy_item(alloc: Global, item: &MachineItem) -> Result<MachineItem, AllocError>
-    ensures { IfOk result (λ copy. copy ≡ item.now) }
-{
-    let name = item.key.name.copy(alloc)?;
-    let session = item.session.copy(alloc)?;
-    Ok(MachineItem {
-        key: Key {
-            role: item.key.role,
-            name,
-        },
-        event: item.event,
-        condition: item.condition,
-        session,
-    })
-}
-
-/// The entry of an item that a source drops at a shard.
-fn drop_entry(alloc: Global, source: Source, item: &MachineItem) -> Result<KeptEntry, AllocError>
+/// The entry of an item that a source drops at a shard, which the entry shares.
+fn drop_entry(source: Source, item: &KeptMachineItem) -> Result<KeptEntry, AllocError>
     ensures { IfOk result (λ entry. entry ≡ drop_entry source item.now) }
 {
-    let entry = Entry {
-        step: Step::Drop(source),
-        item: Some(Item::ToMachine(copy_item(alloc, item)?)),
-        handled: None,
-    };
-    KeptEntry::keep(alloc, &entry)
+    let own = item.copy()?;
+    Ok(KeptEntry::of_drop(source, Some(KeptItem::of_event(own))))
 }
 
 /// Whether a source is that desk.
@@ -207,8 +185,13 @@ impl ShardPart {
     }
 
     /// An item comes from a source, behind the others: a Drop, with the stamp that was drawn for it.
-    /// It is to be for this shard.
-    pub fn arrive(&mut self, source: Source, stamp: u64, item: &MachineItem) -> Result<(), PutError>
+    /// It is to be for this shard. Inbox and entry share it.
+    pub fn arrive(
+        &mut self,
+        source: Source,
+        stamp: u64,
+        item: &KeptMachineItem,
+    ) -> Result<(), PutError>
         requires { home self.old.shard.peers.shards item.now.key.name ≡ self.old.shard.number }
         ensures ok { OnOk result (self.new ≡ with_arrival self.old source stamp item.now) }
         ensures fault { IfErr result (λ e. e ≡ arrive_error self.old) }
@@ -218,9 +201,10 @@ impl ShardPart {
         if self.is_full() {
             return Err(PutError::Full);
         }
-        let entry = drop_entry(self.alloc, source, item)?;
+        let entry = drop_entry(source, item)?;
+        let own = item.copy()?;
         make_room(&mut self.log, &mut self.stamps, &mut self.sources)?;
-        self.shard.put(item)?;
+        self.shard.put_kept(own)?;
         self.log.put(entry);
         self.stamps.push(stamp).unwrap();
         self.sources.push(source).unwrap();

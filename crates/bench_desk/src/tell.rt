@@ -54,7 +54,7 @@ impl Desk {
         let [told, lifted, dropped] = stamps;
         let item = told_item(self.alloc, key, event)?;
         let did = told_entry(self.alloc, self.number, key, event)?;
-        let carried = lift_entry(self.alloc, self.number, key, event)?;
+        let carried = lift_entry(self.number, &item)?;
         self.notes.reserve(2)?;
         if part
             .arrive(Source::Desk(self.number), dropped, &item)

@@ -10,15 +10,15 @@ ghost use Rattle.bench_spec.specs.Refusal.{is_empty};
 ghost use Rattle.bench_parts.specs.Views.{kept_in};
 ghost use Rattle.bench_desk.specs.Parts.{entries_in};
 ghost use Rattle.bench_desk.specs.Working.{Holds, IsDone, IsLifted, IsUnwritten, IsWorked, IsWritten};
-ghost use Rattle.bench_desk.specs.Working.{key_in_part, lift_entry, lift_refusal, paused_part};
+ghost use Rattle.bench_desk.specs.Working.{key_in_part, lift_refusal, paused_part};
 ghost use Rattle.bench_desk.specs.Working.{with_lift, work_refusal};
 
 use crate::fault::CarryFault;
 use crate::part::ShardPart;
 use acct_book::Page;
 use acct_totals::Op;
-use bench_item::{Entry, Item, Key, MAX_MACHINES, Source, Step};
-use bench_log::{KeptEntry, Log, LogError};
+use bench_item::{Key, MAX_MACHINES, Source};
+use bench_log::{KeptEntry, KeptItem, Log, LogError};
 use bench_move::Roles;
 use bench_parts::Lent;
 use bench_shard::{Effects, ShardState, Task, Work, WorkFault};
@@ -119,32 +119,20 @@ fn do_task(
     Ok(())
 }
 
-/// The entry of an item that is lifted from a shard.
-fn lift_entry(shard: u32, item: Item) -> Entry
-    ensures { result ≡ lift_entry shard item }
-{
-    Entry {
-        step: Step::Lift(Source::Shard(shard)),
-        item: Some(item),
-        handled: None,
-    }
-}
-
 /// The oldest item that a shard put out and that waits, of which there is one.
-fn next_post(alloc: Global, shard: &ShardState) -> Result<Item, AllocError>
+fn next_post(shard: &ShardState) -> Result<KeptItem, AllocError>
     requires { is_empty (items_out shard.now.outbox) ≡ false }
     ensures { IfOk result (λ item. next_out shard.now.outbox ≡ Some item) }
 {
-    match shard.next_post(alloc)? {
-        Some(item) => Ok(item),
+    match shard.next_post_kept() {
+        Some(item) => item.copy(),
         None => unreachable!(),
     }
 }
 
 /// Writes that the oldest item which a shard put out is lifted and taken out of its hand,
-/// or nothing where memory is refused.
+/// or nothing where memory is refused. The entry shares the item.
 fn write_lift(
-    alloc: Global,
     shard: &mut ShardState,
     log: &mut Log,
     stamps: &mut Vec<u64>,
@@ -157,13 +145,12 @@ fn write_lift(
         × (log.new.entries ≡ log.old.entries) × (stamps.new.items ≡ stamps.old.items)) }
 {
     let _shards = shard.peers().shards();
-    let item = next_post(alloc, shard)?;
-    let entry = lift_entry(shard.number() as u32, item);
-    let kept = KeptEntry::keep(alloc, &entry)?;
+    let item = next_post(shard)?;
+    let source = Source::Shard(shard.number() as u32);
     make_room(log, stamps)?;
     shard.lift();
     shard.drop_hand();
-    log.put(kept);
+    log.put(KeptEntry::of_lift(source, Some(item)));
     stamps.push(stamp).unwrap();
     Ok(())
 }
@@ -245,7 +232,7 @@ impl ShardPart {
     }
 
     /// Lifts the oldest item that it put out, and hands it out: a Lift, with the stamp that was drawn for it.
-    pub fn lift(&mut self, stamp: u64) -> Result<Item, CarryFault>
+    pub fn lift(&mut self, stamp: u64) -> Result<KeptItem, CarryFault>
         ensures item { IfOk result (λ item. next_out self.old.shard.outbox ≡ Some item) }
         ensures ok { IfOk result (λ item. self.new ≡ with_lift self.old stamp item) }
         ensures fault { IfErr result (λ f. f ≡ unwrap_or (lift_refusal self.old) CarryFault.NoMemory) }
@@ -255,14 +242,8 @@ impl ShardPart {
         if let Some(fault) = self.lift_refusal() {
             return Err(fault);
         }
-        let item = next_post(self.alloc, &self.shard)?;
-        write_lift(
-            self.alloc,
-            &mut self.shard,
-            &mut self.log,
-            &mut self.stamps,
-            stamp,
-        )?;
+        let item = next_post(&self.shard)?;
+        write_lift(&mut self.shard, &mut self.log, &mut self.stamps, stamp)?;
         Ok(item)
     }
 
