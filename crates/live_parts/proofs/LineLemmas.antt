@@ -2,10 +2,12 @@
 use Rattle.std.proofs.Common.{◌≡◌, ◌∙◌, ℕ, List, [], ◌∷◌, ◌++◌, Some, None, refl, ap, subst, sym}
 use Rattle.std.specs.Prelude.{map, true}
 use Rattle.std.proofs.lemmas.Bool.{false≢true}
+use Rattle.std.proofs.lemmas.Option.{none-some}
 use Rattle.bench_item.specs.Lines.{Acknowledged, Gone, LineStep, Received}
 use Rattle.bench_item.specs.declared.entry.Entry.{Entry}
 use Rattle.bench_item.specs.declared.item.Item.{Item}
 use Rattle.bench_item.specs.declared.item.Item.TheVariants.{ToMachine, ToLine, Dial, Undial, Arm, Disarm}
+use Rattle.bench_item.specs.declared.item.LineItem.{LineItem}
 use Rattle.bench_item.specs.declared.opening.Opening.TheVariants as openings
 use Rattle.bench_item.specs.declared.source.Source.{Source}
 use Rattle.bench_item.specs.declared.source.Source.TheVariants.{Line}
@@ -13,6 +15,7 @@ use Rattle.bench_item.specs.declared.step.Step.{Step}
 use Rattle.bench_item.specs.declared.step.Step.TheVariants.{Came, Dialled, Drop, Joined, Lift, Lost}
 use Rattle.bench_line.specs.Line.{LineView}
 use Rattle.bench_line.specs.Lines.{Past, AreLinesAfter, lifted_one, next_on, opened, with_line, with_step}
+use Rattle.bench_log.specs.Targets.{deed_in}
 use Rattle.bench_views.specs.Carried.{lifts}
 use Rattle.bench_views.specs.LinePasts.{pasts_of}
 use Rattle.bench_views.proofs.LineLifts.{is_lifted_so-kept, is_lifted_so-lifted, is_lifted_so-start, lifted_on-opened, lifted_on-same}
@@ -83,6 +86,15 @@ so-come rules old new log source (Undial peer generation) is so c =
     (is_lifted_so-kept old new log (carried_entry (Drop source) (Undial peer generation)) (lifted_on-same old new c.lifted) (λ n. refl) so.lifted) c
 so-come rules old new log source (Arm machine generation ticks) is so c = absurd (false≢true is)
 so-come rules old new log source (Disarm machine) is so c = absurd (false≢true is)
+
+-- an item for a connection is its deed
+pub deed-is : (item : Item) (deed : LineItem) → deed_in item ≡ Some deed → item ≡ ToLine deed
+deed-is (ToMachine i) deed is = absurd (none-some deed is)
+deed-is (ToLine i) deed is = cc
+deed-is (Dial peer generation) deed is = absurd (none-some deed is)
+deed-is (Undial peer generation) deed is = absurd (none-some deed is)
+deed-is (Arm machine generation ticks) deed is = absurd (none-some deed is)
+deed-is (Disarm machine) deed is = absurd (none-some deed is)
 
 -- none was opened yet
 pub so-none : (rules : Hearing) → AreLinesAfter (meaning_by rules) [] [] → AreSo rules [] []

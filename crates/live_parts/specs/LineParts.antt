@@ -6,6 +6,7 @@ use Rattle.bench_item.specs.declared.item.Item.{Item}
 use Rattle.bench_item.specs.declared.item.Item.TheVariants.{ToLine, Dial, Undial}
 use Rattle.bench_item.specs.declared.limit.TheConstants.{MAX_LINES}
 use Rattle.bench_line.specs.Line.{LineView}
+use Rattle.bench_log.specs.Targets.{is_dial}
 use Rattle.bench_item.specs.Lines.{Delivered, Undialled}
 use Rattle.bench_item.specs.declared.opening.Opening.TheVariants as openings
 use Rattle.bench_item.specs.declared.step.StepFault.{StepFault}
@@ -63,21 +64,17 @@ lift_refusal v line =
     if is_none (state_on v.lines line) then Some faults.Unknown
     else (if is_none (next_on v.lines line) then Some faults.Nothing else fault_or_full v None)
 
--- whether an item is for the connections, and whether it opens one
+-- whether an item is for the connections
 abbrev pub is_for_lines : Item → Bool
 is_for_lines (ToLine item) = true
 is_for_lines (Dial peer generation) = true
 is_for_lines (Undial peer generation) = true
 is_for_lines item = false
 
-abbrev pub opens : Item → Bool
-opens (Dial peer generation) = true
-opens item = false
-
 -- why an item is not dropped here: the part is full, or it opens a connection and there are as many as may be
 abbrev pub drop_refusal : LinesPartView → Item → Option CarryFault
 drop_refusal v item =
-    if is_log_full (entries_of v) || (opens item && nat_le MAX_LINES (length v.lines)) then Some carrying.Full else None
+    if is_log_full (entries_of v) || (is_dial item && nat_le MAX_LINES (length v.lines)) then Some carrying.Full else None
 
 -- what an item that comes makes of what happened to the connections, and of how many items of each were lifted
 abbrev pub pasts_with : Item → List Past → List Past

@@ -12,11 +12,11 @@ ghost use Rattle.live_parts.specs.Clocks.{IsFired, drop_refusal, entries_of, fir
 ghost use Rattle.live_parts.specs.Clocks.{key_of, lift_refusal, with_arm, with_disarm, with_lift};
 
 use crate::due::Keys;
-use crate::entries::{carried_entry, fired_entry};
+use crate::entries::{fired_entry, lift_entry, timer_entry};
 use crate::firing::firing_item;
 use crate::stamped::StampedLog;
 use bench_desk::CarryFault;
-use bench_item::{Item, Key, Source, Step};
+use bench_item::{Item, Key, Source};
 use bench_log::{KeptItem, Log};
 use bench_move::Roles;
 use bench_parts::Lent;
@@ -232,12 +232,12 @@ impl ClockPart {
     }
 
     // The oldest item that fired and waits, of which there is one.
-    fn next(&self) -> Result<Item, AllocError>
+    fn next(&self) -> Result<KeptItem, AllocError>
         requires { is_empty (items_out self.now.outbox) ≡ false }
         ensures { IfOk result (λ item. next_out self.now.outbox ≡ Some item) }
     {
-        match self.outbox.next(self.alloc)? {
-            Some(item) => Ok(item),
+        match self.outbox.next_kept() {
+            Some(item) => item.copy(),
             None => unreachable!(),
         }
     }
@@ -255,8 +255,8 @@ impl ClockPart {
         None
     }
 
-    /// Lifts the oldest item that fired, and hands it out.
-    pub fn lift(&mut self, stamp: u64) -> Result<Item, CarryFault>
+    /// Lifts the oldest item that fired, and hands it out. The entry shares it.
+    pub fn lift(&mut self, stamp: u64) -> Result<KeptItem, CarryFault>
         ensures could { OnOk result (lift_refusal self.old ≡ None) }
         ensures item { IfOk result (λ item. next_out self.old.outbox ≡ Some item) }
         ensures ok { IfOk result (λ item. self.new ≡ with_lift self.old stamp item) }
@@ -267,7 +267,7 @@ impl ClockPart {
             return Err(fault);
         }
         let item = self.next()?;
-        let entry = carried_entry(self.alloc, Step::Lift(Source::Clock), &item)?;
+        let entry = lift_entry(Source::Clock, &item)?;
         self.log.reserve()?;
         self.outbox.lift();
         self.outbox.drop_hand();
@@ -299,7 +299,7 @@ impl ClockPart {
             generation,
             ticks,
         };
-        let entry = carried_entry(self.alloc, Step::Drop(source), &item)?;
+        let entry = timer_entry(self.alloc, source, item)?;
         let own = copy_if(self.alloc, key)?;
         self.log.reserve()?;
         self.keys.reserve(1)?;
@@ -320,7 +320,7 @@ impl ClockPart {
             return Err(CarryFault::Full);
         }
         let item = Item::Disarm { machine };
-        let entry = carried_entry(self.alloc, Step::Drop(source), &item)?;
+        let entry = timer_entry(self.alloc, source, item)?;
         self.log.reserve()?;
         self.wheel.disarm(machine);
         self.log.put(stamp, entry);

@@ -1,18 +1,11 @@
 //! Entries, as logs keep them.
 ghost use Rattle.std.specs.Prelude.{◌≡◌, IfOk};
+ghost use Rattle.bench_item.specs.declared.step.Step.TheVariants as steps;
 ghost use Rattle.live_parts.specs.Entries.{bare_entry, carried_entry, fired_entry};
 
-use bench_item::{Entry, Item, Step};
+use bench_item::{Entry, Item, Source, Step};
 use bench_log::{KeptEntry, KeptItem};
 use std::alloc::{AllocError, Global};
-
-/// The same item in memory of its own.
-fn copy_item(alloc: Global, item: &Item) -> Result<Item, AllocError>
-    ensures { IfOk result (λ copy. copy ≡ item.now) }
-{
-    let kept = KeptItem::keep(alloc, item)?;
-    kept.show(alloc)
-}
 
 /// The entry of a step that carries nothing and moves nothing.
 pub(crate) fn bare_entry(alloc: Global, step: Step) -> Result<KeptEntry, AllocError>
@@ -26,16 +19,32 @@ pub(crate) fn bare_entry(alloc: Global, step: Step) -> Result<KeptEntry, AllocEr
     KeptEntry::keep(alloc, &entry)
 }
 
-/// The entry of a step that carries an item.
-pub(crate) fn carried_entry(alloc: Global, step: Step, item: &Item) -> Result<KeptEntry, AllocError>
-    ensures { IfOk result (λ kept. kept ≡ carried_entry step item.now) }
+/// The entry of an item that is lifted from a source, which the entry shares.
+pub(crate) fn lift_entry(source: Source, item: &KeptItem) -> Result<KeptEntry, AllocError>
+    ensures { IfOk result (λ kept. kept ≡ carried_entry (steps.Lift source) item.now) }
 {
-    let entry = Entry {
-        step,
-        item: Some(copy_item(alloc, item)?),
-        handled: None,
-    };
-    KeptEntry::keep(alloc, &entry)
+    let own = item.copy()?;
+    Ok(KeptEntry::of_lift(source, Some(own)))
+}
+
+/// The entry of an item that a source drops, which the entry shares.
+pub(crate) fn drop_entry(source: Source, item: &KeptItem) -> Result<KeptEntry, AllocError>
+    ensures { IfOk result (λ kept. kept ≡ carried_entry (steps.Drop source) item.now) }
+{
+    let own = item.copy()?;
+    Ok(KeptEntry::of_drop(source, Some(own)))
+}
+
+/// The entry of an item for the timers that a source drops.
+pub(crate) fn timer_entry(
+    alloc: Global,
+    source: Source,
+    item: Item,
+) -> Result<KeptEntry, AllocError>
+    ensures { IfOk result (λ kept. kept ≡ carried_entry (steps.Drop source) item) }
+{
+    let own = KeptItem::new(alloc, item)?;
+    Ok(KeptEntry::of_drop(source, Some(own)))
 }
 
 /// The entry of a timer that fires, with what it puts out.

@@ -8,12 +8,12 @@ ghost use Rattle.bench_spec.specs.Merged.{Did};
 ghost use Rattle.live_parts.specs.Entries.{bare_entry, carried_entry};
 ghost use Rattle.live_parts.specs.LineParts.{IsAdded, entries_of, fault_or_full, joined_refusal, lift_refusal};
 
-use crate::entries::{bare_entry, carried_entry};
+use crate::entries::{bare_entry, lift_entry};
 use crate::stamped::StampedLog;
 use base_list::Octets;
-use bench_item::{Item, Source, Step, StepFault};
+use bench_item::{Source, Step, StepFault};
 use bench_line::Lines;
-use bench_log::{KeptEntry, Log};
+use bench_log::{KeptEntry, KeptItem, Log};
 use bench_parts::Lent;
 use line_message::Listener;
 use std::alloc::{AllocError, Global};
@@ -57,7 +57,7 @@ fn came_entry(alloc: Global, line: u32, piece: &[u8]) -> Result<KeptEntry, Alloc
     ensures { IfOk result (λ kept. kept ≡ bare_entry (steps.Came line piece.now)) }
 {
     let piece = Octets::from_slice(alloc, piece)?;
-    bare_entry(alloc, Step::Came { line, piece })
+    Ok(KeptEntry::of_came(line, piece))
 }
 
 impl LinesPart {
@@ -213,18 +213,18 @@ impl LinesPart {
     }
 
     // The oldest item that waits on a connection, of which there is one.
-    fn next(&self, line: u32) -> Result<Item, AllocError>
+    fn next(&self, line: u32) -> Result<KeptItem, AllocError>
         requires { IsSome (next_on self.now.lines line) }
         ensures { IfOk result (λ item. next_on self.now.lines line ≡ Some item) }
     {
         match self.lines.next(line as u64) {
-            Some(item) => item.show(self.alloc),
+            Some(item) => item.copy(),
             None => unreachable!(),
         }
     }
 
-    /// Lifts the oldest item that waits on a connection, and hands it out.
-    pub fn lift(&mut self, line: u32, stamp: u64) -> Result<Item, StepFault>
+    /// Lifts the oldest item that waits on a connection, and hands it out. The entry shares it.
+    pub fn lift(&mut self, line: u32, stamp: u64) -> Result<KeptItem, StepFault>
         ensures could { OnOk result (lift_refusal self.old line ≡ None) }
         ensures item { IfOk result (λ item. next_on self.old.lines line ≡ Some item) }
         ensures ok { IfOk result (λ item. IsAdded self.old self.new stamp
@@ -236,7 +236,7 @@ impl LinesPart {
             return Err(fault);
         }
         let item = self.next(line)?;
-        let entry = carried_entry(self.alloc, Step::Lift(Source::Line(line)), &item)?;
+        let entry = lift_entry(Source::Line(line), &item)?;
         self.log.reserve()?;
         let _change = self.lines.lift(line as u64);
         self.log.put(stamp, entry);
