@@ -52,7 +52,7 @@ module _ (T U : RattleType) (g : Ghosts T.Denot) (h : Ghosts U.Denot)
   slot =
       recorded_send (Slot.the_field T U g h m n).row _ _ (Slot.the_type T U g h m n).to_one
       (struct_send (shape (Slot.the_type T U g h m n))
-      (part.the_send, (registry, (Box-send _ stepped.the_send, (search sendable, (search sendable, (search sendable, tt)))))))
+      (heap.the_field_send, (part.the_send, (registry, (Box-send _ stepped.the_send, (search sendable, (search sendable, (search sendable, tt))))))))
 
   lock-send : IsSend (Lock.the_row T U g h m n)
   lock-send = let s = slot in
@@ -68,16 +68,22 @@ module _ (T U : RattleType) (g : Ghosts T.Denot) (h : Ghosts U.Denot)
   shared-send = let l = lines.the_send in let c = clock.the_send in
       recorded_send (Shared.the_field T U g h m n).row _ _ (Shared.the_type T U g h m n).to_one
       (struct_send (shape (Shared.the_type T U g h m n)) (
-        Vec-send _ lock-send,
-        (pages.the_send, (search crosses, (search crosses, (search (sendable, crosses) depth 20, (search (sendable, crosses) depth 20, tt))))),
+        heap.the_field_send,
+        (
+          Vec-send _ lock-send,
+          (pages.the_send, (search crosses, (search crosses, (search (sendable, crosses) depth 20, (search (sendable, crosses) depth 20, tt))))),
+        ),
       ))
 
   pub shared-sync : IsSync (Shared.the_row T U g h m n)
   shared-sync = let l = lines.the_send in let c = clock.the_send in
       recorded_sync (Shared.the_field T U g h m n).row _ _ (Shared.the_type T U g h m n).to_one
       (struct_sync (shape (Shared.the_type T U g h m n)) (
-        Vec-sync _ lock-sync,
-        (pages.the_sync, (search crosses, (search crosses, (search (sendable, crosses) depth 20, (search (sendable, crosses) depth 20, tt))))),
+        heap.the_field_sync,
+        (
+          Vec-sync _ lock-sync,
+          (pages.the_sync, (search crosses, (search crosses, (search (sendable, crosses) depth 20, (search (sendable, crosses) depth 20, tt))))),
+        ),
       ))
 
 -- what a thread takes over may go there if each of it may

@@ -1,19 +1,21 @@
 //! An item goes where it is for.
-ghost use Rattle.std.specs.Prelude.{◌≡◌, false, true};
+ghost use Rattle.std.specs.Prelude.{◌≡◌, None, false, true};
+ghost use Rattle.bench_log.specs.Targets.{event_in};
 ghost use Rattle.live_parts.specs.Clocks.{with_arm, with_disarm};
 ghost use Rattle.live_parts.specs.LineParts.{is_for_lines};
 ghost use Rattle.bench_live.specs.Carried.{DropsAtClock, DropsAtLines};
 
 use crate::shared::Shared;
 use bench_desk::CarryFault;
-use bench_item::{Item, Key, MAX_SHARDS, MachineItem, Source, home};
+use bench_item::{Item, Key, MAX_SHARDS, Source, home};
+use bench_log::{KeptItem, KeptMachineItem};
 use live_parts::{ClockPart, LinesPart};
 use live_slot::{Hand, Turn, draw};
 use std::sync::Wait;
 use std::sync::atomic::AtomicU64;
 
 /// An item comes from a source to the connections, whose lock is held, with a stamp that is drawn now.
-fn drop_under(lines: &mut LinesPart, stamps: &AtomicU64, source: Source, item: &Item) -> Turn
+fn drop_under(lines: &mut LinesPart, stamps: &AtomicU64, source: Source, item: &KeptItem) -> Turn
     requires { is_for_lines item.now ≡ true }
     ensures { DropsAtLines result lines.old lines.new source item.now }
 {
@@ -60,12 +62,12 @@ fn disarm_under(clock: &mut ClockPart, stamps: &AtomicU64, source: Source, machi
 
 impl Shared {
     // An item comes from a source to the shard that it is for.
-    fn arrive<R: Wait>(&self, rt: &R, source: Source, item: &MachineItem) -> Turn {
+    fn arrive<R: Wait>(&self, rt: &R, source: Source, item: &KeptMachineItem) -> Turn {
         let count = self.shards.len();
         if count == 0 || count > MAX_SHARDS {
             return Turn::Idle;
         }
-        let Some(shard) = self.shards.get(home(count, &item.key)) else {
+        let Some(shard) = self.shards.get(home(count, item.key())) else {
             return Turn::Idle;
         };
         let mut slot = shard.slot.lock(rt);
@@ -76,7 +78,7 @@ impl Shared {
     }
 
     // An item comes from a source to the connections.
-    fn drop_at_lines<R: Wait>(&self, rt: &R, source: Source, item: &Item) -> Turn
+    fn drop_at_lines<R: Wait>(&self, rt: &R, source: Source, item: &KeptItem) -> Turn
         requires { is_for_lines item.now ≡ true }
     {
         let mut lines = self.lines.lock(rt);
@@ -111,6 +113,27 @@ impl Shared {
         disarm_under(&mut clock.part, &self.stamps, source, machine)
     }
 
+    // Drops what is for no machine, where it is for. Its plain form is small, but for a deed's.
+    fn drop_elsewhere<R: Wait>(&self, rt: &R, source: Source, hand: &Hand) -> Turn
+        requires { event_in hand.now.item ≡ None }
+    {
+        let Ok(plain) = hand.item.show(self.alloc) else {
+            return Turn::NoMemory;
+        };
+        match plain {
+            Item::ToMachine(_) => unreachable!(),
+            Item::ToLine(_) | Item::Dial { .. } | Item::Undial { .. } => {
+                self.drop_at_lines(rt, source, &hand.item)
+            }
+            Item::Arm {
+                machine,
+                generation,
+                ticks,
+            } => self.arm(rt, source, machine, generation, ticks, &hand.key),
+            Item::Disarm { machine } => self.disarm(rt, source, machine),
+        }
+    }
+
     /// Drops what a source has lifted, where it is for. One whose machine was not looked up for want of memory is not
     /// dropped yet.
     pub(crate) fn drop_item<R: Wait>(&self, rt: &R, source: Source, hand: &Hand) -> Turn
@@ -119,17 +142,12 @@ impl Shared {
         if !hand.is_named {
             return Turn::NoMemory;
         }
-        match &hand.item {
-            Item::ToMachine(item) => self.arrive(rt, source, item),
-            Item::ToLine(_) | Item::Dial { .. } | Item::Undial { .. } => {
-                self.drop_at_lines(rt, source, &hand.item)
-            }
-            Item::Arm {
-                machine,
-                generation,
-                ticks,
-            } => self.arm(rt, source, *machine, *generation, *ticks, &hand.key),
-            Item::Disarm { machine } => self.disarm(rt, source, *machine),
+        match hand.item.event() {
+            Some(event) => self.arrive(rt, source, event),
+            None => match hand.item.deed() {
+                Some(_deed) => self.drop_at_lines(rt, source, &hand.item),
+                None => self.drop_elsewhere(rt, source, hand),
+            },
         }
     }
 }

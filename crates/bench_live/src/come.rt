@@ -12,7 +12,8 @@ ghost use Rattle.bench_live.specs.Slots.{HasArrived, is_for, is_home_of, look_re
 
 use crate::slot::Slot;
 use bench_desk::{Desk, DeskFault, Look, ShardPart};
-use bench_item::{Key, MachineItem, Source, home};
+use bench_item::{Key, Source, home};
+use bench_log::KeptMachineItem;
 use bench_shard::PutError;
 use live_slot::Turn;
 use tab_step::Event;
@@ -31,12 +32,12 @@ fn is_home_of(part: &ShardPart, shards: usize, key: &Key) -> bool
 impl Slot {
     /// An item comes from a source, behind the others. Nothing comes of one that is another shard's; where there is no
     /// room, that is kept in mind.
-    pub fn arrive(&mut self, source: Source, item: &MachineItem, stamp: u64) -> Turn
+    pub fn arrive(&mut self, source: Source, item: &KeptMachineItem, stamp: u64) -> Turn
         ensures came { HasArrived result self.old.part self.new.part source stamp item.now }
         ensures wanted { IsTrue (is_for self.old.part item.now && is_full self.old.part) → self.new.wanted ≡ true }
     {
         let shards = self.part.shard().peers().shards();
-        if !is_home_of(&self.part, shards, &item.key) {
+        if !is_home_of(&self.part, shards, item.key()) {
             return Turn::Idle;
         }
         if self.part.is_full() {

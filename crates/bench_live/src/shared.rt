@@ -6,6 +6,7 @@ use acct_book::Page;
 use acct_pages::Pages;
 use live_parts::{ClockPart, LinesPart};
 use live_slot::ClockSlot;
+use std::alloc::Global;
 use std::sync::atomic::AtomicU64;
 use std::sync::{Condvar, Mutex, Wait};
 
@@ -26,6 +27,7 @@ impl Drop for ShardLock {
 ///
 /// In: `tell`, `take`, `set_paused`, `say_all`. Looks: `look`; `state` and `unsent` of a connection.
 pub struct Shared {
+    pub(crate) alloc: Global,
     pub shards: Vec<ShardLock>,
     pub pages: Pages,
     pub(crate) lines: Mutex<LinesPart>,
@@ -37,6 +39,7 @@ pub struct Shared {
 impl Drop for Shared {
     fn drop(self) {
         let Shared {
+            alloc: _,
             shards,
             pages,
             lines,
@@ -87,11 +90,18 @@ impl ShardLock {
 
 impl Shared {
     /// The parts of a bench, each behind its lock. No stamp was drawn yet.
-    pub fn new(shards: Vec<ShardLock>, pages: Pages, lines: LinesPart, clock: ClockPart) -> Shared
+    pub fn new(
+        alloc: Global,
+        shards: Vec<ShardLock>,
+        pages: Pages,
+        lines: LinesPart,
+        clock: ClockPart,
+    ) -> Shared
         ensures shards { result.shards.items ≡ shards.items }
         ensures pages { result.pages ≡ pages }
     {
         Shared {
+            alloc,
             shards,
             pages,
             lines: Mutex::new(lines),
@@ -107,6 +117,7 @@ impl Shared {
         ensures pages { vec_len result.pages ≡ self.pages }
     {
         let Shared {
+            alloc: _,
             shards,
             pages,
             lines,

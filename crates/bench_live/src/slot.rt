@@ -1,8 +1,9 @@
 //! A shard's part with its callbacks.
 ghost use Rattle.std.specs.Prelude.{◌≡◌, ◌||◌, None, Some, IfErr, IfOk, IsTrue, OnErr, OnOk, is_none, true, false};
-ghost use Rattle.std.specs.Prelude.{unwrap_or};
+ghost use Rattle.std.specs.Prelude.{is_some, unwrap_or};
 ghost use Rattle.bench_desk.specs.Working.{Holds, IsWorked, key_in_part, lift_refusal, paused_part, with_lift};
 ghost use Rattle.bench_desk.specs.Working.{work_refusal};
+ghost use Rattle.bench_log.specs.Targets.{deed_in, event_in};
 ghost use Rattle.bench_queue.specs.Outbox.{next_out};
 ghost use Rattle.bench_shard.specs.Tasks.{IsTask};
 ghost use Rattle.bench_live.specs.Slots.{is_idle, key_for};
@@ -10,9 +11,10 @@ ghost use Rattle.bench_live.specs.Slots.{is_idle, key_for};
 use acct_book::Page;
 use bench_desk::{CarryFault, ShardPart};
 use bench_item::{Item, Key};
+use bench_log::KeptItem;
 use bench_shard::{Task, WorkFault};
 use live_slot::Hand;
-use std::alloc::AllocError;
+use std::alloc::{AllocError, Global};
 use tab_call::Registry;
 use tab_step::Stepped;
 
@@ -20,6 +22,7 @@ use tab_step::Stepped;
 ///
 /// In: `arrive`, `tell`, `set_paused`, `say`. Out: `work`, `lift`. Looks: `look`, `is_idle`.
 pub struct Slot {
+    pub(crate) alloc: Global,
     pub part: ShardPart,
     pub registry: Registry,
     pub room: Box<Stepped>,
@@ -36,6 +39,7 @@ pub struct Slot {
 impl Drop for Slot {
     fn drop(self) {
         let Slot {
+            alloc: _,
             part,
             registry,
             room,
@@ -46,13 +50,21 @@ impl Drop for Slot {
     }
 }
 
+/// Whether an item is an event or a deed.
+fn is_large(item: &KeptItem) -> bool
+    ensures { result ≡ (is_some (event_in item.now) || is_some (deed_in item.now)) }
+{
+    item.event().is_some() || item.deed().is_some()
+}
+
 impl Slot {
     /// A shard's part and its callbacks, which are of its laws.
-    pub fn new(part: ShardPart, registry: Registry, room: Box<Stepped>) -> Slot
+    pub fn new(alloc: Global, part: ShardPart, registry: Registry, room: Box<Stepped>) -> Slot
         requires { registry.book ≡ part.tables.laws }
         ensures { result.part ≡ part }
     {
         Slot {
+            alloc,
             part,
             registry,
             room,
@@ -68,6 +80,7 @@ impl Slot {
         ensures laws { result.1.book ≡ result.0.tables.laws }
     {
         let Slot {
+            alloc: _,
             part,
             registry,
             room,
@@ -108,8 +121,8 @@ impl Slot {
         Ok(())
     }
 
-    // The key that goes with an item: that of the machine whose timer it arms.
-    fn key_for(&self, item: &Item) -> Result<Option<Key>, AllocError>
+    // The key that goes with an item in its plain form: that of the machine whose timer it arms.
+    fn plain_key_for(&self, item: &Item) -> Result<Option<Key>, AllocError>
         ensures { IfOk result (λ key. key ≡ key_for self.now.part item.now) }
     {
         match item {
@@ -120,6 +133,17 @@ impl Slot {
             | Item::Undial { .. }
             | Item::Disarm { .. } => Ok(None),
         }
+    }
+
+    // The key that goes with an item. With an event or a deed none goes; the plain form of others is small.
+    fn key_for(&self, item: &KeptItem) -> Result<Option<Key>, AllocError>
+        ensures { IfOk result (λ key. key ≡ key_for self.now.part item.now) }
+    {
+        if is_large(item) {
+            return Ok(None);
+        }
+        let plain = item.show(self.alloc)?;
+        self.plain_key_for(&plain)
     }
 
     /// Looks up the key that goes with an item, where that was not done yet. Without memory it is still to be done.

@@ -32,7 +32,7 @@ fn lock_shard(alloc: Global, part: ShardPart, registry: Registry) -> Result<Shar
     requires { registry.book ≡ part.tables.laws }
 {
     let room = Box::new(alloc, Stepped::new())?;
-    Ok(ShardLock::new(Slot::new(part, registry, room)))
+    Ok(ShardLock::new(Slot::new(alloc, part, registry, room)))
 }
 
 /// The shards, each with its callbacks, behind their locks.
@@ -75,7 +75,7 @@ fn share(
     } = opened;
     let shards = lock_shards(alloc, shards, registries)?;
     let pages = Pages::keep(alloc, pages)?;
-    let shared = Shared::new(shards, pages, lines, clock);
+    let shared = Shared::new(alloc, shards, pages, lines, clock);
     Ok(Arc::new(alloc, shared)?)
 }
 
