@@ -20,16 +20,14 @@ impl LiveNode {
     }
 
     // Carries what a connection put out, where something happened there.
-    fn carry_line(&mut self, registries: &[Registry], line: u32) -> Result<(), AllocError>
-        requires laws { Each (λ r. r.book ≡ all_laws) registries.now }
-        requires count { length registries.now ≡ self.old.settings.node.shards }
+    fn carry_line(&mut self, line: u32) -> Result<(), AllocError>
         ensures goes { Goes self.old self.new }
         ensures same { self.new.settings ≡ self.old.settings }
     {
         if !self.is_touched(line) {
             return Ok(());
         }
-        self.carry(registries, Source::Line(line))?;
+        self.carry(Source::Line(line))?;
         if self.is_carried(line) {
             self.rest(line);
         }
@@ -37,41 +35,35 @@ impl LiveNode {
     }
 
     // Carries what the connections put out on which something happened.
-    fn carry_lines(&mut self, registries: &[Registry]) -> Result<(), AllocError>
-        requires laws { Each (λ r. r.book ≡ all_laws) registries.now }
-        requires count { length registries.now ≡ self.old.settings.node.shards }
+    fn carry_lines(&mut self) -> Result<(), AllocError>
         ensures goes { Goes self.old self.new }
         ensures same { self.new.settings ≡ self.old.settings }
     {
         'lines: for line in 1..LINE_PLACES as u32 {
-            self.carry_line(registries, line)?;
+            self.carry_line(line)?;
         }
         Ok(())
     }
 
     // Carries what shards put out.
-    fn carry_shards(&mut self, registries: &[Registry]) -> Result<(), AllocError>
-        requires laws { Each (λ r. r.book ≡ all_laws) registries.now }
-        requires count { length registries.now ≡ self.old.settings.node.shards }
+    fn carry_shards(&mut self) -> Result<(), AllocError>
         ensures goes { Goes self.old self.new }
         ensures same { self.new.settings ≡ self.old.settings }
     {
         'shards: for shard in 0..self.core.shards().min(MAX_SHARDS) as u32 {
-            self.carry(registries, Source::Shard(shard))?;
+            self.carry(Source::Shard(shard))?;
         }
         Ok(())
     }
 
     // Carries what desks and the clock put out.
-    fn carry_others(&mut self, registries: &[Registry]) -> Result<(), AllocError>
-        requires laws { Each (λ r. r.book ≡ all_laws) registries.now }
-        requires count { length registries.now ≡ self.old.settings.node.shards }
+    fn carry_others(&mut self) -> Result<(), AllocError>
         ensures goes { Goes self.old self.new }
         ensures same { self.new.settings ≡ self.old.settings }
     {
-        self.carry(registries, Source::Clock)?;
+        self.carry(Source::Clock)?;
         'desks: for desk in 0..self.core.desks() {
-            self.carry(registries, Source::Desk(desk))?;
+            self.carry(Source::Desk(desk))?;
         }
         Ok(())
     }
@@ -84,10 +76,9 @@ impl LiveNode {
         ensures same { self.new.settings ≡ self.old.settings }
     {
         'items: for _ in 0..MAX_WAITING {
-            if !self.is_free(&Step::Work(shard)) {
+            if !self.work_once(registries, shard)? {
                 return Ok(());
             }
-            self.take(registries, Step::Work(shard))?;
         }
         Ok(())
     }
@@ -113,9 +104,9 @@ impl LiveNode {
         ensures same { self.new.settings ≡ self.old.settings }
     {
         let before = self.core.place();
-        self.carry_lines(registries)?;
-        self.carry_others(registries)?;
-        self.carry_shards(registries)?;
+        self.carry_lines()?;
+        self.carry_others()?;
+        self.carry_shards()?;
         self.work_all(registries)?;
         Ok(self.core.place() != before)
     }

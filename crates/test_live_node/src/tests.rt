@@ -1,8 +1,10 @@
 //! What both nodes come to, turn by turn.
 
 use crate::pair::{Alone, Turns, somewhere};
+use crate::pumped::Heard;
 use base_device::{Counting, Inputs};
 use bench_setup::{Setup, read_nodes, with_calls};
+use hex::decode;
 use std::fs;
 use std::test::Fail;
 
@@ -134,5 +136,40 @@ fn a_dial_is_not_answered(rt: HostRuntime) -> Result<(), Fail> {
 #[test]
 fn a_peer_has_no_address(rt: HostRuntime) -> Result<(), Fail> {
     assert!(rt; alone(&rt, "unreachable.json", false)?.as_slice() == UNREACHABLE.as_bytes());
+    Ok(())
+}
+
+/// A Device-Watchdog-Request, 56 octets, and the Capabilities-Exchange-Request of c.example.
+const DWR: &str = "\
+0100003880000118000000000000000100000001\
+000001084000001163\
+2e6578616d706c65000000000001284000000f6578616d706c6500";
+
+const CER: &str = "\
+0100006c80000101000000000000000100000001\
+0000010840000011632e6578616d706c65000000000001284000000f6578616d706c6500\
+000001014000000e00017f00000100000000010a4000000c000000000000010d0000000978000000\
+000001024000000c00000004";
+
+// What comes of octets on a connection that the server accepts.
+fn heard(rt: &HostRuntime, name: &str, octets: &str) -> Result<Vec<u8>, Fail> {
+    let alloc = rt.alloc();
+    let Some(server) = nodes(rt, name)?.into_iter().next() else {
+        return Err(Fail::new("two nodes"));
+    };
+    let octets = decode(alloc, octets)?;
+    let heard = Heard {
+        alloc,
+        server,
+        octets,
+    };
+    Ok(with_calls(alloc, 1, heard)?)
+}
+
+/// A connection's first message is to be a CER.
+#[test]
+fn a_first_message_is_read_and_closes(rt: HostRuntime) -> Result<(), Fail> {
+    assert!(rt; heard(&rt, "watchdog.json", DWR)?.as_slice() == b"read 56 written 0 closed\n".as_slice());
+    assert!(rt; heard(&rt, "capabilities.json", CER)?.as_slice() == b"read 108 written 0 open\n".as_slice());
     Ok(())
 }

@@ -4,4 +4,4 @@ use Rattle.bench_node.proofs.node.LiveNode.carry.Given as goal
 
 -- steps were taken so far, and nothing else
 abbrev pub invariant-carries : goal.invariant-carries
-invariant-carries g l = Goes l.initial.self l.self × (l.self.settings ≡ l.initial.self.settings)
+invariant-carries l = Goes l.initial.self l.self × (l.self.settings ≡ l.initial.self.settings)

@@ -4,4 +4,4 @@ use Rattle.bench_node.proofs.node.LiveNode.carry_lines.Given as goal
 
 -- steps were taken so far, and nothing else
 abbrev pub invariant-lines : goal.invariant-lines
-invariant-lines g l = Goes l.initial.self l.self × (l.self.settings ≡ l.initial.self.settings)
+invariant-lines l = Goes l.initial.self l.self × (l.self.settings ≡ l.initial.self.settings)

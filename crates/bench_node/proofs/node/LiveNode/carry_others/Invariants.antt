@@ -4,4 +4,4 @@ use Rattle.bench_node.proofs.node.LiveNode.carry_others.Given as goal
 
 -- steps were taken so far, and nothing else
 abbrev pub invariant-desks : goal.invariant-desks
-invariant-desks g l = Goes l.initial.self l.self × (l.self.settings ≡ l.initial.self.settings)
+invariant-desks l = Goes l.initial.self l.self × (l.self.settings ≡ l.initial.self.settings)
