@@ -169,7 +169,11 @@ fn heard(rt: &HostRuntime, name: &str, octets: &str) -> Result<Vec<u8>, Fail> {
 /// A connection's first message is to be a CER.
 #[test]
 fn a_first_message_is_read_and_closes(rt: HostRuntime) -> Result<(), Fail> {
-    assert!(rt; heard(&rt, "watchdog.json", DWR)?.as_slice() == b"read 56 written 0 closed\n".as_slice());
-    assert!(rt; heard(&rt, "capabilities.json", CER)?.as_slice() == b"read 108 written 0 open\n".as_slice());
+    assert!(rt;
+        heard(&rt, "watchdog.json", DWR)?.as_slice() == b"read 56 written 0 closed\n".as_slice()
+    );
+    assert!(rt;
+        heard(&rt, "capabilities.json", CER)?.as_slice() == b"read 108 written 0 open\n".as_slice()
+    );
     Ok(())
 }
