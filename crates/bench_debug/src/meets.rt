@@ -2,23 +2,11 @@
 ghost use Rattle.std.specs.Prelude.{◌≡◌, min, option_map};
 ghost use Rattle.std.specs.Option.{option_map_or};
 ghost use Rattle.bench_debug.specs.Meets.{first_met, has_value, is_met_at, is_met_by, is_met_with, meets, move_with};
-ghost use Rattle.bench_item.specs.Keys.{is_same_role};
 
 use crate::debugger::SetBreakpoint;
-use bench_item::{Entry, Handled, Item, MachineItem, Moved, Role, Step};
-use bench_show::is_same_key;
+use bench_item::{Entry, Handled, Item, MachineItem, Moved, Step, is_same_key, is_same_role};
 use debug_text::Breakpoint;
 use tab_law::PLACES;
-
-/// Whether two roles are one.
-fn is_same_role(one: Role, other: Role) -> bool
-    ensures { result ≡ is_same_role one other }
-{
-    matches!(
-        (one, other),
-        (Role::Peer, Role::Peer) | (Role::Client, Role::Client) | (Role::Server, Role::Server)
-    )
-}
 
 /// Whether a register has a value.
 fn has_value(registers: &[u64; PLACES], register: usize, value: u64) -> bool

@@ -31,7 +31,7 @@ mod step;
 pub use entry::{Entry, Handled, Moved};
 pub use hears::{Heard, Hears, LineEvent, Turn};
 pub use item::{Condition, Item, LineItem, MachineItem};
-pub use key::{Key, Role};
+pub use key::{Key, Role, is_same_key, is_same_role};
 pub use limit::{
     MAX_BREAKPOINTS, MAX_DESKS, MAX_ENTRIES, MAX_LINES, MAX_MACHINES, MAX_PAGES, MAX_PEERS,
     MAX_SHARDS, MAX_WAITING, WORK_ROOM,

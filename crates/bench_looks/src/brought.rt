@@ -11,9 +11,9 @@ ghost use Rattle.bench_parts.specs.Views.{kept_in};
 ghost use Rattle.bench_spec.specs.Machines.{directory};
 
 use crate::before::{entry_before, places};
-use crate::key::{copy_key, is_same_key, taken_key};
+use crate::key::{copy_key, taken_key};
 use bench_core::Core;
-use bench_item::{Entry, Key, home};
+use bench_item::{Entry, Key, home, is_same_key};
 use bench_parts::Lent;
 use std::alloc::{AllocError, Global};
 

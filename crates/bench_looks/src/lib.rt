@@ -10,7 +10,7 @@
 //! | `stands` | whether a machine stands so |
 //! | `brought` | the machines that entries bring into a shard's directory |
 //! | `before` | the entries of a part that were stamped before |
-//! | `key` | whether two keys are of one machine |
+//! | `key` | copies of keys, and whose item an entry handled |
 #![tactic(auto)]
 
 mod before;

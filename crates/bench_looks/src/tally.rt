@@ -12,9 +12,9 @@ ghost use Rattle.bench_spec.specs.Machines.{moves_in, moves_of};
 
 use crate::before::{entry_before, places};
 use crate::counts::{add_came, worked_in};
-use crate::key::{is_same_key, taken_key};
+use crate::key::taken_key;
 use crate::told::met_after;
-use bench_item::{Entry, Handled, Item, Key, MachineItem};
+use bench_item::{Entry, Handled, Item, Key, MachineItem, is_same_key};
 use bench_parts::{KeptLook, Lent};
 use std::alloc::{AllocError, Global};
 use tab_step::MachineState;

@@ -10,9 +10,9 @@ ghost use Rattle.bench_looks.specs.Tallies.{AreMet, drops, tells, told_by};
 ghost use Rattle.bench_parts.specs.Views.{kept_in};
 
 use crate::before::{entry_before, places};
-use crate::key::{copy_key, is_same_key};
+use crate::key::copy_key;
 use base_list::Octets;
-use bench_item::{Condition, Entry, Item, MachineItem, Source, Step, home};
+use bench_item::{Condition, Entry, Item, MachineItem, Source, Step, home, is_same_key};
 use bench_parts::Lent;
 use std::alloc::{AllocError, Global};
 use tab_step::Event;

@@ -7,10 +7,9 @@ ghost use Rattle.bench_script.specs.Printed.{taken_text};
 ghost use Rattle.bench_spec.specs.Machines.{number_of};
 ghost use Rattle.bench_show.specs.History.{LastMove, MovesNone, history_text, move_in, moves, numbered_text, told_of};
 
-use crate::key::is_same_key;
 use base_text::put_number;
 use bench_core::Core;
-use bench_item::{Entry, Handled, Item, Key, Moved};
+use bench_item::{Entry, Handled, Item, Key, Moved, is_same_key};
 use bench_script::put_taken;
 use std::alloc::{AllocError, Global};
 

@@ -2,7 +2,6 @@
 //!
 //! | File | What it has |
 //! |---|---|
-//! | `key` | whether two keys are of one machine |
 //! | `history` | the moves of a machine |
 //! | `why` | the event, the row and the guards of a move |
 //! | `lines` | where connections stand |
@@ -13,7 +12,6 @@
 
 mod accounts;
 mod history;
-mod key;
 mod lines;
 mod queues;
 mod timers;
@@ -21,7 +19,6 @@ mod why;
 
 pub use accounts::put_accounts;
 pub use history::{last_move, put_history};
-pub use key::is_same_key;
 pub use lines::put_line_states;
 pub use queues::put_queues;
 pub use timers::put_timers;

@@ -15,7 +15,7 @@ returns-then-is_known c =
     let key = c.args.key.now in
     let keys = c.args.keys.now.items in
     let here : home node.shards key.name ≡ shard =
-    ap (λ n. home n key.name) (sym c.shards.ensures) ∙ sym c.home.ensures.is ∙ c.if-home-shard.false in
+    ap (λ n. home n key.name) (sym c.shards.ensures.count) ∙ sym c.home.ensures.is ∙ c.if-home-shard.false in
     let known : c.is_known.result ≡ list_any (is_key key) (directory node shard [] ++ keys) =
     c.is_known.ensures
     ∙ ap (λ s. list_any (is_key key) (directory node s [] ++ c.deref.result.now)) here
@@ -29,7 +29,7 @@ returns c =
     let key = c.args.key.now in
     let keys = c.args.keys.now.items in
     let here : home node.shards key.name ≡ shard =
-    ap (λ n. home n key.name) (sym c.shards.ensures) ∙ sym c.home.ensures.is ∙ c.if-home-shard.false in
+    ap (λ n. home n key.name) (sym c.shards.ensures.count) ∙ sym c.home.ensures.is ∙ c.if-home-shard.false in
     let known : c.is_known.result ≡ list_any (is_key key) (directory node shard [] ++ keys) =
     c.is_known.ensures
     ∙ ap (λ s. list_any (is_key key) (directory node s [] ++ c.deref.result.now)) here

@@ -32,7 +32,7 @@ returns c =
     let settings = c.args.core.now.settings in
     let over = c.loop-desk-test.false in
     let less = c.saturating_sub-desks.ensures in
-    let first = c.shards-first.ensures in
+    let first = c.shards-first.ensures.count in
     let long = length-map c.args.parts.now kept_in in
     let few : length kept ≤ settings.node.shards + 2 + c.loop-desk.desk = omega (arith, over, less, first, long) in (
       λ yes. are-right settings kept c.loop-desk.desk c.requires.some few c.loop-desk.invariant,

@@ -32,7 +32,7 @@ returns c =
     (right-decides settings c.args.desk of_shard of_desk look c.shards-shards.result c.home-shard.result told.items
     tally.came.items tally.worked handled tally.met c.is_all-all.result c.are_these-counted.result c.in_ok-so.so
     (record {
-      shards_are = c.shards-shards.ensures;
+      shards_are = c.shards-shards.ensures.count;
       shard_is = c.home-shard.ensures.is;
       told_is = c.in_ok-told.ensures;
       met_is =

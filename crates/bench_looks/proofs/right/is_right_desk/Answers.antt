@@ -15,7 +15,7 @@ returns-in-Entries c =
       λ yes.
           entries-right settings kept c.args.desk (stamped_of c.in-Entries.stamps.now c.in-Entries.log.now.entries)
           (ap kept_in (sym c.in-Entries.is) ∙ c.part_at.ensures
-          ∙ ap (λ n. kept_at kept (n + 2 + c.args.desk)) c.shards.ensures),
+          ∙ ap (λ n. kept_at kept (n + 2 + c.args.desk)) c.shards.ensures.count),
       λ right. refl,
     )
 
@@ -30,5 +30,5 @@ returns-in-Notes c =
     (λ right. subst
     (λ ks. Decides right (All (IsRightIn settings kept c.args.desk) (flat_map looks_kept ks)))
     (ap kept_in (sym c.in-Notes.is) ∙ c.part_at.ensures
-    ∙ ap (λ n. kept_at kept (n + 2 + c.args.desk)) c.shards.ensures))
+    ∙ ap (λ n. kept_at kept (n + 2 + c.args.desk)) c.shards.ensures.count))
     c.are_right_notes.ensures

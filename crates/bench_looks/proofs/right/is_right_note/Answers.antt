@@ -25,6 +25,6 @@ returns-in-Saw c =
     (λ right. look-right settings kept c.args.desk (kept_of c.args.note.now) look right of_shard of_desk
     (ap kept_of c.in-Saw.is)
     (c.part_at-of_shard.ensures ∙ ap (kept_at kept) c.home.ensures.is
-    ∙ ap (λ n. kept_at kept (home n look.key.name)) c.shards-shards.ensures)
-    (c.part_at-of_desk.ensures ∙ ap (λ n. kept_at kept (n + 2 + c.args.desk)) c.shards-shards.ensures))
+    ∙ ap (λ n. kept_at kept (home n look.key.name)) c.shards-shards.ensures.count)
+    (c.part_at-of_desk.ensures ∙ ap (λ n. kept_at kept (n + 2 + c.args.desk)) c.shards-shards.ensures.count))
     c.is_right.ensures

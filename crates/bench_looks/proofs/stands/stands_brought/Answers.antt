@@ -16,10 +16,10 @@ returns-in-None c =
     let key = c.args.look.now.key in
     let shard = c.home-shard.result in
     let keys = c.in_ok-keys.keys.items in
-    let within : shard < node.shards = subst (λ n. shard < n) c.shards.ensures c.home-shard.ensures.within in
+    let within : shard < node.shards = subst (λ n. shard < n) c.shards.ensures.count c.home-shard.ensures.within in
     let b : Brought node es key keys shard c.unwrap_or-machines.result None =
     record {
-      shard_is = c.home-shard.ensures.is ∙ ap (λ n. home n key.name) c.shards.ensures;
+      shard_is = c.home-shard.ensures.is ∙ ap (λ n. home n key.name) c.shards.ensures.count;
       machines_are = c.unwrap_or-machines.ensures ∙ ap (λ o. unwrap_or o 0) (c.machines.ensures.there within)
           ∙ ap (λ log. length (directory node shard log)) c.requires.opening;
       no_peer = c.requires.no_peer;
@@ -39,10 +39,10 @@ returns c =
     let shard = c.home-shard.result in
     let keys = c.in_ok-keys.keys.items in
     let machines = c.unwrap_or-machines.result in
-    let within : shard < node.shards = subst (λ n. shard < n) c.shards.ensures c.home-shard.ensures.within in
+    let within : shard < node.shards = subst (λ n. shard < n) c.shards.ensures.count c.home-shard.ensures.within in
     let b : Brought node es key keys shard machines (Some c.in-Some.place) =
     record {
-      shard_is = c.home-shard.ensures.is ∙ ap (λ n. home n key.name) c.shards.ensures;
+      shard_is = c.home-shard.ensures.is ∙ ap (λ n. home n key.name) c.shards.ensures.count;
       machines_are = c.unwrap_or-machines.ensures ∙ ap (λ o. unwrap_or o 0) (c.machines.ensures.there within)
           ∙ ap (λ log. length (directory node shard log)) c.requires.opening;
       no_peer = c.requires.no_peer;
