@@ -112,11 +112,20 @@ impl Core {
         &self.log
     }
 
-    /// How many shards there are.
+    /// How many shards there are: 1 to 16.
     pub fn shards(&self) -> usize
-        ensures { result ≡ self.now.settings.node.shards }
+        ensures count { result ≡ self.now.settings.node.shards }
+        ensures few { IsShardCount result }
     {
         self.shards.len()
+    }
+
+    /// How many pages the account book has: 1 at least.
+    pub fn pages(&self) -> u64
+        ensures count { result ≡ self.now.settings.pages }
+        ensures some { 0 < result }
+    {
+        self.page_count
     }
 
     /// Whether a shard is paused, if it is there.

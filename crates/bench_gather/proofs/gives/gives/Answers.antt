@@ -16,7 +16,7 @@ returns c =
     let kept = map kept_in c.args.parts.now in
     let handed = handed_over kept c.args.fed.now c.args.pages.now in
     let order = c.args.order.now in
-    let shards = c.shards-shards.ensures in
+    let shards = c.shards-shards.ensures.count in
     let desks = c.desks-desks.ensures in
     let tell : Decides c.in_ok-tell.tell (EachTells settings handed order) =
     subst

@@ -10,7 +10,7 @@ pub run_script-requires : goal.run_script-requires
 run_script-requires g c = record {
   same =
       own_same _ c.args.registries.now c.own_of-own.result.now c.shards-shards.result c.args.core.now.settings.node.shards c.args.core.now.settings.node.laws
-      c.own_of-own.ensures c.shards-shards.ensures c.requires.by;
+      c.own_of-own.ensures c.shards-shards.ensures.count c.requires.by;
 }
 
 -- the script is this line alone
