@@ -14,6 +14,8 @@ pub enum Status {
     Fault,
     /// Memory ran out.
     NoMemory,
+    /// What threads logged is no legal log together.
+    Disagreed,
 }
 
 impl Status {
@@ -29,6 +31,7 @@ impl Status {
             Status::Usage => 2,
             Status::Fault => 3,
             Status::NoMemory => 4,
+            Status::Disagreed => 5,
         }
     }
 }

@@ -139,6 +139,7 @@ IsRunFrom-ends Step told start events text statuses.NoMemory is = (λ usage. abs
 IsRunFrom-ends Step told start events text statuses.Refused is = absurd is
 IsRunFrom-ends Step told start events text statuses.Usage is = absurd is
 IsRunFrom-ends Step told start events text statuses.Fault is = absurd is
+IsRunFrom-ends Step told start events text statuses.Disagreed is = absurd is
 
 IsRunOver-ends : (Step : MachineState → Event → Stepped → Type 0) (told : Printing) (names : List (List ℕ)) (laws : Laws) (options : WalkOptions) (events text : List ℕ) (status : Status) → IsRunOver Step told names laws options events text status → Ends status
 IsRunOver-ends Step told names laws options events text status (inl refused) = IsRefused-ends _ text status refused
