@@ -5,6 +5,7 @@ use Rattle.bench_item.specs.declared.step.Step.{Step}
 use Rattle.bench_item.specs.declared.step.StepFault.{StepFault}
 use Rattle.bench_item.specs.declared.step.StepFault.TheVariants.{Full}
 use Rattle.live_desk.specs.Desks.{IsDue, LooksInVain, gone_on}
+use Rattle.live_desk.specs.Standing.{standing_of}
 use Rattle.live_desk.specs.declared.desk.Desk.{Desk}
 use Rattle.bench_node.specs.declared.tell.TheConstants.{KEPT_FREE}
 use Rattle.bench_spec.specs.Refusal.{refusal}
@@ -28,7 +29,7 @@ IsTried old new step false = (new ≡ old) × (refusal old.settings old.log old.
 -- a desk went on behind the text that was due
 pub record WentOn (old : Run) (desk : Desk) (new : Run) (desk' : Desk) : Type 0 where
   pub step : Step
-  pub due : IsDue old desk step
+  pub due : IsDue (standing_of old) desk step
   pub tried : IsTried old new step true
   pub behind : desk' ≡ gone_on desk
 
@@ -36,7 +37,7 @@ pub record WentOn (old : Run) (desk : Desk) (new : Run) (desk' : Desk) : Type 0 
 -- room
 pub record Stayed (old : Run) (desk : Desk) (new : Run) (desk' : Desk) : Type 0 where
   pub kept : new ≡ old
-  pub stayed : (desk' ≡ desk) ⊎ LooksInVain old desk desk'
+  pub stayed : (desk' ≡ desk) ⊎ LooksInVain (standing_of old) desk desk'
 
 abbrev pub Tells : Run → Desk → Run → Desk → (went_on : Bool) → Type 0
 Tells old desk new desk' true = WentOn old desk new desk'

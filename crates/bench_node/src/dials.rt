@@ -1,4 +1,5 @@
 //! The connections that are to be dialled.
+ghost use Rattle.std.specs.Prelude.{◌≡◌};
 
 use crate::node::PeerAddress;
 use bench_core::Core;
@@ -36,6 +37,18 @@ impl Dials {
             lines: Vec::new(alloc),
             given: 0,
         }
+    }
+
+    /// Where peers are.
+    pub(crate) fn into_peers(self) -> Vec<PeerAddress>
+        ensures { result ≡ self.peers }
+    {
+        let Dials {
+            peers,
+            lines,
+            given: _,
+        } = self;
+        peers
     }
 
     /// Makes room for one more.

@@ -78,6 +78,22 @@ impl LiveNode {
         })
     }
 
+    /// The bench, and where its peers are.
+    pub fn into_parts(self) -> (Core, Vec<PeerAddress>)
+        ensures core { result.0 ≡ self }
+        ensures laws { result.0.settings.node.laws ≡ all_laws }
+    {
+        let LiveNode {
+            alloc: _,
+            core,
+            room,
+            touched,
+            timers,
+            dials,
+        } = self;
+        (core, dials.into_peers())
+    }
+
     /// The bench.
     pub fn core(&self) -> &Core
         ensures { result.now ≡ self.now }

@@ -7,28 +7,30 @@ ghost use Rattle.live_desk.specs.Desks.{is_over, is_pending, is_ready, is_time, 
 ghost use Rattle.live_desk.specs.Desks.{told_now, told_of, waits, words_of};
 ghost use Rattle.live_desk.specs.Texts.{is_start};
 
+use crate::stands::Stands;
 use crate::texts::{DeskError, DeskText, is_start, text_of, told_step};
 use base_list::Octets;
 use bench_core::Core;
 use bench_item::{Key, Role, Step, StepFault};
 use std::alloc::{AllocError, Global};
+use tab_law::LawBook;
 
 /// The name of the state of a machine, if it is there.
-fn state_name<'a>(core: &'a Core, key: &Key) -> Option<&'a Octets>
-    ensures { option_copied result ≡ state_name core.now key.now }
+fn state_name<'a, S: Stands>(seen: &'a S, key: &Key) -> Option<&'a Octets>
+    ensures { option_copied result ≡ state_name (S.standing seen.now) key.now }
 {
-    let state = core.state_of(key)?;
-    core.table(key.role)
+    let state = seen.state_of(key)?;
+    seen.table(key.role)
         .states()
         .as_slice()
         .get(usize::from(state.state))
 }
 
 /// Whether a peer's machine stands where messages go through (RFC 6733 section 5.6).
-fn is_open(core: &Core, key: &Key) -> bool
-    ensures { result ≡ is_open core.now key.now }
+fn is_open<S: Stands>(seen: &S, key: &Key) -> bool
+    ensures { result ≡ is_open (S.standing seen.now) key.now }
 {
-    match state_name(core, key) {
+    match state_name(seen, key) {
         Some(name) => {
             name.as_slice() == b"I-Open".as_slice() || name.as_slice() == b"R-Open".as_slice()
         }
@@ -37,28 +39,28 @@ fn is_open(core: &Core, key: &Key) -> bool
 }
 
 /// Whether a session's machine waits for an answer (RFC 8506 section 7).
-fn is_pending(core: &Core, key: &Key) -> bool
-    ensures { result ≡ is_pending core.now key.now }
+fn is_pending<S: Stands>(seen: &S, key: &Key) -> bool
+    ensures { result ≡ is_pending (S.standing seen.now) key.now }
 {
-    match state_name(core, key) {
+    match state_name(seen, key) {
         Some(name) => name.as_slice().starts_with(b"Pending"),
         None => false,
     }
 }
 
 /// Whether the peer that a text told Start, if it did, stands open.
-fn is_ready(core: &Core, text: &DeskText) -> bool
-    ensures { result ≡ is_ready core.now text.now }
+fn is_ready<S: Stands>(seen: &S, text: &DeskText) -> bool
+    ensures { result ≡ is_ready (S.standing seen.now) text.now }
 {
     match &text.starts {
-        Some(peer) => is_open(core, peer),
+        Some(peer) => is_open(seen, peer),
         None => true,
     }
 }
 
 /// Whether the session that a desk told an event waits for an answer.
-fn waits(core: &Core, step: &Step) -> bool
-    ensures { result ≡ waits core.now step.now }
+fn waits<S: Stands>(seen: &S, step: &Step) -> bool
+    ensures { result ≡ waits (S.standing seen.now) step.now }
 {
     match step {
         Step::Told {
@@ -67,40 +69,40 @@ fn waits(core: &Core, step: &Step) -> bool
             event: _,
         } => match key.role {
             Role::Peer => false,
-            Role::Client | Role::Server => is_pending(core, key),
+            Role::Client | Role::Server => is_pending(seen, key),
         },
         _ => false,
     }
 }
 
 /// Whether the session of a text, as a desk told it in a round, waits for no answer.
-fn is_answered(
+fn is_answered<S: Stands>(
     alloc: Global,
-    core: &Core,
+    seen: &S,
     desk: u32,
     text: &DeskText,
     round: u64,
 ) -> Result<bool, AllocError>
-    ensures { IfOk result (λ is. is ≡ is_answered core.now desk round text.now) }
+    ensures { IfOk result (λ is. is ≡ is_answered (S.standing seen.now) desk round text.now) }
 {
-    match told_step(alloc, core.laws(), desk, text.words.as_slice(), round)? {
-        Some(step) => Ok(!waits(core, &step)),
+    match told_step(alloc, seen.laws(), desk, text.words.as_slice(), round)? {
+        Some(step) => Ok(!waits(seen, &step)),
         None => Ok(true),
     }
 }
 
 /// Whether those of all these texts wait for none.
-fn are_all_answered(
+fn are_all_answered<S: Stands>(
     alloc: Global,
-    core: &Core,
+    seen: &S,
     desk: u32,
     texts: &[DeskText],
     round: u64,
 ) -> Result<bool, AllocError>
-    ensures { IfOk result (λ are. are ≡ list_all (is_answered core.now desk round) texts.now) }
+    ensures { IfOk result (λ are. are ≡ list_all (is_answered (S.standing seen.now) desk round) texts.now) }
 {
     'texts: for text in texts {
-        if !is_answered(alloc, core, desk, text, round)? {
+        if !is_answered(alloc, seen, desk, text, round)? {
             return Ok(false);
         }
     }
@@ -109,7 +111,7 @@ fn are_all_answered(
 
 /// A desk: texts that it tells in order, so many rounds.
 ///
-/// In: `due`, `go_on`. Looks: `is_over`.
+/// In: `due`, `go_on`. Looks: `is_over`, `keys`.
 pub struct Desk {
     pub number: u32,
     pub texts: Vec<DeskText>,
@@ -220,21 +222,21 @@ impl Desk {
     }
 
     // Those texts.
-    fn told_now(&self) -> &[DeskText]
+    pub(crate) fn told_now(&self) -> &[DeskText]
         ensures { result.now ≡ told_now self.now }
     {
         &self.texts[..self.count()]
     }
 
     // The others, which it told in the round before, if there was one.
-    fn told_earlier(&self) -> &[DeskText]
+    pub(crate) fn told_earlier(&self) -> &[DeskText]
         ensures { result.now ≡ told_earlier self.now }
     {
         &self.texts[self.count()..]
     }
 
     // The texts that were told before the next one.
-    fn told(&self) -> &[DeskText]
+    pub(crate) fn told(&self) -> &[DeskText]
         ensures { result.now ≡ told_of self.now }
     {
         if self.round > 1 {
@@ -244,17 +246,17 @@ impl Desk {
     }
 
     // Whether each peer that was told Start stands where messages go through.
-    fn are_open(&self, core: &Core) -> bool
-        ensures { result ≡ list_all (is_ready core.now) (told_of self.now) }
+    fn are_open<S: Stands>(&self, seen: &S) -> bool
+        ensures { result ≡ list_all (is_ready (S.standing seen.now)) (told_of self.now) }
     {
-        self.told().iter().all(|text| is_ready(core, text))
+        self.told().iter().all(|text| is_ready(seen, text))
     }
 
     // Whether no session waits for an answer, of those that it told something, by each text as it was told last.
-    fn are_answered(&self, alloc: Global, core: &Core) -> Result<bool, AllocError>
-        ensures { IfOk result (λ are. are ≡ are_answered core.now self.now) }
+    fn are_answered<S: Stands>(&self, alloc: Global, seen: &S) -> Result<bool, AllocError>
+        ensures { IfOk result (λ are. are ≡ are_answered (S.standing seen.now) self.now) }
     {
-        if !are_all_answered(alloc, core, self.number, self.told_now(), self.round)? {
+        if !are_all_answered(alloc, seen, self.number, self.told_now(), self.round)? {
             return Ok(false);
         }
         if self.round <= 1 {
@@ -262,7 +264,7 @@ impl Desk {
         }
         are_all_answered(
             alloc,
-            core,
+            seen,
             self.number,
             self.told_earlier(),
             self.round - 1,
@@ -270,19 +272,24 @@ impl Desk {
     }
 
     // Whether the time of a peer's event has come.
-    fn is_peers_time(&self, alloc: Global, core: &Core, kind: u8) -> Result<bool, AllocError>
-        ensures { IfOk result (λ is. is ≡ (is_start core.now.settings.node.laws kind
-            || are_answered core.now self.now)) }
+    fn is_peers_time<S: Stands>(
+        &self,
+        alloc: Global,
+        seen: &S,
+        kind: u8,
+    ) -> Result<bool, AllocError>
+        ensures { IfOk result (λ is. is ≡ (is_start (S.standing seen.now).settings.node.laws kind
+            || are_answered (S.standing seen.now) self.now)) }
     {
-        if is_start(core.laws(), kind) {
+        if is_start(seen.laws(), kind) {
             return Ok(true);
         }
-        self.are_answered(alloc, core)
+        self.are_answered(alloc, seen)
     }
 
     // Whether the time of what is told next has come.
-    fn is_time(&self, alloc: Global, core: &Core, step: &Step) -> Result<bool, AllocError>
-        ensures { IfOk result (λ is. is ≡ is_time core.now self.now step.now) }
+    fn is_time<S: Stands>(&self, alloc: Global, seen: &S, step: &Step) -> Result<bool, AllocError>
+        ensures { IfOk result (λ is. is ≡ is_time (S.standing seen.now) self.now step.now) }
     {
         match step {
             Step::Told {
@@ -290,57 +297,52 @@ impl Desk {
                 key,
                 event,
             } => match key.role {
-                Role::Peer => self.is_peers_time(alloc, core, event.kind),
-                Role::Client | Role::Server => Ok(self.are_open(core) && !is_pending(core, key)),
+                Role::Peer => self.is_peers_time(alloc, seen, event.kind),
+                Role::Client | Role::Server => Ok(self.are_open(seen) && !is_pending(seen, key)),
             },
             _ => Ok(true),
         }
     }
 
     // Whether it is too early for that, and the desk still patient.
-    fn is_early(&self, alloc: Global, core: &Core, step: &Step) -> Result<bool, AllocError>
+    fn is_early<S: Stands>(&self, alloc: Global, seen: &S, step: &Step) -> Result<bool, AllocError>
         ensures early { IfOk result (λ is. is ≡ (nat_lt self.now.looks self.now.patience
-            && not (is_time core.now self.now step.now))) }
+            && not (is_time (S.standing seen.now) self.now step.now))) }
         ensures bound { IfOk result (λ is. IsTrue is → self.now.looks + 1 < 2 ^ 64) }
     {
         if self.looks >= self.patience {
             return Ok(false);
         }
-        Ok(!self.is_time(alloc, core, step)?)
+        Ok(!self.is_time(alloc, seen, step)?)
     }
 
     // What is told next, if something is.
-    fn next(&self, alloc: Global, core: &Core) -> Result<Option<Step>, AllocError>
-        ensures { IfOk result (λ step. step ≡ next_step core.now.settings.node.laws self.now) }
+    pub(crate) fn next(&self, alloc: Global, laws: &LawBook) -> Result<Option<Step>, AllocError>
+        ensures { IfOk result (λ step. step ≡ next_step laws.now self.now) }
     {
         if self.is_over() {
             return Ok(None);
         }
         match self.texts.get(self.place) {
-            Some(text) => told_step(
-                alloc,
-                core.laws(),
-                self.number,
-                text.words.as_slice(),
-                self.round,
-            ),
+            Some(text) => told_step(alloc, laws, self.number, text.words.as_slice(), self.round),
             None => Ok(None),
         }
     }
 
     /// What is told next, where its time has come, or it was looked for so often in vain as the desk is patient.
     /// It stays the next until `go_on`.
-    pub fn due(&mut self, alloc: Global, core: &Core) -> Result<Option<Step>, AllocError>
-        ensures due { IfOk result (λ step. IfSome step (λ s. IsDue core.now self.old s)) }
-        ensures kept { OnOk result (self.new ≡ self.old ⊎ LooksInVain core.now self.old self.new) }
+    pub fn due<S: Stands>(&mut self, alloc: Global, seen: &S) -> Result<Option<Step>, AllocError>
+        ensures due { IfOk result (λ step. IfSome step (λ s. IsDue (S.standing seen.now) self.old s)) }
+        ensures kept { OnOk result (self.new ≡ self.old ⊎ LooksInVain (S.standing seen.now) self.old self.new) }
         ensures none { IfOk result (λ step. step ≡ None
-            → next_step core.now.settings.node.laws self.old ≡ None ⊎ LooksInVain core.now self.old self.new) }
+            → next_step (S.standing seen.now).settings.node.laws self.old ≡ None
+            ⊎ LooksInVain (S.standing seen.now) self.old self.new) }
         ensures err { OnErr result (self.new ≡ self.old) }
     {
-        let Some(step) = self.next(alloc, core)? else {
+        let Some(step) = self.next(alloc, seen.laws())? else {
             return Ok(None);
         };
-        if self.is_early(alloc, core, &step)? {
+        if self.is_early(alloc, seen, &step)? {
             self.looks += 1;
             return Ok(None);
         }

@@ -2,12 +2,17 @@
 //!
 //! | File | What it has |
 //! |---|---|
+//! | `stands` | what a desk sees of a bench |
 //! | `texts` | what a text tells, read |
 //! | `desk` | which text is the next, and whether its time has come |
+//! | `keys` | by which machines that is known |
 #![tactic(auto)]
 
 mod desk;
+mod keys;
+mod stands;
 mod texts;
 
 pub use desk::Desk;
+pub use stands::Stands;
 pub use texts::{DeskError, DeskText};

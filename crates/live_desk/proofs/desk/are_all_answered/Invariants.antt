@@ -5,4 +5,4 @@ use Rattle.live_desk.proofs.desk.are_all_answered.Given as goal
 
 -- those so far wait for none
 abbrev pub invariant-texts : goal.invariant-texts
-invariant-texts l = list_all (is_answered l.core l.desk l.round) (take l.text-index l.texts) ≡ true
+invariant-texts g l = list_all (is_answered (g.S.Stands.standing l.seen) l.desk l.round) (take l.text-index l.texts) ≡ true
