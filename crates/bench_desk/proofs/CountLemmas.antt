@@ -93,3 +93,17 @@ counted_by tables v sources log desk k =
           ∙ ap (λ n. count_by p (take (length sources - n) sources)) (sym waits);
       all = counted p came ∙ ap (count_by p) (sym k.sources_are);
     }
+
+-- how many of the items of a desk wait
+pub still_waiting : (tables : Tables) (v : ShardView) (sources : List Source) (log : List Entry) (desk worked : ℕ) → IsKept tables v sources log
+    → worked ≡ length sources - length (items_in v.inbox)
+    → count_by (is_same_source (Desk desk)) (drop worked sources)
+    ≡ length (filter (λ p. is_same_source (Desk desk) p.0) (arrivals (node_of tables.laws v.peers) log v.number))
+    - length (handled_of (node_of tables.laws v.peers) log v.number desk)
+still_waiting tables v sources log desk worked kept worked_is =
+    let p = is_same_source (Desk desk) in
+    let k = counted_by tables v sources log desk kept in
+    let first = k.first ∙ ap (λ n. count_by p (take n sources)) (sym worked_is) in
+    let all = k.all in
+    let both = both_counts p sources worked in
+    omega (arith, first, all, both)

@@ -1,6 +1,6 @@
 //! A shard with the stamped entries of what was done to it.
 ghost use Rattle.std.specs.Prelude.{◌≡◌, ◌<◌, ◌+◌, ◌^◌, [], IfOk, IfErr, OnOk, OnErr, count_by};
-ghost use Rattle.std.specs.Prelude.{length, vec_len, vec_capacity};
+ghost use Rattle.std.specs.Prelude.{length, nat_lt, vec_len, vec_capacity};
 ghost use Rattle.std.specs.Arc.{arc_value};
 ghost use Rattle.bench_item.specs.Keys.{home};
 ghost use Rattle.bench_item.specs.Steps.{is_same_source};
@@ -23,7 +23,7 @@ use std::sync::Arc;
 /// what was dropped at it. Each entry has the stamp that was drawn for it. A contract sees the tables, the
 /// shard and the stamped entries.
 ///
-/// In: `arrive`. Looks: `shard`, `roles`, `counts`, `is_full`, `len`, `stamp`, `entry`.
+/// In: `arrive`. Looks: `shard`, `roles`, `counts`, `has_waiting`, `is_full`, `len`, `stamp`, `entry`.
 pub struct ShardPart {
     pub(crate) alloc: Global,
     pub(crate) roles: Arc<Roles, Global>,
@@ -182,6 +182,14 @@ impl ShardPart {
         let handled = count_of(&self.sources[..worked], desk);
         let waiting = count_of(&self.sources[worked..], desk);
         (waiting as u64, handled as u64)
+    }
+
+    /// Whether an item of a desk waits there. Takes no memory.
+    pub fn has_waiting(&self, desk: u32) -> bool
+        ensures { result ≡ nat_lt 0 (waiting_from self.now desk) }
+    {
+        let worked = self.sources.len().saturating_sub(self.shard.waiting());
+        count_of(&self.sources[worked..], desk) > 0
     }
 
     /// An item comes from a source, behind the others: a Drop, with the stamp that was drawn for it.

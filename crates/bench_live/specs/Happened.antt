@@ -2,7 +2,7 @@
 use Rattle.std.specs.Prelude.{◌≡◌, ℕ, Bool, true, false, None, Some}
 use Rattle.bench_item.specs.declared.source.Source.TheVariants.{Line}
 use Rattle.bench_item.specs.declared.step.Step.{Step}
-use Rattle.bench_item.specs.declared.step.Step.TheVariants.{Joined, Dialled, Came, Lost, Lift}
+use Rattle.bench_item.specs.declared.step.Step.TheVariants.{Dialled, Came, Lost, Lift}
 use Rattle.bench_line.specs.Lines.{next_on}
 use Rattle.live_parts.specs.Entries.{bare_entry, carried_entry}
 use Rattle.live_parts.specs.LineParts.{IsAdded, LinesPartView, lift_refusal}
@@ -10,7 +10,6 @@ use Rattle.live_slot.specs.declared.hand.Hand.{Hand}
 
 -- whether a step is something that happens to a connection
 abbrev pub happens : Step → Bool
-happens Joined = true
 happens (Dialled line) = true
 happens (Came line piece) = true
 happens (Lost line) = true

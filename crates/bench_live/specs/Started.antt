@@ -15,6 +15,12 @@ desk_at_start shards number = record { number = number; shards = shards; kept = 
 abbrev pub desks_at_start : ℕ → ℕ → List DeskView
 desks_at_start count shards = map (desk_at_start shards) (range_with_len 0 count)
 
+-- how many desks, shards and pages a bench has
+pub record Counts : Type 0 where
+  pub desks : ℕ
+  pub shards : ℕ
+  pub pages : ℕ
+
 -- memory was refused, or a thread could not be made
 abbrev pub IsThreadFault : StartFault → Type 0
 IsThreadFault (faults.Opening error) = error ≡ errors.NoMemory

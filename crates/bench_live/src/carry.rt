@@ -113,39 +113,45 @@ impl Shared {
         disarm_under(&mut clock.part, &self.stamps, source, machine)
     }
 
-    // Drops what is for no machine, where it is for. Its plain form is small, but for a deed's.
-    fn drop_elsewhere<R: Wait>(&self, rt: &R, source: Source, hand: &Hand) -> Turn
+    // Drops what is for no machine, where it is for, and says whether that is the connections. Its plain form is small,
+    // but for a deed's.
+    fn drop_elsewhere<R: Wait>(&self, rt: &R, source: Source, hand: &Hand) -> (Turn, bool)
         requires { event_in hand.now.item ≡ None }
+        ensures { result.0 ≡ Turn.Done → result.1 ≡ is_for_lines hand.now.item }
     {
         let Ok(plain) = hand.item.show(self.alloc) else {
-            return Turn::NoMemory;
+            return (Turn::NoMemory, false);
         };
         match plain {
             Item::ToMachine(_) => unreachable!(),
             Item::ToLine(_) | Item::Dial { .. } | Item::Undial { .. } => {
-                self.drop_at_lines(rt, source, &hand.item)
+                (self.drop_at_lines(rt, source, &hand.item), true)
             }
             Item::Arm {
                 machine,
                 generation,
                 ticks,
-            } => self.arm(rt, source, machine, generation, ticks, &hand.key),
-            Item::Disarm { machine } => self.disarm(rt, source, machine),
+            } => {
+                let turn = self.arm(rt, source, machine, generation, ticks, &hand.key);
+                (turn, false)
+            }
+            Item::Disarm { machine } => (self.disarm(rt, source, machine), false),
         }
     }
 
-    /// Drops what a source has lifted, where it is for. One whose machine was not looked up for want of memory is not
-    /// dropped yet.
-    pub(crate) fn drop_item<R: Wait>(&self, rt: &R, source: Source, hand: &Hand) -> Turn
-        ensures { hand.now.is_named ≡ false → result ≡ Turn.NoMemory }
+    /// Drops what a source has lifted, where it is for, and says whether that is the connections. One whose machine was
+    /// not looked up for want of memory is not dropped yet.
+    pub(crate) fn drop_item<R: Wait>(&self, rt: &R, source: Source, hand: &Hand) -> (Turn, bool)
+        ensures unnamed { hand.now.is_named ≡ false → result.0 ≡ Turn.NoMemory }
+        ensures at_lines { result.0 ≡ Turn.Done → result.1 ≡ is_for_lines hand.now.item }
     {
         if !hand.is_named {
-            return Turn::NoMemory;
+            return (Turn::NoMemory, false);
         }
         match hand.item.event() {
-            Some(event) => self.arrive(rt, source, event),
+            Some(event) => (self.arrive(rt, source, event), false),
             None => match hand.item.deed() {
-                Some(_deed) => self.drop_at_lines(rt, source, &hand.item),
+                Some(_deed) => (self.drop_at_lines(rt, source, &hand.item), true),
                 None => self.drop_elsewhere(rt, source, hand),
             },
         }

@@ -1,5 +1,7 @@
 //! A step of a connection is taken.
-ghost use Rattle.std.specs.Prelude.{◌≡◌, ◌≤◌, Err, IfOk, IsSome, None, OnErr, OnOk, false, length, true};
+ghost use Rattle.std.specs.Prelude.{◌≡◌, ◌<◌, ◌≤◌, Err, IfOk, IsSome, None, OnErr, OnOk, false, length, true};
+ghost use Rattle.bench_item.specs.declared.limit.TheConstants.{MAX_LINES};
+ghost use Rattle.bench_item.specs.declared.step.Step.TheVariants as steps;
 ghost use Rattle.bench_spec.specs.Merged.{is_fed};
 ghost use Rattle.bench_live.specs.Happened.{HasHappened, HasLifted, happens};
 
@@ -11,8 +13,16 @@ use std::alloc::AllocError;
 use std::sync::Wait;
 use std::sync::atomic::AtomicU64;
 
-/// Something happens to a connection, or one is accepted, under the lock of the connections, with a stamp that is drawn
-/// now.
+/// A connection is accepted, under the lock of the connections, with a stamp that is drawn now. Answers its number.
+fn join_under(lines: &mut LinesPart, stamps: &AtomicU64) -> Result<u64, StepFault>
+    ensures number { IfOk result (λ line. (0 < line) × (line ≤ MAX_LINES)) }
+    ensures ok { OnOk result (HasHappened lines.old lines.new steps.Joined) }
+    ensures err { OnErr result (lines.new ≡ lines.old) }
+{
+    lines.joined(draw(stamps))
+}
+
+/// Something happens to a connection, under the lock of the connections, with a stamp that is drawn now.
 fn happen_under(lines: &mut LinesPart, stamps: &AtomicU64, step: &Step) -> Result<(), StepFault>
     ensures ok { OnOk result (HasHappened lines.old lines.new step.now) }
     ensures other { happens step.now ≡ false → result ≡ Err StepFault.Unknown }
@@ -20,16 +30,15 @@ fn happen_under(lines: &mut LinesPart, stamps: &AtomicU64, step: &Step) -> Resul
 {
     let stamp = draw(stamps);
     match step {
-        Step::Joined => {
-            lines.joined(stamp)?;
-            Ok(())
-        }
         Step::Dialled(line) => lines.dialled(*line, stamp),
         Step::Came { line, piece } => lines.came(*line, piece.as_slice(), stamp),
         Step::Lost(line) => lines.lost(*line, stamp),
-        Step::Told { .. } | Step::Fired { .. } | Step::Lift(_) | Step::Drop(_) | Step::Work(_) => {
-            Err(StepFault::Unknown)
-        }
+        Step::Joined
+        | Step::Told { .. }
+        | Step::Fired { .. }
+        | Step::Lift(_)
+        | Step::Drop(_)
+        | Step::Work(_) => Err(StepFault::Unknown),
     }
 }
 
@@ -57,7 +66,9 @@ fn make_hand(hands: &mut Vec<Option<Hand>>, place: usize) -> Result<(), AllocErr
 
 impl Shared {
     /// Where a connection stands, if there is one of that number.
-    pub fn state<R: Wait>(&self, rt: &R, line: u64) -> Option<LineState> {
+    pub fn state<R: Wait>(&self, rt: &R, line: u64) -> Option<LineState>
+        ensures { line ≡ 0 → result ≡ None }
+    {
         let lines = self.lines.lock(rt);
         lines.lines().state(line)
     }
@@ -77,7 +88,15 @@ impl Shared {
         lines.lines().unsent(line, from, out)
     }
 
-    // Something happens to a connection, or one is accepted.
+    /// A connection is accepted. Answers its number.
+    pub(crate) fn joined<R: Wait>(&self, rt: &R) -> Result<u64, StepFault>
+        ensures { IfOk result (λ line. (0 < line) × (line ≤ MAX_LINES)) }
+    {
+        let mut lines = self.lines.lock(rt);
+        join_under(&mut lines, &self.stamps)
+    }
+
+    // Something happens to a connection.
     fn happen<R: Wait>(&self, rt: &R, step: &Step) -> Result<(), StepFault> {
         let mut lines = self.lines.lock(rt);
         happen_under(&mut lines, &self.stamps, step)
@@ -106,7 +125,7 @@ impl Shared {
     {
         let turn = match hand {
             None => return Err(StepFault::Nothing),
-            Some(own) => self.drop_item(rt, Source::Line(line), own),
+            Some(own) => self.drop_item(rt, Source::Line(line), own).0,
         };
         match turn {
             Turn::Done => {
@@ -154,9 +173,11 @@ impl Shared {
         ensures other { is_fed step.now ≡ false → result ≡ Err StepFault.Unknown }
     {
         match step {
-            Step::Joined | Step::Dialled(_) | Step::Came { .. } | Step::Lost(_) => {
-                self.happen(rt, step)
+            Step::Joined => {
+                self.joined(rt)?;
+                Ok(())
             }
+            Step::Dialled(_) | Step::Came { .. } | Step::Lost(_) => self.happen(rt, step),
             Step::Lift(Source::Line(line)) => self.carry(rt, hands, *line, true),
             Step::Drop(Source::Line(line)) => self.carry(rt, hands, *line, false),
             _ => Err(StepFault::Unknown),

@@ -1,5 +1,7 @@
 //! Steps of connections are fed.
-ghost use Rattle.std.specs.Prelude.{◌≡◌, ◌∷◌, ◌++◌, [], Err, OnErr, OnOk, false, true};
+ghost use Rattle.std.specs.Prelude.{◌≡◌, ◌<◌, ◌≤◌, ◌∷◌, ◌++◌, [], Err, IfOk, OnErr, OnOk, false, true};
+ghost use Rattle.bench_item.specs.declared.limit.TheConstants.{MAX_LINES};
+ghost use Rattle.bench_item.specs.declared.step.Step.TheVariants as steps;
 ghost use Rattle.bench_spec.specs.Merged.{is_fed};
 
 use crate::live::Live;
@@ -27,6 +29,7 @@ impl Live {
         ensures fed { OnOk result (is_fed step ≡ true) }
         ensures other { is_fed step ≡ false → result ≡ Err StepFault.Unknown }
         ensures err { OnErr result (self.new.fed.items ≡ self.old.fed.items) }
+        ensures same { (self.new.shared ≡ self.old.shared) × (self.new.desks ≡ self.old.desks) }
     {
         if !is_fed(&step) {
             return Err(StepFault::Unknown);
@@ -37,5 +40,20 @@ impl Live {
         self.shared.take(rt, &mut self.hands, &step)?;
         self.fed.push(step).unwrap();
         Ok(())
+    }
+
+    /// A connection is accepted, as by `feed`; its step is kept behind the others. Answers its number.
+    pub fn joined<R: Wait>(&mut self, rt: &R) -> Result<u64, StepFault>
+        ensures number { IfOk result (λ line. (0 < line) × (line ≤ MAX_LINES)) }
+        ensures ok { OnOk result (self.new.fed.items ≡ self.old.fed.items ++ steps.Joined ∷ []) }
+        ensures err { OnErr result (self.new.fed.items ≡ self.old.fed.items) }
+        ensures same { (self.new.shared ≡ self.old.shared) × (self.new.desks ≡ self.old.desks) }
+    {
+        if self.fed.reserve(1).is_err() {
+            return Err(StepFault::NoMemory);
+        }
+        let line = self.shared.joined(rt)?;
+        self.fed.push(Step::Joined).unwrap();
+        Ok(line)
     }
 }

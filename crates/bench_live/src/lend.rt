@@ -4,9 +4,10 @@ ghost use Rattle.std.specs.List.{range_with_len};
 ghost use Rattle.bench_parts.specs.Views.{kept_in};
 ghost use Rattle.bench_live.specs.Ended.{kept_by, kept_of_shard, parts_kept};
 
-use crate::parts::Parts;
+use crate::parts::{Logged, Parts};
 use bench_desk::{Desk, ShardPart};
 use bench_parts::Lent;
+use live_parts::{ClockPart, LinesPart};
 use std::alloc::{AllocError, Global};
 
 /// The entries of shards.
@@ -41,6 +42,34 @@ fn lend_desks<'a>(lent: &mut Vec<Lent<'a>>, desks: &'a [Desk]) -> Result<(), All
     Ok(())
 }
 
+/// All parts, lent to who gathers them: the shards, by their numbers, the connections, the timers, and the desks, by
+/// their numbers.
+fn lend<'a>(
+    alloc: Global,
+    shards: &'a [ShardPart],
+    lines: &'a LinesPart,
+    clock: &'a ClockPart,
+    desks: &'a [Desk],
+) -> Result<Vec<Lent<'a>>, AllocError>
+    ensures { IfOk result (λ lent. map kept_in lent.items ≡ parts_kept shards.now lines.now clock.now desks.now) }
+{
+    let mut lent = lend_shards(alloc, shards)?;
+    lent.push(lines.lent())?;
+    lent.push(clock.lent())?;
+    lend_desks(&mut lent, desks)?;
+    Ok(lent)
+}
+
+impl Logged {
+    /// All parts, lent to who gathers them, as those of `Parts`.
+    pub fn lent(&self, alloc: Global) -> Result<Vec<Lent<'_>>, AllocError>
+        ensures { IfOk result (λ lent. map kept_in lent.items
+            ≡ parts_kept self.now.shards.items self.now.lines self.now.clock self.now.desks.items) }
+    {
+        lend(alloc, &self.shards, &self.lines, &self.clock, &self.desks)
+    }
+}
+
 impl Parts {
     /// All parts, lent to who gathers them: the shards, by their numbers, the connections, the timers, and the desks,
     /// by their numbers.
@@ -48,10 +77,6 @@ impl Parts {
         ensures { IfOk result (λ lent. map kept_in lent.items
             ≡ parts_kept self.now.shards.items self.now.lines self.now.clock self.now.desks.items) }
     {
-        let mut lent = lend_shards(alloc, &self.shards)?;
-        lent.push(self.lines.lent())?;
-        lent.push(self.clock.lent())?;
-        lend_desks(&mut lent, &self.desks)?;
-        Ok(lent)
+        lend(alloc, &self.shards, &self.lines, &self.clock, &self.desks)
     }
 }

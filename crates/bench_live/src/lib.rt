@@ -24,6 +24,8 @@
 //! | `desk` | a desk of a running bench tells and looks |
 //! | `start` | the bench is started |
 //! | `feed` | steps of connections are fed |
+//! | `peek` | what is looked at, of which nothing is kept |
+//! | `in_threads` | the calls of a bench that was started as a trait |
 //! | `live` | the bench: looked at, paused, ended |
 //! | `parts`, `lend` | what it hands over at its end, and lends to who gathers it |
 //! | `fault` | why it is not started, and why it is not ended |
@@ -35,9 +37,11 @@ mod desk;
 mod fault;
 mod fed;
 mod feed;
+mod in_threads;
 mod lend;
 mod live;
 mod parts;
+mod peek;
 mod point;
 mod shared;
 mod slot;
@@ -48,6 +52,7 @@ mod worker;
 
 pub use desk::LiveDesk;
 pub use fault::{EndFault, NotEnded, StartFault};
+pub use in_threads::InThreads;
 pub use live::Live;
-pub use parts::Parts;
+pub use parts::{Logged, Parts};
 pub use point::{Gate, Open, Point};

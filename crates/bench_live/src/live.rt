@@ -18,7 +18,7 @@ use std::time::{Clock, Duration};
 
 /// A running bench: its threads, and what belongs to whoever feeds connections.
 ///
-/// In: `feed`, `pause`, `resume`, `end`. Looks: `line`, `lines`, `unsent`.
+/// In: `feed`, `joined`, `pause`, `resume`, `end`. Looks: `line`, `lines`, `unsent`.
 pub struct Live {
     pub(crate) alloc: Global,
     pub(crate) shared: Arc<Shared, Global>,
@@ -69,7 +69,9 @@ fn missing(count: u32, desks: &[LiveDesk]) -> Option<u32>
 
 impl Live {
     /// Where a connection stands, if there is one of that number.
-    pub fn line<R: Wait>(&self, rt: &R, line: u64) -> Option<LineState> {
+    pub fn line<R: Wait>(&self, rt: &R, line: u64) -> Option<LineState>
+        ensures { line ≡ 0 → result ≡ None }
+    {
         self.shared.state(rt, line)
     }
 

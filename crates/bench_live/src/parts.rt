@@ -37,6 +37,59 @@ impl Drop for Parts {
     }
 }
 
+/// What threads logged, and the pages: what is handed over, but for the callbacks.
+pub struct Logged {
+    pub shards: Vec<ShardPart>,
+    pub pages: Vec<Page>,
+    pub lines: LinesPart,
+    pub clock: ClockPart,
+    pub desks: Vec<Desk>,
+    pub fed: Vec<Step>,
+}
+
+impl Drop for Logged {
+    fn drop(self) {
+        let Logged {
+            shards,
+            pages,
+            lines,
+            clock,
+            desks,
+            fed,
+        } = self;
+    }
+}
+
+impl Parts {
+    /// The same without the callbacks.
+    pub fn into_logged(self) -> Logged
+        ensures shards { result.shards.items ≡ self.shards.items }
+        ensures pages { result.pages.items ≡ self.pages.items }
+        ensures lines { result.lines ≡ self.lines }
+        ensures clock { result.clock ≡ self.clock }
+        ensures desks { result.desks.items ≡ self.desks.items }
+        ensures fed { result.fed.items ≡ self.fed.items }
+    {
+        let Parts {
+            shards,
+            registries,
+            pages,
+            lines,
+            clock,
+            desks,
+            fed,
+        } = self;
+        Logged {
+            shards,
+            pages,
+            lines,
+            clock,
+            desks,
+            fed,
+        }
+    }
+}
+
 /// Room for what is handed over.
 pub(crate) struct Room {
     pub(crate) shards: Vec<ShardPart>,

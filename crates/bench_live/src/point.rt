@@ -7,6 +7,8 @@ pub enum Point {
     BeforeWork(u32),
     /// It handled an item; it holds its shard's lock, and no page's.
     AfterWork(u32),
+    /// It dropped an item at the connections; it holds no lock.
+    Sent(u32),
 }
 
 /// What a worker passes where it stands at a point: a test can hold it there.

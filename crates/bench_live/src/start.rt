@@ -186,6 +186,7 @@ fn start_opened<
         ≡ desks_at_start opened.desks (vec_len opened.shards)) }
     ensures count { IfOk result (λ r. r.0.desks ≡ opened.desks) }
     ensures shards { IfOk result (λ r. vec_len (arc_value r.0.shared).shards ≡ vec_len opened.shards) }
+    ensures pages { IfOk result (λ r. (arc_value r.0.shared).pages ≡ vec_len opened.pages) }
     ensures fed { IfOk result (λ r. r.0.fed.items ≡ []) }
     ensures fault { IfErr result IsThreadFault }
 {
@@ -227,8 +228,10 @@ impl Live {
         ensures could { IfOk result (λ r.
             opening_refusal (config_of config (map (λ r. r.book) registries.items)) ≡ None) }
         ensures desks { IfOk result (λ r. map (λ d. d.desk) r.1.items ≡ desks_at_start config.desks config.shards) }
+        ensures each { IfOk result (λ r. vec_len r.1 ≡ config.desks) }
         ensures count { IfOk result (λ r. r.0.desks ≡ config.desks) }
         ensures shards { IfOk result (λ r. vec_len (arc_value r.0.shared).shards ≡ config.shards) }
+        ensures pages { IfOk result (λ r. (arc_value r.0.shared).pages ≡ config.pages) }
         ensures fed { IfOk result (λ r. r.0.fed.items ≡ []) }
         ensures fault { IfErr result (IsStartFault (config_of config (map (λ r. r.book) registries.items))) }
     {

@@ -72,7 +72,7 @@ fn carry<R: Wait>(
         let Some(own) = lifted else {
             return (None, turn);
         };
-        let dropped = shared.drop_item(rt, Source::Clock, &own);
+        let (dropped, _at_lines) = shared.drop_item(rt, Source::Clock, &own);
         if dropped != Turn::Done {
             return (Some(own), dropped);
         }

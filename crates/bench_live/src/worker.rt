@@ -90,10 +90,11 @@ fn next_under(slot: &mut Slot, held: Option<Hand>, stamps: &AtomicU64) -> (Optio
 }
 
 /// Carries what a shard put out where it is for, until nothing is left or an item finds no room, which stays in the
-/// hand.
-fn carry<R: Wait>(
+/// hand. Passes the gate behind each item that it dropped at the connections, while it holds no lock.
+fn carry<R: Wait, G: Gate>(
     rt: &R,
     shared: &Shared,
+    gate: &G,
     shard: &ShardLock,
     number: u32,
     held: Option<Hand>,
@@ -104,9 +105,12 @@ fn carry<R: Wait>(
         let Some(own) = lifted else {
             return (None, turn);
         };
-        let dropped = shared.drop_item(rt, Source::Shard(number), &own);
+        let (dropped, at_lines) = shared.drop_item(rt, Source::Shard(number), &own);
         if dropped != Turn::Done {
             return (Some(own), dropped);
+        }
+        if at_lines {
+            gate.pass(Point::Sent(number));
         }
         hand = None;
     }
@@ -161,7 +165,7 @@ pub fn run_worker<R: Wait + Clock, G: Gate>(rt: &R, shared: &Shared, gate: &G, n
     };
     let mut hand = None;
     for _ in rt.forever() {
-        let (held, carried) = carry(rt, shared, shard, number, hand);
+        let (held, carried) = carry(rt, shared, gate, shard, number, hand);
         let worked = work(rt, shared, gate, shard, number);
         let refused = carried == Turn::NoMemory || worked == Turn::NoMemory;
         rest(rt, refused);

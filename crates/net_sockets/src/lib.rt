@@ -8,4 +8,4 @@ mod socket;
 mod sockets;
 
 pub use node::{Dial, Node, OnLine};
-pub use sockets::{Sockets, SocketsFault};
+pub use sockets::{Bare, Sockets, SocketsFault};

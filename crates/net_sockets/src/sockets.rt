@@ -1,12 +1,13 @@
 //! All sockets of a bench, and their event loop.
 
+ghost use Rattle.std.specs.Prelude.{◌≡◌, IfOk};
 ghost use Rattle.slab.specs.Slab.{HasRoomFor};
 
 use crate::node::{Node, OnLine};
 use crate::serve::serve;
 use crate::socket::{Socket, Stand};
 use mio::net::{TcpListener, TcpStream};
-use mio::{Events, Interest, Poll, Token};
+use mio::{Events, Interest, Poll, Token, Waker};
 use slab::Slab;
 use std::alloc::{AllocError, Global};
 use std::io;
@@ -23,6 +24,9 @@ const OPENINGS: u32 = 1_024;
 
 /// The listening socket's name in events; the other sockets are named by their places.
 const LISTENER: Token = Token(usize::MAX);
+
+/// The waker's name in events. No socket stands at such a place, so its event wakes none: it ends a wait, and no more.
+const WAKER: Token = Token(usize::MAX - 1);
 
 /// Why the loop can't go on.
 #[derive(Clone, Copy, Debug, PartialEq, Eq, Error)]
@@ -57,6 +61,75 @@ pub struct Sockets<N> {
     sockets: Slab<Socket>,
 }
 
+/// Sockets without the bench behind them. Until there is one again, nothing is read, written or accepted.
+#[derive(Drop)]
+pub struct Bare {
+    poll: Poll,
+    events: Events,
+    listener: Option<TcpListener>,
+    is_accepting: bool,
+    sockets: Slab<Socket>,
+}
+
+impl Bare {
+    /// What ends the wait of a turn from another thread; a call while none waits ends the next wait.
+    pub fn waker(&self) -> Result<Waker, SocketsFault> {
+        Ok(Waker::new(self.poll.registry(), WAKER)?)
+    }
+
+    /// That bench stands behind them. Its lines are to have the numbers that those of the bench before have.
+    pub fn with<N>(self, node: N) -> Sockets<N>
+        ensures node { result.port.node ≡ node }
+        ensures poll { (result.poll ≡ self.poll) × (result.events ≡ self.events) }
+        ensures listener { (result.listener ≡ self.listener) × (result.is_accepting ≡ self.is_accepting) }
+        ensures sockets { result.sockets ≡ self.sockets }
+    {
+        let Bare {
+            poll,
+            events,
+            listener,
+            is_accepting,
+            sockets,
+        } = self;
+        Sockets {
+            port: OnLine { node, line: 0 },
+            poll,
+            events,
+            listener,
+            is_accepting,
+            sockets,
+        }
+    }
+}
+
+impl<N> Sockets<N> {
+    /// The bench behind the sockets, and these without it.
+    pub fn apart(self) -> (N, Bare)
+        ensures node { result.0 ≡ self.port.node }
+        ensures poll { (result.1.poll ≡ self.poll) × (result.1.events ≡ self.events) }
+        ensures listener { (result.1.listener ≡ self.listener) × (result.1.is_accepting ≡ self.is_accepting) }
+        ensures sockets { result.1.sockets ≡ self.sockets }
+    {
+        let Sockets {
+            port,
+            poll,
+            events,
+            listener,
+            is_accepting,
+            sockets,
+        } = self;
+        let OnLine { node, line: _ } = port;
+        let bare = Bare {
+            poll,
+            events,
+            listener,
+            is_accepting,
+            sockets,
+        };
+        (node, bare)
+    }
+}
+
 impl<N: Node> Sockets<N> {
     /// No sockets but the one that listens at that address, where one is given.
     pub fn new<R: Net>(
@@ -67,6 +140,7 @@ impl<N: Node> Sockets<N> {
     ) -> Result<Sockets<N>, SocketsFault>
     where
         N: Drop,
+        ensures { IfOk result (λ sockets. sockets.port.node ≡ node) }
     {
         let poll = Poll::new(rt)?;
         let listener = listen(rt, &poll, address)?;
@@ -81,7 +155,9 @@ impl<N: Node> Sockets<N> {
     }
 
     /// The bench behind the sockets.
-    pub fn node(&self) -> &N {
+    pub fn node(&self) -> &N
+        ensures { result.now ≡ self.now.port.node }
+    {
         &self.port.node
     }
 

@@ -3,4 +3,4 @@
 
 mod port;
 
-pub use port::NodePort;
+pub use port::{NodePort, number_of, refusal_of};

@@ -21,8 +21,18 @@ impl Drop for NodePort {
     }
 }
 
+impl NodePort {
+    /// The node.
+    pub fn into_node(self) -> LiveNode
+        ensures { result ≡ self.node }
+    {
+        let NodePort { node } = self;
+        node
+    }
+}
+
 /// Why a connection takes nothing, by the fault of a step.
-fn refusal_of(fault: StepFault) -> Refusal
+pub fn refusal_of(fault: StepFault) -> Refusal
     ensures { result ≡ refusal_of fault }
 {
     match fault {
@@ -34,7 +44,7 @@ fn refusal_of(fault: StepFault) -> Refusal
 }
 
 /// The number of a connection, as a step has it: no more are opened.
-fn number_of(line: u64) -> Result<u32, Refusal>
+pub fn number_of(line: u64) -> Result<u32, Refusal>
     ensures ok { IfOk result (λ number. (number ≡ line) × (is_number line ≡ true)) }
     ensures err { IfErr result (λ why. (why ≡ Unknown) × (is_number line ≡ false)) }
 {
