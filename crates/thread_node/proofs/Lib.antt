@@ -1,0 +1,5 @@
+pub mod TextLemmas
+pub mod GoingLemmas
+pub mod TellLemmas
+pub mod EndLemmas
+pub mod CopyLemmas

@@ -1,0 +1,7 @@
+use Rattle.std.proofs.Common.{map}
+use Rattle.thread_node.specs.Nodes.{AllGrow}
+use Rattle.thread_node.proofs.texts.reach.Given as goal
+
+-- no text changed so far
+abbrev pub invariant-missing : goal.invariant-missing
+invariant-missing l = AllGrow (map (λ text. text.items) l.initial.texts.items) (map (λ text. text.items) l.texts.items)

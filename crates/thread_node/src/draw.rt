@@ -1,0 +1,123 @@
+//! What connections sent is drawn.
+#![tactic(auto, using(crate::proofs::GoingLemmas::going))]
+
+ghost use Rattle.std.specs.Prelude.{◌≡◌, ◌≤◌, length};
+ghost use Rattle.thread_node.specs.Nodes.{Goes};
+
+use crate::node::ThreadNode;
+use crate::texts::{length_of, put_behind, reach};
+use bench_item::{LineState, MAX_LINES};
+use bench_live::InThreads;
+use std::alloc::AllocError;
+
+/// How many octets are drawn at once, and how often at most before others come.
+const PIECE: usize = 4_096;
+
+const MAX_PIECES: usize = 4_096;
+
+impl<R: Copy, B: InThreads<R>> ThreadNode<R, B> {
+    // How many connections there are.
+    pub(crate) fn count(&self) -> usize {
+        match &self.bench {
+            None => 0,
+            Some(bench) => bench.lines(&self.rt),
+        }
+    }
+
+    // Where a connection stands, if it is there.
+    pub(crate) fn state(&self, line: u64) -> Option<LineState> {
+        match &self.bench {
+            None => None,
+            Some(bench) => bench.line(&self.rt, line),
+        }
+    }
+
+    // Copies what a connection sent from a place on.
+    fn peek(&self, line: u64, from: usize, piece: &mut [u8]) -> usize
+        ensures { result ≤ length piece.new }
+    {
+        match &self.bench {
+            None => 0,
+            Some(bench) => bench.unsent(&self.rt, line, from, piece),
+        }
+    }
+
+    // Draws a piece more of what a connection sent. Says whether there was one.
+    fn draw_piece(&mut self, line: u64) -> Result<bool, AllocError>
+        ensures { Goes self.old self.new }
+    {
+        let mut piece = [0u8; PIECE];
+        let from = length_of(&self.sent, line);
+        let count = self.peek(line, from, &mut piece);
+        if count == 0 {
+            return Ok(false);
+        }
+        put_behind(&mut self.sent, line, &piece[..count])?;
+        Ok(true)
+    }
+
+    // Draws all that a connection sent. Says whether there was something.
+    fn draw(&mut self, line: u64) -> Result<bool, AllocError>
+        ensures { Goes self.old self.new }
+    {
+        let mut drawn = false;
+        'pieces: for _ in 0..MAX_PIECES {
+            if !self.draw_piece(line)? {
+                return Ok(drawn);
+            }
+            drawn = true;
+        }
+        Ok(drawn)
+    }
+
+    // The same of one that isn't known to be closed. What was closed before sends nothing more.
+    fn draw_open(&mut self, line: u32) -> Result<bool, AllocError>
+        ensures { Goes self.old self.new }
+    {
+        if !matches!(self.closed.get(line as usize), Some(false)) {
+            return Ok(false);
+        }
+        let is_closed = matches!(self.state(u64::from(line)), Some(LineState::Closed));
+        let drawn = self.draw(u64::from(line))?;
+        if is_closed && !drawn {
+            self.close(line);
+        }
+        Ok(drawn)
+    }
+
+    // A connection is closed, and all that it sent was drawn.
+    fn close(&mut self, line: u32)
+        ensures { self.new ≡ self.old }
+    {
+        if let Some(closed) = self.closed.get_mut(line as usize) {
+            *closed = true;
+        }
+    }
+
+    // Room for what so many connections sent.
+    fn reach(&mut self, count: usize) -> Result<(), AllocError>
+        ensures { Goes self.old self.new }
+    {
+        reach(self.alloc, &mut self.sent, count)
+    }
+
+    // Draws what so many connections sent that are not closed. Says whether something was.
+    fn draw_lines(&mut self, count: u32) -> Result<bool, AllocError>
+        ensures { Goes self.old self.new }
+    {
+        let mut drawn = false;
+        'lines: for line in 1..count.min(MAX_LINES as u32) + 1 {
+            drawn |= self.draw_open(line)?;
+        }
+        Ok(drawn)
+    }
+
+    /// Draws what connections sent that are not closed. Says whether something was.
+    pub(crate) fn draw_all(&mut self) -> Result<bool, AllocError>
+        ensures { Goes self.old self.new }
+    {
+        let count = self.count().min(MAX_LINES);
+        self.reach(count)?;
+        self.draw_lines(count as u32)
+    }
+}

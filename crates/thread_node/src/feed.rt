@@ -1,0 +1,31 @@
+//! A step is fed to the bench of a node.
+ghost use Rattle.std.specs.Prelude.{◌≡◌, Err, OnErr, OnOk, false};
+ghost use Rattle.thread_node.specs.Nodes.{Feeds};
+
+use crate::node::ThreadNode;
+use bench_item::{Step, StepFault};
+use bench_live::InThreads;
+
+impl<R: Copy, B: InThreads<R>> ThreadNode<R, B> {
+    /// Feeds a step of a connection to its bench, if it is started.
+    pub(crate) fn feed(&mut self, step: Step) -> Result<(), StepFault>
+        ensures ok { OnOk result (Feeds self.old step self.new) }
+        ensures none { self.old.started ≡ false → result ≡ Err StepFault.Unknown }
+        ensures err { OnErr result (self.new ≡ self.old) }
+    {
+        let rt = self.rt;
+        match &mut self.bench {
+            None => Err(StepFault::Unknown),
+            Some(bench) => bench.feed(&rt, step),
+        }
+    }
+
+    /// Something happened on a connection: what it puts out is to be carried.
+    pub(crate) fn touch(&mut self, line: u64)
+        ensures { self.new ≡ self.old }
+    {
+        if let Some(touched) = self.touched.get_mut(line as usize) {
+            *touched = true;
+        }
+    }
+}

@@ -1,0 +1,114 @@
+//! Desks tell.
+#![tactic(auto, using(crate::proofs::GoingLemmas::going, crate::proofs::TellLemmas::staying))]
+
+ghost use Rattle.std.specs.Prelude.{◌≡◌, IfOk, IfSome};
+ghost use Rattle.thread_node.specs.Nodes.{Goes};
+ghost use Rattle.thread_node.specs.Told.{Tells};
+
+use crate::board::Board;
+use crate::node::{Teller, ThreadNode};
+use bench_core::Core;
+use bench_desk::DeskFault;
+use bench_item::{MAX_ENTRIES, Step};
+use bench_live::InThreads;
+use bench_node::KEPT_FREE;
+use std::alloc::{AllocError, Global};
+
+/// Where the machines stand by which the time of a desk's next text is told, each looked at under its shard's lock; none
+/// where something that the desk told waits there.
+fn board_of<'a, R, B: InThreads<R>>(
+    rt: &R,
+    alloc: Global,
+    core: &'a Core,
+    bench: &B,
+    teller: &Teller<B::Desk>,
+) -> Result<Option<Board<'a>>, AllocError>
+    ensures { IfOk result (λ board. IfSome board (λ b. b.core.now ≡ core.now)) }
+{
+    let mut board = Board::new(alloc, core);
+    'keys: for key in teller.texts.keys(alloc, core.laws())? {
+        if bench.has_waiting(rt, &teller.own, &key) {
+            return Ok(None);
+        }
+        if let Some(state) = bench.state_of(rt, &key) {
+            board.put(key, state)?;
+        }
+    }
+    Ok(Some(board))
+}
+
+/// A desk tells its next text, where its time has come: one that there is no room for stays the next, one that can't be
+/// told is passed over. Says whether the desk went on.
+fn tell<R, B: InThreads<R>>(
+    rt: &R,
+    alloc: Global,
+    core: &Core,
+    bench: &B,
+    teller: &mut Teller<B::Desk>,
+) -> Result<bool, AllocError>
+    ensures { IfOk result (Tells core.now.settings teller.old.texts teller.new.texts) }
+{
+    let Some(board) = board_of(rt, alloc, core, bench, teller)? else {
+        return Ok(false);
+    };
+    let Some(
+        Step::Told {
+            desk: _,
+            key,
+            event,
+        },
+    ) = teller.texts.due(alloc, &board)?
+    else {
+        return Ok(false);
+    };
+    match B::tell(rt, &mut teller.own, &key, &event) {
+        Err(DeskFault::Full) => Ok(false),
+        Err(DeskFault::NoMemory) => Err(AllocError),
+        Ok(()) | Err(_) => {
+            teller.texts.go_on();
+            Ok(true)
+        }
+    }
+}
+
+impl<R: Copy, B: InThreads<R>> ThreadNode<R, B> {
+    /// How many entries the parts of its bench have, at most: three for each event that a desk told.
+    pub(crate) fn entries(&self) -> usize {
+        match &self.bench {
+            None => 0,
+            Some(bench) => {
+                let own = self.told.saturating_mul(3);
+                bench.entries(&self.rt).saturating_add(own)
+            }
+        }
+    }
+
+    // The desk at a place tells its next text, where its time has come. Says whether it went on.
+    fn tell_at(&mut self, place: usize) -> Result<bool, AllocError>
+        ensures { self.new ≡ self.old }
+    {
+        let (Some(bench), Some(teller)) = (&self.bench, self.tellers.get_mut(place)) else {
+            return Ok(false);
+        };
+        let told = tell(&self.rt, self.alloc, &self.core, bench, teller)?;
+        if told {
+            self.told = self.told.saturating_add(1);
+        }
+        Ok(told)
+    }
+
+    /// Each desk tells its next text, where its time has come; none where the parts are nearly full. Says whether one
+    /// did.
+    pub(crate) fn tell_all(&mut self) -> Result<bool, AllocError>
+        ensures { self.new ≡ self.old }
+    {
+        if self.tellers.is_empty() || self.entries() > MAX_ENTRIES - KEPT_FREE {
+            return Ok(false);
+        }
+        let mut told = false;
+        'desks: for place in 0..self.tellers.len() {
+            told |= self.tell_at(place)?;
+        }
+        Ok(told)
+    }
+}
