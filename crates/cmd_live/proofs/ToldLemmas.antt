@@ -4,9 +4,9 @@ use Rattle.std.proofs.lemmas.List.{take_more}
 use Rattle.base_device.specs.Devices.{Tells}
 use Rattle.base_device.specs.declared.status.Status.{Status}
 use Rattle.base_device.specs.declared.status.Status.TheVariants as statuses
-use Rattle.net_sockets.specs.declared.sockets.SocketsFault.{SocketsFault}
-use Rattle.net_sockets.specs.declared.sockets.SocketsFault.TheVariants as faults
-use Rattle.cmd_live.specs.Told.{AreTold, TellsOf, failed, nothing, one_more, worse}
+use Rattle.live_report.specs.declared.fault.LifeFault.{LifeFault}
+use Rattle.live_report.specs.declared.fault.LifeFault.TheVariants as faults
+use Rattle.cmd_live.specs.Told.{AreTold, TellsOf, disagreed, failed, nothing, one_more, worse}
 
 -- the next of hosts is told of
 pub told_next : (hosts : List (List ℕ)) (i : ℕ) (host other read text text' : List ℕ) (status status' : Status) → i < length hosts → host ≡ get_or hosts i other
@@ -22,10 +22,21 @@ failed_unlike statuses.Done is = cc
 failed_unlike statuses.Refused is = cc
 failed_unlike statuses.Usage is = cc
 failed_unlike statuses.Fault is = cc
+failed_unlike statuses.Disagreed is = cc
 
-worse_unlike : (status : Status) (fault : Option SocketsFault) (unwritten : Bool) → (status ≡ statuses.Usage → ⊥) → worse status fault unwritten ≡ statuses.Usage → ⊥
+disagreed_unlike : (status : Status) → disagreed status ≡ statuses.Usage → ⊥
+disagreed_unlike statuses.NoMemory is = cc
+disagreed_unlike statuses.Done is = cc
+disagreed_unlike statuses.Refused is = cc
+disagreed_unlike statuses.Usage is = cc
+disagreed_unlike statuses.Fault is = cc
+disagreed_unlike statuses.Disagreed is = cc
+
+worse_unlike : (status : Status) (fault : Option LifeFault) (unwritten : Bool) → (status ≡ statuses.Usage → ⊥) → worse status fault unwritten ≡ statuses.Usage → ⊥
 worse_unlike status (Some faults.NoMemory) unwritten unlike is = cc
-worse_unlike status (Some faults.Refused) unwritten unlike is = failed_unlike status is
+worse_unlike status (Some faults.Disagreed) unwritten unlike is = disagreed_unlike status is
+worse_unlike status (Some faults.NoSocket) unwritten unlike is = failed_unlike status is
+worse_unlike status (Some faults.NoThread) unwritten unlike is = failed_unlike status is
 worse_unlike status None true unlike is = failed_unlike status is
 worse_unlike status None false unlike is = unlike is
 

@@ -6,18 +6,26 @@ use Rattle.base_text.specs.Numbers.{number_of}
 use Rattle.bench_spec.specs.Legal.{IsLegal}
 use Rattle.bench_spec.specs.Taken.{Run}
 use Rattle.live_report.specs.Reports.{node_text}
-use Rattle.net_sockets.specs.declared.sockets.SocketsFault.{SocketsFault}
-use Rattle.net_sockets.specs.declared.sockets.SocketsFault.TheVariants as faults
+use Rattle.live_report.specs.declared.fault.LifeFault.{LifeFault}
+use Rattle.live_report.specs.declared.fault.LifeFault.TheVariants as faults
 
 -- the status where something failed
 abbrev pub failed : Status → Status
 failed statuses.NoMemory = statuses.NoMemory
+failed statuses.Disagreed = statuses.Disagreed
 failed status = statuses.Fault
 
+-- the status where the threads of a node disagree
+abbrev pub disagreed : Status → Status
+disagreed statuses.NoMemory = statuses.NoMemory
+disagreed status = statuses.Disagreed
+
 -- the status behind one node more
-abbrev pub worse : Status → Option SocketsFault → (unwritten : Bool) → Status
+abbrev pub worse : Status → Option LifeFault → (unwritten : Bool) → Status
 worse status (Some faults.NoMemory) unwritten = statuses.NoMemory
-worse status (Some faults.Refused) unwritten = failed status
+worse status (Some faults.Disagreed) unwritten = disagreed status
+worse status (Some faults.NoSocket) unwritten = failed status
+worse status (Some faults.NoThread) unwritten = failed status
 worse status None true = failed status
 worse status None false = status
 
@@ -25,7 +33,7 @@ worse status None false = status
 pub record TellsOf (host old new : List ℕ) (status status' : Status) : Type 0 where
   pub run : Run
   pub legal : IsLegal run.settings run.log
-  pub fault : Option SocketsFault
+  pub fault : Option LifeFault
   pub unwritten : Bool
   pub text : new ≡ old ++ node_text run host fault unwritten
   pub status_is : status' ≡ worse status fault unwritten

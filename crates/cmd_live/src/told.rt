@@ -1,14 +1,13 @@
 //! What is told of all nodes that lived.
 ghost use Rattle.std.specs.Prelude.{◌≡◌, IfOk, OnOk};
-ghost use Rattle.cmd_live.specs.Told.{AreTold, TellsOf, failed, worse};
+ghost use Rattle.cmd_live.specs.Told.{AreTold, TellsOf, disagreed, failed, worse};
 
 use crate::turns::Lived;
 use base_device::Status;
 use base_list::Octets;
 use bench_core::Core;
 use config_text::NodeConfig;
-use live_report::{Places, is_unwritten, put_node};
-use net_sockets::SocketsFault;
+use live_report::{LifeFault, Places, is_unwritten, put_node};
 use std::alloc::{AllocError, Global};
 use std::rt::Files;
 
@@ -25,17 +24,29 @@ fn failed(status: Status) -> Status
 {
     match status {
         Status::NoMemory => Status::NoMemory,
+        Status::Disagreed => Status::Disagreed,
         Status::Done | Status::Refused | Status::Usage | Status::Fault => Status::Fault,
     }
 }
 
+/// The status where the threads of a node disagree.
+fn disagreed(status: Status) -> Status
+    ensures { result ≡ disagreed status }
+{
+    match status {
+        Status::NoMemory => Status::NoMemory,
+        _ => Status::Disagreed,
+    }
+}
+
 /// The status behind one node more.
-fn worse(status: Status, fault: Option<SocketsFault>, is_unwritten: bool) -> Status
+fn worse(status: Status, fault: Option<LifeFault>, is_unwritten: bool) -> Status
     ensures { result ≡ worse status fault is_unwritten }
 {
     match fault {
-        Some(SocketsFault::NoMemory) => Status::NoMemory,
-        Some(SocketsFault::Refused) => failed(status),
+        Some(LifeFault::NoMemory) => Status::NoMemory,
+        Some(LifeFault::Disagreed) => disagreed(status),
+        Some(LifeFault::NoSocket | LifeFault::NoThread) => failed(status),
         None => { if is_unwritten { failed(status) } else { status } }
     }
 }
@@ -46,7 +57,7 @@ fn tell_of(
     told: &mut Ended,
     host: &[u8],
     core: &Core,
-    fault: Option<SocketsFault>,
+    fault: Option<LifeFault>,
     is_unwritten: bool,
 ) -> Result<(), AllocError>
     ensures { OnOk result (TellsOf host.now told.old.text.items told.new.text.items told.old.status told.new.status) }
@@ -69,9 +80,8 @@ fn tell_node<R: Files>(
 ) -> Result<(), AllocError>
     ensures { OnOk result (TellsOf host.now told.old.text.items told.new.text.items told.old.status told.new.status) }
 {
-    let core = lived.living.sockets.node().node.core();
-    let is_unwritten = is_unwritten(rt, alloc, places, host, node, core)?;
-    tell_of(alloc, told, host, core, lived.fault, is_unwritten)
+    let is_unwritten = is_unwritten(rt, alloc, places, host, node, &lived.core)?;
+    tell_of(alloc, told, host, &lived.core, lived.fault, is_unwritten)
 }
 
 /// A node that was to live, and what became of it.

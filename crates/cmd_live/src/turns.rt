@@ -12,6 +12,7 @@ use bench_core::Core;
 use bench_node::LiveNode;
 use bench_setup::{WithCalls, with_calls};
 use live_desk::Desk;
+use live_report::LifeFault;
 use net_sockets::{Node, Sockets, SocketsFault};
 use node_port::NodePort;
 use std::alloc::{AllocError, Global};
@@ -190,11 +191,18 @@ struct Life<'a, R, W> {
     living: Living,
 }
 
-/// What became of a node.
+/// What became of a node: its world, and why it went no further.
 #[derive(Drop)]
 pub struct Lived {
-    pub(crate) living: Living,
-    pub(crate) fault: Option<SocketsFault>,
+    pub(crate) core: Core,
+    pub(crate) fault: Option<LifeFault>,
+}
+
+/// What became of a node.
+fn outcome(living: Living, fault: Option<LifeFault>) -> Lived {
+    let (port, _sockets) = living.sockets.apart();
+    let (core, _peers) = port.into_node().into_parts();
+    Lived { core, fault }
 }
 
 impl<R: Net + Clock, W: Write + Drop> WithCalls for Life<'_, R, W> {
@@ -209,8 +217,10 @@ impl<R: Net + Clock, W: Write + Drop> WithCalls for Life<'_, R, W> {
             mut eye,
             mut living,
         } = self;
-        let fault = turn_all(&mut eye, &mut living, &registries).err();
-        Ok(Lived { living, fault })
+        match turn_all(&mut eye, &mut living, &registries) {
+            Ok(()) => Ok(outcome(living, None)),
+            Err(fault) => Ok(outcome(living, Some(LifeFault::from(fault)))),
+        }
     }
 }
 

@@ -1,14 +1,14 @@
 //! What is printed of a node.
 ghost use Rattle.std.specs.Prelude.{◌≡◌, ◌++◌, ◌∷◌, [], IfOk, OnOk, codes, map};
 ghost use Rattle.hex.specs.Hex.{encode_lower};
-ghost use Rattle.live_report.specs.Reports.{fault_text, ids_of, node_text, report_text, unwritten_text};
+ghost use Rattle.live_report.specs.Reports.{fault_text, ids_of, node_text, report_text, standing_text, unwritten_text};
 ghost use Rattle.step_text.specs.Names.{shown, shown_octet};
 
+use crate::fault::LifeFault;
 use base_text::{put_hex, put_number};
 use bench_core::Core;
 use bench_open::Account;
 use bench_script::put_totals;
-use net_sockets::SocketsFault;
 use std::alloc::{AllocError, Global};
 use step_text::is_plain;
 
@@ -54,15 +54,36 @@ fn ids_of(alloc: Global, core: &Core) -> Result<Vec<u64>, AllocError>
     numbers_of(alloc, core.accounts())
 }
 
-/// Puts how many entries a node's log has, and what stands on its accounts.
-fn put_report(alloc: Global, out: &mut Vec<u8>, host: &[u8], core: &Core) -> Result<(), AllocError>
-    ensures { OnOk result (out.new.items ≡ out.old.items ++ report_text core.now host.now) }
+/// Puts how many entries a node's log has, or that its threads have none together.
+fn put_standing(
+    out: &mut Vec<u8>,
+    host: &[u8],
+    core: &Core,
+    fault: Option<LifeFault>,
+) -> Result<(), AllocError>
+    ensures { OnOk result (out.new.items ≡ out.old.items ++ standing_text core.now host.now fault) }
 {
-    let ids = ids_of(alloc, core)?;
     out.extend_from_slice(b"node ")?;
     put_host(out, host)?;
+    if let Some(LifeFault::Disagreed) = fault {
+        return out.extend_from_slice(b" disagree\n");
+    }
     put_number(out, b" ok ", core.place() as u64)?;
-    out.extend_from_slice(b"\n")?;
+    out.extend_from_slice(b"\n")
+}
+
+/// Puts the same, and what stands on its accounts.
+fn put_report(
+    alloc: Global,
+    out: &mut Vec<u8>,
+    host: &[u8],
+    core: &Core,
+    fault: Option<LifeFault>,
+) -> Result<(), AllocError>
+    ensures { OnOk result (out.new.items ≡ out.old.items ++ report_text core.now host.now fault) }
+{
+    let ids = ids_of(alloc, core)?;
+    put_standing(out, host, core, fault)?;
     put_totals(out, core, &ids)
 }
 
@@ -75,14 +96,15 @@ fn put_line(out: &mut Vec<u8>, host: &[u8], told: &[u8]) -> Result<(), AllocErro
     out.extend_from_slice(told)
 }
 
-/// Puts why a node's sockets went no further, where they did not.
-fn put_fault(out: &mut Vec<u8>, host: &[u8], fault: Option<SocketsFault>) -> Result<(), AllocError>
+/// Puts why a node went no further, where it did not.
+fn put_fault(out: &mut Vec<u8>, host: &[u8], fault: Option<LifeFault>) -> Result<(), AllocError>
     ensures { OnOk result (out.new.items ≡ out.old.items ++ fault_text host.now fault) }
 {
     match fault {
-        Some(SocketsFault::Refused) => put_line(out, host, b": the system refuses a socket\n"),
-        Some(SocketsFault::NoMemory) => put_line(out, host, b": no memory\n"),
-        None => Ok(()),
+        Some(LifeFault::NoSocket) => put_line(out, host, b": the system refuses a socket\n"),
+        Some(LifeFault::NoThread) => put_line(out, host, b": the system refuses a thread\n"),
+        Some(LifeFault::NoMemory) => put_line(out, host, b": no memory\n"),
+        Some(LifeFault::Disagreed) | None => Ok(()),
     }
 }
 
@@ -102,12 +124,12 @@ pub fn put_node(
     out: &mut Vec<u8>,
     host: &[u8],
     core: &Core,
-    fault: Option<SocketsFault>,
+    fault: Option<LifeFault>,
     is_unwritten: bool,
 ) -> Result<(), AllocError>
     ensures { OnOk result (out.new.items ≡ out.old.items ++ node_text core.now host.now fault is_unwritten) }
 {
-    put_report(alloc, out, host, core)?;
+    put_report(alloc, out, host, core, fault)?;
     put_fault(out, host, fault)?;
     put_unwritten(out, host, is_unwritten)
 }
