@@ -6,6 +6,7 @@
 //! | `places` | where nodes listen, and where peers are dialled |
 //! | `nodes` | the nodes of a CONFIG that are to live, opened, and their sockets |
 //! | `turns` | the loop of a node: timers, desks, sockets |
+//! | `threads` | the loop of a node whose shards run in threads |
 //! | `watch` | what an operator is told each second |
 //! | `told` | what is told of all nodes |
 //! | `run` | all of that, to a status |
@@ -15,6 +16,7 @@ mod nodes;
 mod opening;
 mod places;
 mod run;
+mod threads;
 mod told;
 mod turns;
 mod watch;

@@ -18,6 +18,7 @@ use net_sockets::{Sockets, SocketsFault};
 use node_port::NodePort;
 use std::alloc::{AllocError, Global};
 use std::net::Net;
+use thread_node::copy_config;
 
 /// What is told of a node whose sockets the system refuses.
 fn no_socket(alloc: Global, host: &[u8]) -> Result<Refused, AllocError> {
@@ -92,6 +93,12 @@ fn living_of<R: Net>(
 ) -> Result<Living, Refused> {
     let dialled = addresses_of(rt, alloc, node.peers.as_slice())?;
     let shards = bench.shards;
+    // Who looks each second looks at one log.
+    let config = if shards > 1 && !stats {
+        copy_config(alloc, &bench)?
+    } else {
+        None
+    };
     let Opened { node: live, desks } = open(Opening {
         alloc,
         place,
@@ -107,6 +114,7 @@ fn living_of<R: Net>(
         turns: node.turns,
         seconds,
         watch,
+        config,
     })
 }
 

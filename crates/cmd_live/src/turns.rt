@@ -7,23 +7,27 @@ ghost use Rattle.bench_node.specs.Going.{Goes};
 ghost use Rattle.role_tables.specs.Roles.{all_laws};
 
 use crate::opening::registry_count;
+use crate::threads::live_in_threads;
 use crate::watch::{SECOND, Watch};
 use bench_core::Core;
 use bench_node::LiveNode;
+use bench_open::Config;
 use bench_setup::{WithCalls, with_calls};
 use live_desk::Desk;
 use live_report::LifeFault;
-use net_sockets::{Node, Sockets, SocketsFault};
+use net_sockets::{Bare, Node, Sockets, SocketsFault};
 use node_port::NodePort;
 use std::alloc::{AllocError, Global};
 use std::io::Write;
 use std::net::Net;
 use std::rt::Clock;
+use std::sync::Wait;
+use std::thread::Threads;
 use std::time::{Duration, Instant};
 use tab_call::Registry;
 
 /// How long a turn waits at most where nothing is under way, in milliseconds.
-const WAIT: u64 = 10;
+pub(crate) const WAIT: u64 = 10;
 
 /// A node with its sockets, and how long it lives.
 #[derive(Drop)]
@@ -34,10 +38,12 @@ pub struct Living {
     pub(crate) turns: u64,
     pub(crate) seconds: u64,
     pub(crate) watch: Option<Watch>,
+    /// What a bench in threads is opened with, where the node's shards run in threads.
+    pub(crate) config: Option<Config>,
 }
 
 /// How many microseconds went by; as many as before where the clock doesn't say.
-fn micros_since<R: Clock>(rt: &R, start: &Instant, before: u64) -> u64 {
+pub(crate) fn micros_since<R: Clock>(rt: &R, start: &Instant, before: u64) -> u64 {
     match start.elapsed(rt) {
         Ok(time) => time.as_micros().min(u128::from(u64::MAX)) as u64,
         Err(_) => before,
@@ -196,13 +202,15 @@ struct Life<'a, R, W> {
 pub struct Lived {
     pub(crate) core: Core,
     pub(crate) fault: Option<LifeFault>,
+    // Its sockets: they close once all nodes have ended.
+    pub(crate) bare: Bare,
 }
 
-/// What became of a node.
+/// What became of a node that lived in one thread.
 fn outcome(living: Living, fault: Option<LifeFault>) -> Lived {
-    let (port, _sockets) = living.sockets.apart();
+    let (port, bare) = living.sockets.apart();
     let (core, _peers) = port.into_node().into_parts();
-    Lived { core, fault }
+    Lived { core, fault, bare }
 }
 
 impl<R: Net + Clock, W: Write + Drop> WithCalls for Life<'_, R, W> {
@@ -224,14 +232,27 @@ impl<R: Net + Clock, W: Write + Drop> WithCalls for Life<'_, R, W> {
     }
 }
 
-/// Makes the turns of a node, with callbacks of its own; where it is watched, its lines are written to `terminal`.
-/// None where there is no memory for the callbacks.
-pub fn live_one<R: Net + Clock, W: Write + Drop>(
+impl Living {
+    /// How many shards run in threads: none where the node has one thread.
+    pub(crate) fn threads(&self) -> usize {
+        match &self.config {
+            None => 0,
+            Some(config) => registry_count(config.shards),
+        }
+    }
+}
+
+/// Makes the turns of a node, with callbacks of its own, in one thread or in several; where it is watched, its lines are
+/// written to `terminal`. None where there is no memory for the callbacks.
+pub fn live_one<R: Net + Threads + Wait + Clock + Copy + Send + 'static, W: Write + Drop>(
     rt: &R,
     alloc: Global,
     terminal: W,
     living: Living,
 ) -> Option<Lived> {
+    if living.threads() > 0 {
+        return live_in_threads(rt, alloc, living).ok();
+    }
     let count = registry_count(living.shards);
     let eye = Eye {
         rt,

@@ -209,4 +209,5 @@ Exit status:
   1  the input holds a fault, which is printed
   2  these words aren't understood
   3  a read or a write failed, or the input didn't end in 1048576 reads
-  4  no memory";
+  4  no memory
+  5  what the threads of a node logged is no legal log";

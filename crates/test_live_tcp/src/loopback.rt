@@ -3,8 +3,8 @@
 use base_device::{Counting, Inputs, Status};
 use bench_setup::{Setup, read_nodes};
 use cmd_bench::{Shown, run_on};
-use cmd_live::{LiveWords, live, live_one};
-use std::alloc::Global;
+use cmd_live::{LiveWords, Lived, Living, live, live_one};
+use std::alloc::{AllocError, Global};
 use std::net::{Ipv4Addr, SocketAddr, TcpListener};
 use std::test::Fail;
 use std::{fs, io, thread};
@@ -21,10 +21,10 @@ fn free_port(rt: &HostRuntime) -> io::Result<u16> {
     Ok(gone.local_addr()?.port())
 }
 
-// A server, and a client that begins a session, goes on with it and ends it, and then stops.
-fn config(alloc: Global, port: u16) -> Result<String, Fail> {
+// A server of so many shards, and a client that begins a session, goes on with it and ends it, and then stops.
+fn config(alloc: Global, port: u16, shards: u64) -> Result<String, Fail> {
     let server = format!(in alloc;
-        "{{\"host\": \"s.example\", \"realm\": \"example\", \"address\": \"127.0.0.1\", \"listen\": \
+        "{{\"host\": \"s.example\", \"realm\": \"example\", \"address\": \"127.0.0.1\", \"shards\": {shards}, \"listen\": \
             \"127.0.0.1:{port}\", \"turns\": 1000, \"peers\": [{{\"host\": \"c.example\", \"address\": \"\"}}], \
             \"accounts\": [{{\"id\": 100, \"given\": 100}}]}}"
     )?;
@@ -37,9 +37,9 @@ fn config(alloc: Global, port: u16) -> Result<String, Fail> {
 }
 
 // The nodes of the CONFIG.
-fn nodes(rt: &HostRuntime) -> Result<Vec<Setup>, Fail> {
+fn nodes(rt: &HostRuntime, path: &str) -> Result<Vec<Setup>, Fail> {
     let mut source = Counting::new(Inputs::new(rt, rt.stdin()));
-    match read_nodes(rt.alloc(), "loopback.json", &mut source) {
+    match read_nodes(rt.alloc(), path, &mut source) {
         Ok(setups) => Ok(setups),
         Err(_) => Err(Fail::new("a CONFIG")),
     }
@@ -64,40 +64,79 @@ fn second_line(text: &[u8]) -> &[u8] {
     }
 }
 
-#[test]
-fn a_session_is_charged_over_loopback(rt: HostRuntime) -> Result<(), Fail> {
-    let alloc = rt.alloc();
-    let text = config(alloc, free_port(&rt)?)?;
-    fs::write(&rt, "loopback.json", text.as_str())?;
-    let mut source = Counting::new(Inputs::new(&rt, rt.stdin()));
-    let mut sink = Counting::new(Vec::new(alloc));
+// Both nodes of a CONFIG live, their logs written to a folder, and what is told of them.
+fn told<'a, F: Fn(Vec<Living>) -> Result<Vec<Option<Lived>>, AllocError>>(
+    rt: &HostRuntime,
+    path: &'a str,
+    folder: &'a str,
+    together: &F,
+) -> Result<Vec<u8>, Fail>
+    requires { F.IsAlwaysCallable together.now }
+{
+    let mut source = Counting::new(Inputs::new(rt, rt.stdin()));
+    let mut sink = Counting::new(Vec::new(rt.alloc()));
     let words = LiveWords {
-        config: "loopback.json",
+        config: path,
         node: None,
         seconds: Some("30"),
-        log: Some("loopback"),
+        log: Some(folder),
         stats: false,
     };
-    let together = |livings| thread::map_vec(
-        &rt,
-        livings,
-        &|living| live_one(&rt, alloc, rt.stderr(), living),
-    );
-    let status = live(&rt, words, &mut source, &mut sink, &together);
-    assert!(rt; status == Status::Done, "ended");
+    match live(rt, words, &mut source, &mut sink, together) {
+        Status::Done => Ok(sink.device),
+        _ => Err(Fail::new("ended")),
+    }
+}
+
+// A session is charged by a server of so many shards, and both logs print themselves.
+fn charges<F: Fn(Vec<Living>) -> Result<Vec<Option<Lived>>, AllocError>>(
+    rt: &HostRuntime,
+    path: &str,
+    folder: &str,
+    shards: u64,
+    together: &F,
+) -> Result<(), Fail>
+    requires { F.IsAlwaysCallable together.now }
+{
+    let alloc = rt.alloc();
+    let text = config(alloc, free_port(rt)?, shards)?;
+    fs::write(rt, path, text.as_str())?;
+    let told = told(rt, path, folder, together)?;
     let account: &[u8] = b"account 100 given 100 reserved 0 debited 85 unpaid 0";
-    assert!(rt; second_line(&sink.device) == account, "charged");
-    let mut setups = nodes(&rt)?.into_iter();
+    if second_line(&told) != account {
+        return Err(Fail::new("charged"));
+    }
+    let mut setups = nodes(rt, path)?.into_iter();
     let (Some(server), Some(client)) = (setups.next(), setups.next()) else {
         return Err(Fail::new("two nodes"));
     };
-    assert!(rt;
-        prints_itself(&rt, server, "loopback/s.example.log")?,
-        "the server's log"
-    );
-    assert!(rt;
-        prints_itself(&rt, client, "loopback/c.example.log")?,
-        "the client's log"
-    );
+    let own = format!(in alloc; "{folder}/s.example.log")?;
+    if !prints_itself(rt, server, own.as_str())? {
+        return Err(Fail::new("the server's log"));
+    }
+    let other = format!(in alloc; "{folder}/c.example.log")?;
+    if !prints_itself(rt, client, other.as_str())? {
+        return Err(Fail::new("the client's log"));
+    }
     Ok(())
+}
+
+#[test]
+fn a_session_is_charged_over_loopback(rt: HostRuntime) -> Result<(), Fail> {
+    let together = |livings| thread::map_vec(
+        &rt,
+        livings,
+        &|living| live_one(&rt, rt.alloc(), rt.stderr(), living),
+    );
+    charges(&rt, "loopback.json", "loopback", 1, &together)
+}
+
+#[test]
+fn a_session_is_charged_by_a_server_in_threads(rt: HostRuntime) -> Result<(), Fail> {
+    let together = |livings| thread::map_vec(
+        &rt,
+        livings,
+        &|living| live_one(&rt, rt.alloc(), rt.stderr(), living),
+    );
+    charges(&rt, "threads.json", "threads", 2, &together)
 }
