@@ -5,7 +5,7 @@ ghost use Rattle.live_parts.specs.Clocks.{with_arm, with_disarm};
 ghost use Rattle.live_parts.specs.LineParts.{is_for_lines};
 ghost use Rattle.bench_live.specs.Carried.{DropsAtClock, DropsAtLines};
 
-use crate::shared::Shared;
+use crate::shared::{ShardLock, Shared};
 use bench_desk::CarryFault;
 use bench_item::{Item, Key, MAX_SHARDS, Source, home};
 use bench_log::{KeptItem, KeptMachineItem};
@@ -61,20 +61,48 @@ fn disarm_under(clock: &mut ClockPart, stamps: &AtomicU64, source: Source, machi
 }
 
 impl Shared {
-    // An item comes from a source to the shard that it is for.
-    fn arrive<R: Wait>(&self, rt: &R, source: Source, item: &KeptMachineItem) -> Turn {
+    // The shard that an item is for.
+    fn shard_for(&self, item: &KeptMachineItem) -> Option<&ShardLock> {
         let count = self.shards.len();
         if count == 0 || count > MAX_SHARDS {
-            return Turn::Idle;
+            return None;
         }
-        let Some(shard) = self.shards.get(home(count, item.key())) else {
+        self.shards.get(home(count, item.key()))
+    }
+
+    /// Whether an item is for a shard whose lock another thread holds now.
+    pub(crate) fn is_busy(&self, hand: &Hand) -> bool {
+        let Some(item) = hand.item.event() else {
+            return false;
+        };
+        match self.shard_for(item) {
+            None => false,
+            Some(shard) => shard.slot.try_lock().is_none(),
+        }
+    }
+
+    // An item comes from a source to the shard that it is for.
+    fn arrive<R: Wait>(&self, rt: &R, source: Source, item: &KeptMachineItem) -> Turn {
+        let Some(shard) = self.shard_for(item) else {
             return Turn::Idle;
         };
-        let mut slot = shard.slot.lock(rt);
-        let stamp = draw(&self.stamps);
-        let turn = slot.arrive(source, item, stamp);
+        let turn = self.arrive_at(rt, shard, source, item);
+        // Who is woken finds the lock free.
         shard.moved.notify_all();
         turn
+    }
+
+    // An item comes from a source to a shard.
+    fn arrive_at<R: Wait>(
+        &self,
+        rt: &R,
+        shard: &ShardLock,
+        source: Source,
+        item: &KeptMachineItem,
+    ) -> Turn {
+        let mut slot = shard.slot.lock(rt);
+        let stamp = draw(&self.stamps);
+        slot.arrive(source, item, stamp)
     }
 
     // An item comes from a source to the connections.

@@ -117,15 +117,30 @@ impl Shared {
         Ok(())
     }
 
-    // Drops what a connection lifted, where it is for.
-    fn put_down<R: Wait>(&self, rt: &R, hand: &mut Option<Hand>, line: u32) -> Result<(), StepFault>
+    // Drops what a connection lifted, where it is for. Where who drops has no patience nothing comes of it while a shard
+    // is at work.
+    fn drop_held<R: Wait>(&self, rt: &R, line: u32, hand: &Hand, patient: bool) -> Turn {
+        if !patient && self.is_busy(hand) {
+            return Turn::Idle;
+        }
+        self.drop_item(rt, Source::Line(line), hand).0
+    }
+
+    // The same of what it lifted, if it did.
+    fn put_down<R: Wait>(
+        &self,
+        rt: &R,
+        hand: &mut Option<Hand>,
+        line: u32,
+        patient: bool,
+    ) -> Result<(), StepFault>
         ensures empty { hand.old ≡ None → result ≡ Err StepFault.Nothing }
         ensures dropped { OnOk result (hand.new ≡ None) }
         ensures err { OnErr result (hand.new ≡ hand.old) }
     {
         let turn = match hand {
             None => return Err(StepFault::Nothing),
-            Some(own) => self.drop_item(rt, Source::Line(line), own).0,
+            Some(own) => self.drop_held(rt, line, own, patient),
         };
         match turn {
             Turn::Done => {
@@ -137,6 +152,12 @@ impl Shared {
         }
     }
 
+    // Whether there is such a connection. Of one that has a hand that is known, and no lock is taken.
+    fn has_line<R: Wait>(&self, rt: &R, hands: &[Option<Hand>], line: u32) -> bool {
+        let has_hand = line != 0 && (line as usize) < hands.len();
+        has_hand || self.state(rt, u64::from(line)).is_some()
+    }
+
     // Lifts the oldest item of a connection, or drops what it lifted. There is to be such a connection.
     fn carry<R: Wait>(
         &self,
@@ -144,8 +165,9 @@ impl Shared {
         hands: &mut Vec<Option<Hand>>,
         line: u32,
         lifts: bool,
+        patient: bool,
     ) -> Result<(), StepFault> {
-        if self.state(rt, u64::from(line)).is_none() {
+        if !self.has_line(rt, hands, line) {
             return Err(StepFault::Unknown);
         }
         if make_hand(hands, line as usize).is_err() {
@@ -157,17 +179,18 @@ impl Shared {
         if lifts {
             self.lift(rt, hand, line)
         } else {
-            self.put_down(rt, hand, line)
+            self.put_down(rt, hand, line, patient)
         }
     }
 
     /// Takes a step of a connection: what happens to it, and what is lifted from it, into its hand, and dropped. Each
-    /// other step is refused as Unknown.
+    /// other step is refused as Unknown. Where who feeds has no patience a drop is refused while its shard is at work.
     pub fn take<R: Wait>(
         &self,
         rt: &R,
         hands: &mut Vec<Option<Hand>>,
         step: &Step,
+        patient: bool,
     ) -> Result<(), StepFault>
         ensures fed { OnOk result (is_fed step.now ≡ true) }
         ensures other { is_fed step.now ≡ false → result ≡ Err StepFault.Unknown }
@@ -178,8 +201,8 @@ impl Shared {
                 Ok(())
             }
             Step::Dialled(_) | Step::Came { .. } | Step::Lost(_) => self.happen(rt, step),
-            Step::Lift(Source::Line(line)) => self.carry(rt, hands, *line, true),
-            Step::Drop(Source::Line(line)) => self.carry(rt, hands, *line, false),
+            Step::Lift(Source::Line(line)) => self.carry(rt, hands, *line, true, patient),
+            Step::Drop(Source::Line(line)) => self.carry(rt, hands, *line, false, patient),
             _ => Err(StepFault::Unknown),
         }
     }

@@ -37,9 +37,16 @@ impl Live {
         if self.fed.reserve(1).is_err() {
             return Err(StepFault::NoMemory);
         }
-        self.shared.take(rt, &mut self.hands, &step)?;
+        self.shared.take(rt, &mut self.hands, &step, self.patient)?;
         self.fed.push(step).unwrap();
         Ok(())
+    }
+
+    /// Whether a drop waits while its shard is at work, as at the start; else it is refused then, as for want of room.
+    pub fn set_patient(&mut self, patient: bool)
+        ensures { self.new ≡ record self.old { patient = patient } }
+    {
+        self.patient = patient;
     }
 
     /// A connection is accepted, as by `feed`; its step is kept behind the others. Answers its number.

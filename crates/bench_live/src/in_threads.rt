@@ -26,8 +26,8 @@ use tab_step::{Event, MachineState};
 /// A bench in threads, as who feeds it sees it. What is behind its locks is in no contract. It was started by a call of
 /// its own (`Live::start`): none of a trait may take callbacks and answer what holds them.
 ///
-/// In: `feed`, `joined`, `tell`, `end`. Looks: `line`, `lines`, `unsent`, `state_of`, `has_waiting`, `entries`,
-/// `totals`.
+/// In: `feed`, `set_patient`, `joined`, `tell`, `end`. Looks: `line`, `lines`, `survey`, `unsent`, `state_of`,
+/// `has_waiting`, `drawn`, `entries`, `totals`.
 pub trait InThreads<R>: Drop {
     /// A desk of it.
     type Desk: Drop;
@@ -50,6 +50,11 @@ pub trait InThreads<R>: Drop {
         ensures err { OnErr result (fed self.new ≡ fed self.old) }
         ensures same { counts self.new ≡ counts self.old };
 
+    /// Whether a drop waits while its shard is at work, as at the start; else it is refused then, as for want of room.
+    fn set_patient(&mut self, patient: bool)
+        ensures fed { fed self.new ≡ fed self.old }
+        ensures same { counts self.new ≡ counts self.old };
+
     /// A connection is accepted. Answers its number.
     fn joined(&mut self, rt: &R) -> Result<u64, StepFault>
         ensures number { IfOk result (λ line. (0 < line) × (line ≤ MAX_LINES)) }
@@ -64,6 +69,10 @@ pub trait InThreads<R>: Drop {
     /// How many connections there are.
     fn lines(&self, rt: &R) -> usize;
 
+    /// Says for each connection, from 1 on, whether it sent more than stands in `drawn`, or is closed, as far as `marks`
+    /// reach; and how many connections there are. All is looked at under one lock.
+    fn survey(&self, rt: &R, drawn: &[Vec<u8>], marks: &mut [bool]) -> usize;
+
     /// Copies what a connection sent from a place on, as much as there is and fits, to the front of `out`, and says how
     /// much that is.
     fn unsent(&self, rt: &R, line: u64, from: usize, out: &mut [u8]) -> usize
@@ -74,6 +83,9 @@ pub trait InThreads<R>: Drop {
 
     /// Whether something that a desk told waits in the shard of a machine.
     fn has_waiting(&self, rt: &R, desk: &Self::Desk, key: &Key) -> bool;
+
+    /// How many stamps were drawn: no fewer than there are entries. No lock is taken.
+    fn drawn(&self) -> u64;
 
     /// How many entries its parts have, but for those of desks. Each part is counted under its lock, one by one.
     fn entries(&self, rt: &R) -> usize;
@@ -115,6 +127,10 @@ impl<R: Threads + Wait + Clock + Copy + Send + 'static> InThreads<R> for Live {
         Live::feed(self, rt, step)
     }
 
+    fn set_patient(&mut self, patient: bool) {
+        Live::set_patient(self, patient);
+    }
+
     fn joined(&mut self, rt: &R) -> Result<u64, StepFault> {
         Live::joined(self, rt)
     }
@@ -127,6 +143,10 @@ impl<R: Threads + Wait + Clock + Copy + Send + 'static> InThreads<R> for Live {
         Live::lines(self, rt)
     }
 
+    fn survey(&self, rt: &R, drawn: &[Vec<u8>], marks: &mut [bool]) -> usize {
+        self.shared.survey(rt, drawn, marks)
+    }
+
     fn unsent(&self, rt: &R, line: u64, from: usize, out: &mut [u8]) -> usize {
         Live::unsent(self, rt, line, from, out)
     }
@@ -137,6 +157,10 @@ impl<R: Threads + Wait + Clock + Copy + Send + 'static> InThreads<R> for Live {
 
     fn has_waiting(&self, rt: &R, desk: &LiveDesk, key: &Key) -> bool {
         self.shared.has_waiting(rt, desk.desk().number(), key)
+    }
+
+    fn drawn(&self) -> u64 {
+        self.shared.drawn()
     }
 
     fn entries(&self, rt: &R) -> usize {

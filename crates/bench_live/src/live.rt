@@ -18,7 +18,7 @@ use std::time::{Clock, Duration};
 
 /// A running bench: its threads, and what belongs to whoever feeds connections.
 ///
-/// In: `feed`, `joined`, `pause`, `resume`, `end`. Looks: `line`, `lines`, `unsent`.
+/// In: `feed`, `set_patient`, `joined`, `pause`, `resume`, `end`. Looks: `line`, `lines`, `unsent`.
 pub struct Live {
     pub(crate) alloc: Global,
     pub(crate) shared: Arc<Shared, Global>,
@@ -26,6 +26,8 @@ pub struct Live {
     pub(crate) desks: u32,
     // Of each connection what it lifted.
     pub(crate) hands: Vec<Option<Hand>>,
+    // Whether a drop waits while its shard is at work.
+    pub(crate) patient: bool,
     // The steps that were fed and taken, in order.
     pub(crate) fed: Vec<Step>,
 }
@@ -38,6 +40,7 @@ impl Drop for Live {
             threads,
             desks: _,
             hands,
+            patient: _,
             fed,
         } = self;
     }
@@ -151,6 +154,7 @@ impl Live {
             threads,
             desks: _,
             hands,
+            patient: _,
             fed,
         } = self;
         (shared, threads, fed)

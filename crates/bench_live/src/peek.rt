@@ -6,8 +6,10 @@ ghost use Rattle.bench_shard.specs.View.{place_in};
 use crate::shared::Shared;
 use acct_totals::Totals;
 use bench_desk::ShardPart;
-use bench_item::{Key, MAX_SHARDS, home};
+use bench_item::{Key, LineState, MAX_SHARDS, home};
+use live_parts::LinesPart;
 use std::sync::Wait;
+use std::sync::atomic::Ordering;
 use tab_step::MachineState;
 
 /// Where a machine of a shard, whose lock is held, stands, if it is there.
@@ -18,6 +20,26 @@ fn state_under(part: &ShardPart, key: &Key) -> Option<MachineState>
         None => None,
         Some(place) => part.shard().state(place),
     }
+}
+
+/// Whether a connection sent more than so many octets, or is closed.
+fn has_news(lines: &LinesPart, line: u64, drawn: usize) -> bool {
+    let mut next = [0u8];
+    lines.lines().unsent(line, drawn, &mut next) > 0
+        || matches!(lines.lines().state(line), Some(LineState::Closed))
+}
+
+/// The same of each connection, from 1 on, by what was drawn of it, as far as the marks reach; and how many there are.
+fn survey_under(lines: &LinesPart, drawn: &[Vec<u8>], marks: &mut [bool]) -> usize {
+    let count = lines.lines().count();
+    for place in 0..count.min(marks.len()) {
+        let from = match drawn.get(place) {
+            None => 0,
+            Some(text) => text.len(),
+        };
+        marks[place] = has_news(lines, place as u64 + 1, from);
+    }
+    count
 }
 
 impl Shared {
@@ -42,6 +64,18 @@ impl Shared {
             Some(shard) => shard.slot.lock(rt).part.has_waiting(desk),
             None => false,
         }
+    }
+
+    /// Says for each connection, from 1 on, whether it sent more than stands in `drawn`, or is closed, as far as `marks`
+    /// reach; and how many connections there are.
+    pub fn survey<R: Wait>(&self, rt: &R, drawn: &[Vec<u8>], marks: &mut [bool]) -> usize {
+        let lines = self.lines.lock(rt);
+        survey_under(&lines, drawn, marks)
+    }
+
+    /// How many stamps were drawn: no fewer than there are entries.
+    pub fn drawn(&self) -> u64 {
+        self.stamps.load(Ordering::SeqCst)
     }
 
     /// How many entries its parts have, but for those of desks: each part is counted under its lock, one by one.

@@ -206,6 +206,7 @@ fn start_opened<
         threads,
         desks: count,
         hands: Vec::new(alloc),
+        patient: true,
         fed: Vec::new(alloc),
     };
     Ok((live, desks))

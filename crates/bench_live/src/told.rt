@@ -67,9 +67,26 @@ impl Shared {
         let Some(shard) = self.lock_of(desk.shards(), key) else {
             return Err(DeskFault::Unknown);
         };
+        self.tell_at(rt, shard, desk, key, event)?;
+        // Who is woken finds the lock free.
+        shard.moved.notify_all();
+        Ok(())
+    }
+
+    // A desk tells a shard, under its lock.
+    fn tell_at<R: Wait>(
+        &self,
+        rt: &R,
+        shard: &ShardLock,
+        desk: &mut Desk,
+        key: &Key,
+        event: &Event,
+    ) -> Result<(), DeskFault>
+        ensures told { OnOk result (HasTold desk.old desk.new key.now event.now) }
+        ensures err { OnErr result (desk.new ≡ desk.old) }
+    {
         let mut slot = shard.slot.lock(rt);
         tell_under(&mut slot, desk, &self.stamps, key, event)?;
-        shard.moved.notify_all();
         Ok(())
     }
 

@@ -1,12 +1,14 @@
 //! What a shard's thread does.
-ghost use Rattle.std.specs.Prelude.{◌≡◌, ◌<◌, unwrap_or};
-ghost use Rattle.bench_shard.specs.Tasks.{page_of};
+ghost use Rattle.std.specs.Prelude.{◌≡◌, ◌<◌, None, Some};
+ghost use Rattle.bench_desk.specs.Working.{work_refusal};
+ghost use Rattle.bench_shard.specs.Tasks.{IsTask, page_of};
 ghost use Rattle.bench_live.specs.Carried.{Lifts, Nexts};
 ghost use Rattle.bench_live.specs.Worked.{Works};
 
 use crate::point::{Gate, Point};
 use crate::shared::{ShardLock, Shared};
 use crate::slot::Slot;
+use acct_book::Page;
 use acct_pages::Pages;
 use bench_desk::CarryFault;
 use bench_item::Source;
@@ -27,20 +29,56 @@ pub(crate) fn rest<R: Clock>(rt: &R, refused: bool) {
     }
 }
 
-/// The number of the page that a task needs, of so many; the first where it needs none.
-fn page_number(task: &Task, pages: u64) -> u64
-    requires { 0 < pages }
-    ensures page { result ≡ unwrap_or (page_of pages task.now.want) 0 }
-    ensures there { result < pages }
+/// A shard whose lock is held handles its oldest item, as it was told, with a page.
+fn work_with(slot: &mut Slot, page: &mut Page, task: Task, stamps: &AtomicU64) -> Turn
+    requires task { IsTask slot.old.part.tables.laws slot.old.part.shard task }
+    requires could { work_refusal slot.old.part ≡ None }
+    ensures { Works result slot.old.part slot.new.part }
 {
-    match task.page(pages) {
-        Some(number) => number,
-        None => 0,
+    let stamp = draw(stamps);
+    match slot.work(page, task, stamp) {
+        Ok(()) => Turn::Done,
+        Err(_) => Turn::NoMemory,
     }
 }
 
-/// A shard whose lock is held handles its oldest item, under the lock of the page that it needs.
-fn work_under<R: Wait>(rt: &R, slot: &mut Slot, pages: &Pages, stamps: &AtomicU64) -> Turn
+/// The same of what needs no page, with one that is nobody's: no other shard waits meanwhile.
+fn work_apart(slot: &mut Slot, pages: u64, spare: &mut Page, task: Task, stamps: &AtomicU64) -> Turn
+    requires none { page_of pages task.want ≡ None }
+    requires task { IsTask slot.old.part.tables.laws slot.old.part.shard task }
+    requires could { work_refusal slot.old.part ≡ None }
+    ensures { Works result slot.old.part slot.new.part }
+{
+    work_with(slot, spare, task, stamps)
+}
+
+/// The same of what needs a page, under its lock.
+fn work_paged<R: Wait>(
+    rt: &R,
+    slot: &mut Slot,
+    pages: &Pages,
+    number: u64,
+    task: Task,
+    stamps: &AtomicU64,
+) -> Turn
+    requires page { page_of pages.now task.want ≡ Some number }
+    requires there { number < pages.now }
+    requires task { IsTask slot.old.part.tables.laws slot.old.part.shard task }
+    requires could { work_refusal slot.old.part ≡ None }
+    ensures { Works result slot.old.part slot.new.part }
+{
+    let mut page = pages.lock(rt, number);
+    work_with(slot, &mut page, task, stamps)
+}
+
+/// A shard whose lock is held handles its oldest item, under the lock of the page that it needs, if it needs one.
+fn work_under<R: Wait>(
+    rt: &R,
+    slot: &mut Slot,
+    pages: &Pages,
+    spare: &mut Page,
+    stamps: &AtomicU64,
+) -> Turn
     ensures { Works result slot.old.part slot.new.part }
 {
     if !slot.has_work() {
@@ -49,11 +87,10 @@ fn work_under<R: Wait>(rt: &R, slot: &mut Slot, pages: &Pages, stamps: &AtomicU6
     let Ok(task) = slot.task() else {
         return Turn::NoMemory;
     };
-    let mut page = pages.lock(rt, page_number(&task, pages.count()));
-    let stamp = draw(stamps);
-    match slot.work(&mut page, task, stamp) {
-        Ok(()) => Turn::Done,
-        Err(_) => Turn::NoMemory,
+    let count = pages.count();
+    match task.page(count) {
+        None => work_apart(slot, count, spare, task, stamps),
+        Some(number) => work_paged(rt, slot, pages, number, task, stamps),
     }
 }
 
@@ -90,7 +127,8 @@ fn next_under(slot: &mut Slot, held: Option<Hand>, stamps: &AtomicU64) -> (Optio
 }
 
 /// Carries what a shard put out where it is for, until nothing is left or an item finds no room, which stays in the
-/// hand. Passes the gate behind each item that it dropped at the connections, while it holds no lock.
+/// hand; where it has no patience, so does one that is for a shard which is at work. Passes the gate behind each item
+/// that it dropped at the connections, while it holds no lock.
 fn carry<R: Wait, G: Gate>(
     rt: &R,
     shared: &Shared,
@@ -98,6 +136,7 @@ fn carry<R: Wait, G: Gate>(
     shard: &ShardLock,
     number: u32,
     held: Option<Hand>,
+    patient: bool,
 ) -> (Option<Hand>, Turn) {
     let mut hand = held;
     for _ in rt.forever() {
@@ -105,6 +144,9 @@ fn carry<R: Wait, G: Gate>(
         let Some(own) = lifted else {
             return (None, turn);
         };
+        if !patient && shared.is_busy(&own) {
+            return (Some(own), Turn::Idle);
+        }
         let (dropped, at_lines) = shared.drop_item(rt, Source::Shard(number), &own);
         if dropped != Turn::Done {
             return (Some(own), dropped);
@@ -123,10 +165,11 @@ fn handle<R: Wait, G: Gate>(
     shared: &Shared,
     gate: &G,
     shard: &ShardLock,
+    spare: &mut Page,
     number: u32,
 ) -> (Turn, bool) {
     let mut slot = shard.slot.lock(rt);
-    let turn = work_under(rt, &mut slot, &shared.pages, &shared.stamps);
+    let turn = work_under(rt, &mut slot, &shared.pages, spare, &shared.stamps);
     if turn != Turn::Done {
         return (turn, false);
     }
@@ -140,22 +183,46 @@ fn work<R: Wait, G: Gate>(
     shared: &Shared,
     gate: &G,
     shard: &ShardLock,
+    spare: &mut Page,
     number: u32,
 ) -> Turn {
     gate.pass(Point::BeforeWork(number));
-    let (turn, wanted) = handle(rt, shared, gate, shard, number);
+    let (turn, wanted) = handle(rt, shared, gate, shard, spare, number);
     if wanted {
         shared.say_all(rt, false);
     }
     turn
 }
 
-/// Waits until there is something to do; not where memory was refused. Says whether the bench ends.
-fn wait<R: Wait>(rt: &R, shard: &ShardLock, has_hand: bool, refused: bool) -> bool {
+/// Waits until there is something to do; not where it goes on at once. Says whether the bench ends.
+fn wait<R: Wait>(rt: &R, shard: &ShardLock, has_hand: bool, again: bool) -> bool {
     let slot = shard.moved.wait_while(rt, shard.slot.lock(rt), |slot| {
-        !refused && slot.is_idle(has_hand)
+        !again && slot.is_idle(has_hand)
     });
     slot.ending
+}
+
+/// Carries what a shard put out, and handles its oldest item. Who has nothing to handle waits for a shard that is at work.
+/// Says what is in its hand then, and whether it goes on at once.
+fn turn<R: Wait + Clock, G: Gate>(
+    rt: &R,
+    shared: &Shared,
+    gate: &G,
+    shard: &ShardLock,
+    spare: &mut Page,
+    number: u32,
+    held: Option<Hand>,
+) -> (Option<Hand>, bool) {
+    let (left, carried) = carry(rt, shared, gate, shard, number, held, false);
+    let worked = work(rt, shared, gate, shard, spare, number);
+    if worked == Turn::Done {
+        rest(rt, carried == Turn::NoMemory);
+        return (left, true);
+    }
+    let (hand, carried) = carry(rt, shared, gate, shard, number, left, true);
+    let refused = carried == Turn::NoMemory || worked == Turn::NoMemory;
+    rest(rt, refused);
+    (hand, refused)
 }
 
 /// Works a shard and carries what it puts out, until the bench ends.
@@ -163,13 +230,12 @@ pub fn run_worker<R: Wait + Clock, G: Gate>(rt: &R, shared: &Shared, gate: &G, n
     let Some(shard) = shared.shards.get(number as usize) else {
         return;
     };
+    // It has no account.
+    let mut spare = Page::new(shared.alloc);
     let mut hand = None;
     for _ in rt.forever() {
-        let (held, carried) = carry(rt, shared, gate, shard, number, hand);
-        let worked = work(rt, shared, gate, shard, number);
-        let refused = carried == Turn::NoMemory || worked == Turn::NoMemory;
-        rest(rt, refused);
-        if wait(rt, shard, held.is_some(), refused) {
+        let (held, again) = turn(rt, shared, gate, shard, &mut spare, number, hand);
+        if wait(rt, shard, held.is_some(), again) {
             return;
         }
         hand = held;

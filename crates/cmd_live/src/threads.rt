@@ -57,6 +57,19 @@ struct Span {
     seconds: u64,
 }
 
+/// What a node does of itself, in its turn. Says whether something was: where nothing is, a worker that sends wakes the
+/// sockets from then on.
+fn moves<R: Copy, B: InThreads<R>>(
+    node: &mut ThreadNode<R, B>,
+    wakes: &Wakes,
+) -> Result<bool, AllocError> {
+    if node.turn()? {
+        return Ok(true);
+    }
+    wakes.wait();
+    node.turn()
+}
+
 /// Makes the turns of a node.
 fn turn_all<R: Net + Clock + Copy, B: InThreads<R>>(
     rt: &R,
@@ -70,8 +83,7 @@ fn turn_all<R: Net + Clock + Copy, B: InThreads<R>>(
     let mut moment = 0;
     for _ in 0..span.turns {
         moment = micros_since(rt, &start, moment);
-        wakes.wait();
-        let moved = sockets.node_mut().turn()?;
+        let moved = moves(sockets.node_mut(), wakes)?;
         if moment / SECOND >= span.seconds || sockets.node().is_over() {
             return Ok(());
         }

@@ -2,13 +2,14 @@
 ghost use Rattle.std.specs.Prelude.{◌≡◌, ◌||◌, [], None, Some, IfErr, IfOk, OnErr, OnOk, false, true, unwrap_or};
 ghost use Rattle.bench_queue.specs.Outbox.{next_out};
 ghost use Rattle.live_parts.specs.Clocks.{AreDue, lift_refusal, passed, with_lift};
-ghost use Rattle.live_slot.specs.Times.{HasPassed, is_idle};
+ghost use Rattle.live_slot.specs.Times.{HasPassed, IsHindered, StaysDue, is_idle};
 
 use crate::hand::Hand;
 use crate::turn::draw;
 use bench_desk::CarryFault;
 use live_parts::ClockPart;
 use std::sync::atomic::AtomicU64;
+use tick_wheel::Firing;
 
 /// The timers' part, and what is said to its thread.
 ///
@@ -32,10 +33,22 @@ impl Drop for ClockSlot {
     }
 }
 
+/// Fires a timer, if it is armed still.
+fn fire(part: &mut ClockPart, firing: Firing, stamps: &AtomicU64) -> Result<(), CarryFault>
+    ensures { IfErr result (IsHindered part.new) }
+{
+    match part.fire(firing.owner, firing.generation, draw(stamps)) {
+        Ok(()) | Err(CarryFault::Nothing) => Ok(()),
+        Err(fault) => Err(fault),
+    }
+}
+
 /// Fires each timer that is due at a moment, by due moment and then machine.
-fn fire_due(part: &mut ClockPart, moment: u64, stamps: &AtomicU64) -> Result<(), CarryFault> {
+fn fire_due(part: &mut ClockPart, moment: u64, stamps: &AtomicU64) -> Result<(), CarryFault>
+    ensures { IfErr result (IsHindered part.new) }
+{
     for firing in part.due(moment)? {
-        part.fire(firing.owner, firing.generation, draw(stamps))?;
+        fire(part, firing, stamps)?;
     }
     Ok(())
 }
@@ -44,6 +57,7 @@ fn fire_due(part: &mut ClockPart, moment: u64, stamps: &AtomicU64) -> Result<(),
 fn pass(part: &mut ClockPart, moment: u64) -> Result<(), CarryFault>
     ensures due { OnOk result (AreDue part.old moment []) }
     ensures ok { OnOk result (part.new ≡ passed part.old moment) }
+    ensures fault { IfErr result (StaysDue part.new moment) }
 {
     if part.pass(moment) {
         Ok(())
@@ -55,7 +69,8 @@ fn pass(part: &mut ClockPart, moment: u64) -> Result<(), CarryFault>
 /// Fires each timer that is due at a moment, by due moment and then machine, and takes the clock there. Where memory is
 /// refused, or the part has as many entries as it may, the rest stays due.
 fn advance(part: &mut ClockPart, moment: u64, stamps: &AtomicU64) -> Result<(), CarryFault>
-    ensures { OnOk result (HasPassed part.new moment) }
+    ensures ok { OnOk result (HasPassed part.new moment) }
+    ensures fault { IfErr result (StaysDue part.new moment) }
 {
     fire_due(part, moment, stamps)?;
     pass(part, moment)?;
@@ -89,7 +104,11 @@ impl ClockSlot {
     /// Fires each timer that is due at a moment, and takes the clock there: nothing is due then. Where memory is
     /// refused, or the part has as many entries as it may, the rest stays due.
     pub fn advance(&mut self, moment: u64, stamps: &AtomicU64) -> Result<(), CarryFault>
-        ensures { OnOk result (HasPassed self.new.part moment) }
+        ensures ok { OnOk result (HasPassed self.new.part moment) }
+        ensures fault { IfErr result (StaysDue self.new.part moment) }
+        // What was said to its thread is kept.
+        ensures called { self.new.called ≡ self.old.called }
+        ensures ending { self.new.ending ≡ self.old.ending }
     {
         advance(&mut self.part, moment, stamps)
     }
@@ -103,6 +122,9 @@ impl ClockSlot {
         ensures fault { IfErr result (λ f. f ≡ unwrap_or (lift_refusal self.old.part) CarryFault.NoMemory) }
         // A refused call changes nothing.
         ensures err { OnErr result (self.new.part ≡ self.old.part) }
+        // What was said to its thread is kept.
+        ensures called { self.new.called ≡ self.old.called }
+        ensures ending { self.new.ending ≡ self.old.ending }
     {
         let item = self.part.lift(stamp)?;
         Ok(Hand {

@@ -42,18 +42,15 @@ impl<R: Copy, B: InThreads<R>> ThreadNode<R, B> {
         }
     }
 
-    // Draws a piece more of what a connection sent. Says whether there was one.
-    fn draw_piece(&mut self, line: u64) -> Result<bool, AllocError>
+    // Draws a piece more of what a connection sent. Says how long it is.
+    fn draw_piece(&mut self, line: u64) -> Result<usize, AllocError>
         ensures { Goes self.old self.new }
     {
         let mut piece = [0u8; PIECE];
         let from = length_of(&self.sent, line);
         let count = self.peek(line, from, &mut piece);
-        if count == 0 {
-            return Ok(false);
-        }
         put_behind(&mut self.sent, line, &piece[..count])?;
-        Ok(true)
+        Ok(count)
     }
 
     // Draws all that a connection sent. Says whether there was something.
@@ -62,10 +59,11 @@ impl<R: Copy, B: InThreads<R>> ThreadNode<R, B> {
     {
         let mut drawn = false;
         'pieces: for _ in 0..MAX_PIECES {
-            if !self.draw_piece(line)? {
+            let count = self.draw_piece(line)?;
+            drawn |= count > 0;
+            if count < PIECE {
                 return Ok(drawn);
             }
-            drawn = true;
         }
         Ok(drawn)
     }
@@ -77,9 +75,15 @@ impl<R: Copy, B: InThreads<R>> ThreadNode<R, B> {
         if !matches!(self.closed.get(line as usize), Some(false)) {
             return Ok(false);
         }
-        let is_closed = matches!(self.state(u64::from(line)), Some(LineState::Closed));
+        if self.draw(u64::from(line))? {
+            return Ok(true);
+        }
+        if !matches!(self.state(u64::from(line)), Some(LineState::Closed)) {
+            return Ok(false);
+        }
+        // It may have sent more before it closed.
         let drawn = self.draw(u64::from(line))?;
-        if is_closed && !drawn {
+        if !drawn {
             self.close(line);
         }
         Ok(drawn)
@@ -101,22 +105,42 @@ impl<R: Copy, B: InThreads<R>> ThreadNode<R, B> {
         reach(self.alloc, &mut self.sent, count)
     }
 
+    // Draws what a connection sent, if it was marked.
+    fn draw_marked(&mut self, line: u32) -> Result<bool, AllocError>
+        ensures { Goes self.old self.new }
+    {
+        match self.marks.get((line as usize).saturating_sub(1)) {
+            Some(true) => self.draw_open(line),
+            _ => Ok(false),
+        }
+    }
+
     // Draws what so many connections sent that are not closed. Says whether something was.
     fn draw_lines(&mut self, count: u32) -> Result<bool, AllocError>
         ensures { Goes self.old self.new }
     {
         let mut drawn = false;
         'lines: for line in 1..count.min(MAX_LINES as u32) + 1 {
-            drawn |= self.draw_open(line)?;
+            drawn |= self.draw_marked(line)?;
         }
         Ok(drawn)
+    }
+
+    // Marks the connections that sent more than was drawn, or are closed. Says how many there are.
+    fn survey(&mut self) -> usize
+        ensures { self.new ≡ self.old }
+    {
+        match &self.bench {
+            None => 0,
+            Some(bench) => bench.survey(&self.rt, &self.sent, &mut self.marks),
+        }
     }
 
     /// Draws what connections sent that are not closed. Says whether something was.
     pub(crate) fn draw_all(&mut self) -> Result<bool, AllocError>
         ensures { Goes self.old self.new }
     {
-        let count = self.count().min(MAX_LINES);
+        let count = self.survey().min(MAX_LINES);
         self.reach(count)?;
         self.draw_lines(count as u32)
     }

@@ -20,12 +20,12 @@ impl<R: Copy, B: InThreads<R>> ThreadNode<R, B> {
         }
     }
 
-    /// Something happened on a connection: what it puts out is to be carried.
-    pub(crate) fn touch(&mut self, line: u64)
+    /// Whether something happened on a connection, so that what it puts out is to be carried.
+    pub(crate) fn set_touched(&mut self, line: u64, touched: bool)
         ensures { self.new ≡ self.old }
     {
-        if let Some(touched) = self.touched.get_mut(line as usize) {
-            *touched = true;
+        if let Some(own) = self.touched.get_mut(line as usize) {
+            *own = touched;
         }
     }
 }

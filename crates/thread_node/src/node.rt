@@ -35,6 +35,8 @@ pub struct ThreadNode<R, B: InThreads<R>> {
     pub(crate) closed: Vec<bool>,
     // And whether something happened there since all that it put out was carried.
     pub(crate) touched: Vec<bool>,
+    // And of each connection, from 1 on, whether it sent something when it was looked at last, or was closed.
+    pub(crate) marks: Vec<bool>,
     // So many connections were looked at for a dial.
     pub(crate) looked: u64,
 }
@@ -53,6 +55,7 @@ impl<R: Drop, B: InThreads<R>> Drop for ThreadNode<R, B> {
             sent,
             closed,
             touched,
+            marks,
             looked: _,
         } = self;
     }
@@ -96,6 +99,7 @@ impl<R: Copy, B: InThreads<R>> ThreadNode<R, B> {
             sent: Vec::new(alloc),
             closed: vec![in alloc; false; MAX_LINES + 1]?,
             touched: vec![in alloc; false; MAX_LINES + 1]?,
+            marks: vec![in alloc; false; MAX_LINES]?,
             looked: 0,
         })
     }
@@ -122,6 +126,7 @@ impl<R: Copy, B: InThreads<R>> ThreadNode<R, B> {
             sent,
             closed,
             touched,
+            marks,
             looked: _,
         } = self;
         (core, peers)

@@ -34,7 +34,7 @@ impl<R: Copy, B: InThreads<R>> ThreadNode<R, B> {
     {
         match self.feed(step) {
             Ok(()) => {
-                self.touch(line);
+                self.set_touched(line, true);
                 Ok(())
             }
             Err(fault) => Err(refusal_of(fault)),
@@ -64,7 +64,7 @@ impl<R: Copy, B: InThreads<R>> Node for ThreadNode<R, B> {
     ghost sent = { λ s line. sent_on s line };
 
     fn is_over(&self) -> bool {
-        self.bench.is_none() || self.entries() > MAX_ENTRIES - KEPT_FREE / 2
+        self.bench.is_none() || self.is_past(MAX_ENTRIES - KEPT_FREE / 2)
     }
 
     fn joined(&mut self) -> Option<u64> {

@@ -72,13 +72,14 @@ fn tell<R, B: InThreads<R>>(
 }
 
 impl<R: Copy, B: InThreads<R>> ThreadNode<R, B> {
-    /// How many entries the parts of its bench have, at most: three for each event that a desk told.
-    pub(crate) fn entries(&self) -> usize {
+    /// Whether the parts of its bench have more entries than so many, at most: three for each event that a desk told.
+    /// They are counted, under all locks, only where so many stamps were drawn.
+    pub(crate) fn is_past(&self, count: usize) -> bool {
         match &self.bench {
-            None => 0,
+            None => false,
             Some(bench) => {
                 let own = self.told.saturating_mul(3);
-                bench.entries(&self.rt).saturating_add(own)
+                bench.drawn() > count as u64 && bench.entries(&self.rt).saturating_add(own) > count
             }
         }
     }
@@ -102,7 +103,7 @@ impl<R: Copy, B: InThreads<R>> ThreadNode<R, B> {
     pub(crate) fn tell_all(&mut self) -> Result<bool, AllocError>
         ensures { self.new ≡ self.old }
     {
-        if self.tellers.is_empty() || self.entries() > MAX_ENTRIES - KEPT_FREE {
+        if self.tellers.is_empty() || self.is_past(MAX_ENTRIES - KEPT_FREE) {
             return Ok(false);
         }
         let mut told = false;

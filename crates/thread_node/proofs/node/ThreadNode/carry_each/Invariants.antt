@@ -1,5 +1,5 @@
 use Rattle.thread_node.specs.Nodes.{Goes}
-use Rattle.thread_node.proofs.node.ThreadNode.carry_lines.Given as goal
+use Rattle.thread_node.proofs.node.ThreadNode.carry_each.Given as goal
 
 -- items were carried and texts drawn so far, and nothing else
 abbrev pub invariant-lines : goal.invariant-lines
