@@ -4,6 +4,7 @@ ghost use Rattle.std.specs.Fn.{FnOnceReturnsAtMut};
 ghost use Rattle.acct_book.specs.Book.{Paged};
 
 use acct_book::Page;
+use base_lock::hold;
 use std::alloc::{AllocError, Global};
 use std::marker::Model;
 use std::sync::{Mutex, MutexGuard, Wait};
@@ -91,7 +92,7 @@ impl Pages {
         // The closure is called, once, on a page: the answer is its answer.
         ensures called { (old : Paged) × (new : Paged) × FnOnceReturnsAtMut F.FnOnce f old result new }
     {
-        let mut page = self.locks[number as usize].lock(rt);
+        let mut page = hold(rt, &self.locks[number as usize]);
         lend(&mut page, f)
     }
 
@@ -100,7 +101,7 @@ impl Pages {
     pub fn lock<R: Wait>(&self, rt: &R, number: u64) -> MutexGuard<'_, Page>
         requires { number < self.now }
     {
-        self.locks[number as usize].lock(rt)
+        hold(rt, &self.locks[number as usize])
     }
 
     /// The pages without their locks, in order of their numbers. Takes no memory.

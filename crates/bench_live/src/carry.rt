@@ -6,6 +6,7 @@ ghost use Rattle.live_parts.specs.LineParts.{is_for_lines};
 ghost use Rattle.bench_live.specs.Carried.{DropsAtClock, DropsAtLines};
 
 use crate::shared::{ShardLock, Shared};
+use base_lock::hold;
 use bench_desk::CarryFault;
 use bench_item::{Item, Key, MAX_SHARDS, Source, home};
 use bench_log::{KeptItem, KeptMachineItem};
@@ -100,7 +101,7 @@ impl Shared {
         source: Source,
         item: &KeptMachineItem,
     ) -> Turn {
-        let mut slot = shard.slot.lock(rt);
+        let mut slot = hold(rt, &shard.slot);
         let stamp = draw(&self.stamps);
         slot.arrive(source, item, stamp)
     }
@@ -109,7 +110,7 @@ impl Shared {
     fn drop_at_lines<R: Wait>(&self, rt: &R, source: Source, item: &KeptItem) -> Turn
         requires { is_for_lines item.now ≡ true }
     {
-        let mut lines = self.lines.lock(rt);
+        let mut lines = hold(rt, &self.lines);
         drop_under(&mut lines, &self.stamps, source, item)
     }
 
@@ -123,7 +124,7 @@ impl Shared {
         ticks: u64,
         key: &Option<Key>,
     ) -> Turn {
-        let mut clock = self.clock.lock(rt);
+        let mut clock = hold(rt, &self.clock);
         arm_under(
             &mut clock.part,
             &self.stamps,
@@ -137,7 +138,7 @@ impl Shared {
 
     // A source disarms the timer of a machine.
     fn disarm<R: Wait>(&self, rt: &R, source: Source, machine: u64) -> Turn {
-        let mut clock = self.clock.lock(rt);
+        let mut clock = hold(rt, &self.clock);
         disarm_under(&mut clock.part, &self.stamps, source, machine)
     }
 

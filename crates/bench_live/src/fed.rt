@@ -6,6 +6,7 @@ ghost use Rattle.bench_spec.specs.Merged.{is_fed};
 ghost use Rattle.bench_live.specs.Happened.{HasHappened, HasLifted, happens};
 
 use crate::shared::Shared;
+use base_lock::hold;
 use bench_item::{LineState, Source, Step, StepFault};
 use live_parts::LinesPart;
 use live_slot::{Hand, Turn, draw};
@@ -69,13 +70,13 @@ impl Shared {
     pub fn state<R: Wait>(&self, rt: &R, line: u64) -> Option<LineState>
         ensures { line ≡ 0 → result ≡ None }
     {
-        let lines = self.lines.lock(rt);
+        let lines = hold(rt, &self.lines);
         lines.lines().state(line)
     }
 
     /// How many connections there are.
     pub fn line_count<R: Wait>(&self, rt: &R) -> usize {
-        let lines = self.lines.lock(rt);
+        let lines = hold(rt, &self.lines);
         lines.lines().count()
     }
 
@@ -84,7 +85,7 @@ impl Shared {
     pub fn unsent<R: Wait>(&self, rt: &R, line: u64, from: usize, out: &mut [u8]) -> usize
         ensures { result ≤ length out.new }
     {
-        let lines = self.lines.lock(rt);
+        let lines = hold(rt, &self.lines);
         lines.lines().unsent(line, from, out)
     }
 
@@ -92,13 +93,13 @@ impl Shared {
     pub(crate) fn joined<R: Wait>(&self, rt: &R) -> Result<u64, StepFault>
         ensures { IfOk result (λ line. (0 < line) × (line ≤ MAX_LINES)) }
     {
-        let mut lines = self.lines.lock(rt);
+        let mut lines = hold(rt, &self.lines);
         join_under(&mut lines, &self.stamps)
     }
 
     // Something happens to a connection.
     fn happen<R: Wait>(&self, rt: &R, step: &Step) -> Result<(), StepFault> {
-        let mut lines = self.lines.lock(rt);
+        let mut lines = hold(rt, &self.lines);
         happen_under(&mut lines, &self.stamps, step)
     }
 
@@ -111,7 +112,7 @@ impl Shared {
         if hand.is_some() {
             return Err(StepFault::Nothing);
         }
-        let mut lines = self.lines.lock(rt);
+        let mut lines = hold(rt, &self.lines);
         let own = lift_under(&mut lines, &self.stamps, line)?;
         *hand = Some(own);
         Ok(())

@@ -5,6 +5,7 @@ ghost use Rattle.bench_shard.specs.View.{place_in};
 
 use crate::shared::Shared;
 use acct_totals::Totals;
+use base_lock::hold;
 use bench_desk::ShardPart;
 use bench_item::{Key, LineState, MAX_SHARDS, home};
 use live_parts::LinesPart;
@@ -50,7 +51,7 @@ impl Shared {
             return None;
         }
         let shard = self.shards.get(home(count, key))?;
-        let slot = shard.slot.lock(rt);
+        let slot = hold(rt, &shard.slot);
         state_under(&slot.part, key)
     }
 
@@ -61,7 +62,7 @@ impl Shared {
             return false;
         }
         match self.shards.get(home(count, key)) {
-            Some(shard) => shard.slot.lock(rt).part.has_waiting(desk),
+            Some(shard) => hold(rt, &shard.slot).part.has_waiting(desk),
             None => false,
         }
     }
@@ -69,7 +70,7 @@ impl Shared {
     /// Says for each connection, from 1 on, whether it sent more than stands in `drawn`, or is closed, as far as `marks`
     /// reach; and how many connections there are.
     pub fn survey<R: Wait>(&self, rt: &R, drawn: &[Vec<u8>], marks: &mut [bool]) -> usize {
-        let lines = self.lines.lock(rt);
+        let lines = hold(rt, &self.lines);
         survey_under(&lines, drawn, marks)
     }
 
@@ -82,10 +83,10 @@ impl Shared {
     pub fn entries<R: Wait>(&self, rt: &R) -> usize {
         let mut count: usize = 0;
         for shard in &self.shards {
-            let own = shard.slot.lock(rt).part.len();
+            let own = hold(rt, &shard.slot).part.len();
             count = count.saturating_add(own);
         }
-        let lines = self.lines.lock(rt).len();
+        let lines = hold(rt, &self.lines).len();
         let clock = self.clock.lock(rt).part.len();
         count.saturating_add(lines).saturating_add(clock)
     }

@@ -5,6 +5,7 @@ ghost use Rattle.bench_live.specs.Kept.{HasLooked, HasTold};
 
 use crate::shared::{ShardLock, Shared};
 use crate::slot::Slot;
+use base_lock::hold;
 use bench_desk::{Desk, DeskFault, Look};
 use bench_item::{Key, home};
 use live_slot::draw;
@@ -85,7 +86,7 @@ impl Shared {
         ensures told { OnOk result (HasTold desk.old desk.new key.now event.now) }
         ensures err { OnErr result (desk.new ≡ desk.old) }
     {
-        let mut slot = shard.slot.lock(rt);
+        let mut slot = hold(rt, &shard.slot);
         tell_under(&mut slot, desk, &self.stamps, key, event)?;
         Ok(())
     }
@@ -98,7 +99,7 @@ impl Shared {
         let Some(shard) = self.lock_of(desk.shards(), key) else {
             return Err(DeskFault::Unknown);
         };
-        let slot = shard.slot.lock(rt);
+        let slot = hold(rt, &shard.slot);
         look_under(&slot, desk, &self.stamps, key)
     }
 }

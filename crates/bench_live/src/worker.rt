@@ -10,6 +10,7 @@ use crate::shared::{ShardLock, Shared};
 use crate::slot::Slot;
 use acct_book::Page;
 use acct_pages::Pages;
+use base_lock::hold;
 use bench_desk::CarryFault;
 use bench_item::Source;
 use bench_shard::Task;
@@ -140,7 +141,7 @@ fn carry<R: Wait, G: Gate>(
 ) -> (Option<Hand>, Turn) {
     let mut hand = held;
     for _ in rt.forever() {
-        let (lifted, turn) = next_under(&mut shard.slot.lock(rt), hand, &shared.stamps);
+        let (lifted, turn) = next_under(&mut hold(rt, &shard.slot), hand, &shared.stamps);
         let Some(own) = lifted else {
             return (None, turn);
         };
@@ -168,7 +169,7 @@ fn handle<R: Wait, G: Gate>(
     spare: &mut Page,
     number: u32,
 ) -> (Turn, bool) {
-    let mut slot = shard.slot.lock(rt);
+    let mut slot = hold(rt, &shard.slot);
     let turn = work_under(rt, &mut slot, &shared.pages, spare, &shared.stamps);
     if turn != Turn::Done {
         return (turn, false);
@@ -196,7 +197,7 @@ fn work<R: Wait, G: Gate>(
 
 /// Waits until there is something to do; not where it goes on at once. Says whether the bench ends.
 fn wait<R: Wait>(rt: &R, shard: &ShardLock, has_hand: bool, again: bool) -> bool {
-    let slot = shard.moved.wait_while(rt, shard.slot.lock(rt), |slot| {
+    let slot = shard.moved.wait_while(rt, hold(rt, &shard.slot), |slot| {
         !again && slot.is_idle(has_hand)
     });
     slot.ending
