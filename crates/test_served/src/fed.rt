@@ -3,10 +3,12 @@
 use base_list::Octets;
 use bench_core::Core;
 use bench_item::{LineState, Step};
-use bench_live::{Live, Parts};
+use bench_live::{InThreads, Live, Parts};
 use std::alloc::Global;
 use std::sync::Wait;
 use std::test::Fail;
+use std::thread::Threads;
+use std::time::Clock;
 use thread_cases::right;
 
 /// A Device-Watchdog-Request of `a.example` (RFC 6733 section 5.5.1).
@@ -63,10 +65,36 @@ fn is_closed(state: Option<LineState>) -> bool {
     }
 }
 
+/// Whether what is looked at of a bench without desks is so many entries, for each of which a stamp was drawn, and so
+/// many connections, of which these sent something or are closed.
+fn looks_so<R, B: InThreads<R>>(
+    rt: &R,
+    bench: &B,
+    entries: usize,
+    lines: usize,
+    news: [bool; 3],
+) -> bool {
+    let mut marks = [true; 3];
+    let count = bench.survey(rt, &[], &mut marks);
+    let is_drawn = bench.drawn() >= entries as u64;
+    is_drawn
+        && count == lines
+        && marks[..count.min(3)] == news[..count.min(3)]
+        && bench.entries(rt) == entries
+}
+
 /// A connection is accepted whose first message is no Capabilities-Exchange-Request: it is closed, without an answer.
-fn feed_stranger<R: Wait>(rt: &R, alloc: Global, live: &mut Live) -> Result<(), Fail> {
+fn feed_stranger<R: Threads + Wait + Clock + Copy + Send + 'static>(
+    rt: &R,
+    alloc: Global,
+    live: &mut Live,
+) -> Result<(), Fail> {
     right(live.feed(rt, Step::Joined).is_ok(), "another is accepted")?;
     right(is_open(live.line(rt, 2)), "it is open")?;
+    right(
+        looks_so(rt, live, 4, 2, [true, false, false]),
+        "one is closed, and nothing was sent",
+    )?;
     right(comes(rt, alloc, live, 2, WATCHDOG)?, "a message comes")?;
     right(is_closed(live.line(rt, 2)), "it is closed")?;
     let mut buffer = [0u8; 8];
@@ -74,9 +102,17 @@ fn feed_stranger<R: Wait>(rt: &R, alloc: Global, live: &mut Live) -> Result<(), 
 }
 
 /// Both of these.
-pub fn feed_both<R: Wait>(rt: &R, alloc: Global, live: &mut Live) -> Result<(), Fail> {
+pub fn feed_both<R: Threads + Wait + Clock + Copy + Send + 'static>(
+    rt: &R,
+    alloc: Global,
+    live: &mut Live,
+) -> Result<(), Fail> {
     feed_pieces(rt, alloc, live)?;
-    feed_stranger(rt, alloc, live)
+    feed_stranger(rt, alloc, live)?;
+    right(
+        looks_so(rt, live, 5, 2, [true, true, false]),
+        "both are closed",
+    )
 }
 
 /// The five steps that were taken are all that there is.

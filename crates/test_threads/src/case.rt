@@ -64,7 +64,7 @@ impl Case {
 }
 
 /// Does with a running bench what the case is.
-fn act<R: Threads + Wait + Clock + Drop + Sync>(
+fn act<R: Threads + Wait + Clock + Copy + Drop + Send + Sync + 'static>(
     rt: &R,
     alloc: Global,
     laws: &LawBook,

@@ -4,7 +4,7 @@ use crate::bench::{seen, tell_by};
 use crate::met::{PEER, count_asked, count_unsent, peer_of, stop_of};
 use bench_core::Core;
 use bench_item::{Key, MAX_WAITING, Role};
-use bench_live::{Live, LiveDesk};
+use bench_live::{InThreads, Live, LiveDesk};
 use std::alloc::Global;
 use std::sync::Wait;
 use std::test::Fail;
@@ -122,9 +122,29 @@ fn stands<R: Wait + Clock>(rt: &R, desks: &mut [LiveDesk], key: &Key, state: u8)
     false
 }
 
+/// Whether what is looked at of a machine is that an item of the first desk waits in its shard, or none, and that it
+/// stands in a state.
+fn looks_so<R, B: InThreads<R>>(
+    rt: &R,
+    bench: &B,
+    desks: &[B::Desk],
+    key: &Key,
+    waits: bool,
+    state: u8,
+) -> bool {
+    let own = match bench.state_of(rt, key) {
+        None => None,
+        Some(own) => Some(own.state),
+    };
+    match desks.get(0) {
+        None => false,
+        Some(desk) => bench.has_waiting(rt, desk, key) == waits && own == Some(state),
+    }
+}
+
 /// The second shard is paused and full; what a session of the first asks its peer there waits in a worker's hand until
 /// the shard goes on. The session hears then that the peer is not connected, and is idle again, as in the first state.
-pub fn tell_full<R: Wait + Clock>(
+pub fn tell_full<R: Threads + Wait + Clock + Copy + Send + 'static>(
     rt: &R,
     alloc: Global,
     laws: &LawBook,
@@ -144,8 +164,16 @@ pub fn tell_full<R: Wait + Clock>(
         seen(rt, desks, &session) == Some((1, 0, 1)),
         "it waits for an answer",
     )?;
+    right(
+        looks_so(rt, live, desks, &peer, true, 0) && looks_so(rt, live, desks, &session, false, 1),
+        "what was told waits at the peer alone",
+    )?;
     right(live.resume(rt, 1), "the second shard goes on")?;
-    right(stands(rt, desks, &session, 0), "the session is idle again")
+    right(stands(rt, desks, &session, 0), "the session is idle again")?;
+    right(
+        looks_so(rt, live, desks, &peer, false, 0),
+        "all that was told was handled",
+    )
 }
 
 /// All that was told is in the log, and the session asked once, and heard once that the peer is not connected.
