@@ -1,5 +1,5 @@
 -- What is told of a script's run on all nodes of a CONFIG, whose logs are written.
-use Rattle.std.specs.Prelude.{◌≡◌, ◌⊎◌, ℕ, Bool, true, false, List, ◌++◌, codes, replicate, Option}
+use Rattle.std.specs.Prelude.{◌≡◌, ◌⊎◌, ℕ, Bool, true, false, List, ◌++◌, codes, replicate, Option, Some}
 use Rattle.base_device.specs.Devices.{Tells}
 use Rattle.base_device.specs.Tellings.{told_status}
 use Rattle.base_device.specs.declared.status.Status.{Status}
@@ -9,6 +9,8 @@ use Rattle.bench_nodes.specs.declared.node.Node.{Node}
 use Rattle.bench_setup.specs.declared.setups.Setup.{Setup}
 use Rattle.node_logs.specs.Files.{File, with_files}
 use Rattle.node_logs.specs.Logs.{logs_of}
+use Rattle.node_logs.specs.declared.logs.LogError.{LogError}
+use Rattle.node_logs.specs.declared.logs.LogError.TheVariants.{Failed, NoMemory}
 use Rattle.role_tables.specs.Roles.{all_laws}
 use Rattle.tab_law.specs.Books.{Laws}
 use Rattle.cmd_bench.specs.Met.{TellsRefused}
@@ -25,18 +27,21 @@ with_logs written false nodes = with_files written (logs_of nodes)
 abbrev pub unwritten_text : (name : List ℕ) → List ℕ
 unwritten_text name = codes "write fault: " ++ name ++ codes " can't be written\n"
 
--- that is told, as a fault
-pub record TellsUnwritten {O : Type 0} (contents : O → Option (List ℕ)) (failures idle : O → ℕ) (sink sink' : O)
-    (answer : Status) : Type 0 where
+-- that is told, as a fault: of the file that failed
+pub record TellsUnwritten {O : Type 0} (contents : O → Option (List ℕ)) (failures idle : O → ℕ)
+    (failed : Option (List ℕ)) (sink sink' : O) (answer : Status) : Type 0 where
   pub name : List ℕ
+  pub failed_so : failed ≡ Some name
   pub told : Tells contents failures idle sink sink' (unwritten_text name) statuses.Fault answer
 
--- or memory ran out
-abbrev pub IsToldWhy : {O : Type 0} → (contents : O → Option (List ℕ)) → (failures idle : O → ℕ)
+-- why logs are not written: which can't be, or memory ran out, which it also may for the text of that
+abbrev pub IsToldWhy : {O : Type 0} → (contents : O → Option (List ℕ)) → (failures idle : O → ℕ) → LogError
     → (sink sink' : O) → Status → Type 0
-IsToldWhy contents failures idle sink sink' answer =
-    TellsUnwritten contents failures idle sink sink' answer
+IsToldWhy contents failures idle (Failed name) sink sink' answer =
+    Tells contents failures idle sink sink' (unwritten_text name.items) statuses.Fault answer
     ⊎ Tells contents failures idle sink sink' (codes "no memory\n") statuses.NoMemory answer
+IsToldWhy contents failures idle NoMemory sink sink' answer =
+    Tells contents failures idle sink sink' (codes "no memory\n") statuses.NoMemory answer
 
 -- the logs were written, and what was printed is told
 pub record TellsEnded {O F : Type 0} (contents : O → Option (List ℕ)) (failures idle : O → ℕ)
@@ -47,11 +52,11 @@ pub record TellsEnded {O F : Type 0} (contents : O → Option (List ℕ)) (failu
 
 -- or a log can't be written, or memory ran out
 abbrev pub IsToldEnded : {O F : Type 0} → (contents : O → Option (List ℕ)) → (failures idle : O → ℕ)
-    → (written : F → Option (List File)) → (nodes : List Node) → (text : List ℕ) → (refused : Bool)
-    → (sink sink' : O) → (files files' : F) → Status → Type 0
-IsToldEnded contents failures idle written nodes text refused sink sink' files files' answer =
+    → (written : F → Option (List File)) → (failed : F → Option (List ℕ)) → (nodes : List Node) → (text : List ℕ)
+    → (refused : Bool) → (sink sink' : O) → (files files' : F) → Status → Type 0
+IsToldEnded contents failures idle written failed nodes text refused sink sink' files files' answer =
     TellsEnded contents failures idle written nodes text refused sink sink' files files' answer
-    ⊎ TellsUnwritten contents failures idle sink sink' answer
+    ⊎ TellsUnwritten contents failures idle (failed files') sink sink' answer
     ⊎ Tells contents failures idle sink sink' (codes "no memory\n") statuses.NoMemory answer
 
 -- a script was run on nodes, their logs were written, and what was printed is told
@@ -66,11 +71,11 @@ pub record LogsTold {O F : Type 0} (contents : O → Option (List ℕ)) (failure
 
 -- or a log can't be written, or memory ran out
 abbrev pub IsLoggedRunOn : {O F : Type 0} → (contents : O → Option (List ℕ)) → (failures idle : O → ℕ)
-    → (written : F → Option (List File)) → (books : List Laws) → (cut : ℕ) → (setups : List Setup)
-    → (script : List ℕ) → Shown → (sink sink' : O) → (files files' : F) → Status → Type 0
-IsLoggedRunOn contents failures idle written books cut setups script shown sink sink' files files' answer =
+    → (written : F → Option (List File)) → (failed : F → Option (List ℕ)) → (books : List Laws) → (cut : ℕ)
+    → (setups : List Setup) → (script : List ℕ) → Shown → (sink sink' : O) → (files files' : F) → Status → Type 0
+IsLoggedRunOn contents failures idle written failed books cut setups script shown sink sink' files files' answer =
     LogsTold contents failures idle written books cut setups script shown sink sink' files files' answer
-    ⊎ TellsUnwritten contents failures idle sink sink' answer
+    ⊎ TellsUnwritten contents failures idle (failed files') sink sink' answer
     ⊎ Tells contents failures idle sink sink' (codes "no memory\n") statuses.NoMemory answer
 
 -- what nodes are opened with was read, and then a script, which was run on all of them, by the laws of all roles;

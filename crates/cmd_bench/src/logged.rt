@@ -27,7 +27,7 @@ fn unwritten_text(alloc: Global, name: &[u8]) -> Result<Vec<u8>, AllocError>
 fn tell_unwritten<O: ByteSink>(alloc: Global, error: LogError, sink: &mut O) -> Status
     requires idle { O.idle sink.old ≡ 0 }
     requires failures { O.failures sink.old < 2 ^ 64 - 1 }
-    ensures told { IsToldWhy O.contents O.failures O.idle sink.old sink.new result }
+    ensures told { IsToldWhy O.contents O.failures O.idle error sink.old sink.new result }
     ensures row { O.most_idle sink.new ≤ max (O.most_idle sink.old) MAX_IDLE_WRITES }
 {
     match error {
@@ -48,7 +48,7 @@ fn tell_ended<O: ByteSink, F: FileSink>(
 ) -> Status
     requires idle { O.idle sink.old ≡ 0 }
     requires failures { O.failures sink.old < 2 ^ 64 - 1 }
-    ensures told { IsToldEnded O.contents O.failures O.idle F.files
+    ensures told { IsToldEnded O.contents O.failures O.idle F.files F.failed
         ended.nodes.items ended.run.text.items ended.run.refused
         sink.old sink.new files.old files.new result }
     ensures row { O.most_idle sink.new ≤ max (O.most_idle sink.old) MAX_IDLE_WRITES }
@@ -76,8 +76,9 @@ pub fn run_logged_on<O: ByteSink, F: FileSink>(
 ) -> Status
     requires idle { O.idle sink.old ≡ 0 }
     requires failures { O.failures sink.old < 2 ^ 64 - 1 }
-    ensures run { IsLoggedRunOn O.contents O.failures O.idle F.files (replicate MAX_SHARDS all_laws)
-        cut setups.items script.now shown sink.old sink.new files.old files.new result }
+    ensures run { IsLoggedRunOn O.contents O.failures O.idle F.files F.failed
+        (replicate MAX_SHARDS all_laws) cut setups.items script.now shown
+        sink.old sink.new files.old files.new result }
     ensures row { O.most_idle sink.new ≤ max (O.most_idle sink.old) MAX_IDLE_WRITES }
 {
     match run_setups(alloc, cut, setups, script, shown) {
@@ -97,8 +98,9 @@ fn run_logged_ready<O: ByteSink, F: FileSink>(
 ) -> Status
     requires idle { O.idle sink.old ≡ 0 }
     requires failures { O.failures sink.old < 2 ^ 64 - 1 }
-    ensures run { IsLoggedRunOn O.contents O.failures O.idle F.files (replicate MAX_SHARDS all_laws)
-        cut ready.setups.items ready.script.items shown sink.old sink.new files.old files.new result }
+    ensures run { IsLoggedRunOn O.contents O.failures O.idle F.files F.failed
+        (replicate MAX_SHARDS all_laws) cut ready.setups.items ready.script.items shown
+        sink.old sink.new files.old files.new result }
     ensures row { O.most_idle sink.new ≤ max (O.most_idle sink.old) MAX_IDLE_WRITES }
 {
     let AllReady { setups, script } = ready;
@@ -123,7 +125,7 @@ pub fn run_logged_nodes<I: FileSource, O: ByteSink, F: FileSink>(
     ensures reads { I.reads source.new ≤ I.reads source.old + 258 * MAX_READS }
     ensures row { O.most_idle sink.new ≤ max (O.most_idle sink.old) MAX_IDLE_WRITES }
     ensures run { IsRun I.reads I.failures O.failures O.idle source.old source.new sink.old sink.new result
-        ⊎ TellsUnwritten O.contents O.failures O.idle sink.old sink.new result }
+        ⊎ TellsUnwritten O.contents O.failures O.idle (F.failed files.new) sink.old sink.new result }
     ensures as_asked { result ≢ Status.Fault
         → IsLoggedMet I.remaining I.reads I.failures O.contents O.failures O.idle F.files cut shown
         source.old source.new sink.old sink.new files.old files.new result }

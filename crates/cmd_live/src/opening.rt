@@ -3,6 +3,7 @@
 
 ghost use Rattle.std.specs.Prelude.{◌≡◌};
 ghost use Rattle.std.specs.List.{AllByRecursion as Each};
+ghost use Rattle.cmd_live.specs.declared.opening.Refused.TheVariants.{NoMemory};
 ghost use Rattle.role_tables.specs.Roles.{all_laws};
 
 use base_text::put_number;
@@ -42,12 +43,16 @@ pub(crate) enum Refused {
 }
 
 impl From<AllocError> for Refused {
+    ghost from_gives = { λ _ e. e ≡ NoMemory };
+
     fn from(_e: AllocError) -> Refused {
         Refused::NoMemory
     }
 }
 
 impl<T: Drop> From<AllocFailed<T>> for Refused {
+    ghost from_gives = { λ _ e. e ≡ NoMemory };
+
     fn from(_e: AllocFailed<T>) -> Refused {
         Refused::NoMemory
     }

@@ -78,9 +78,10 @@ pub fn run_logged<I: FileSource, O: ByteSink, F: FileSink>(
     requires write_failures { O.failures sink.old < 2 ^ 64 - 1 }
     ensures reads { I.reads source.new ≤ I.reads source.old + 258 * MAX_READS }
     ensures row { O.most_idle sink.new ≤ max (O.most_idle sink.old) MAX_IDLE_WRITES }
-    // A fault comes only where a device failed, a bound was met, or a log can't be written, which is told.
+    // A fault comes only where a device failed, a bound was met, or a log can't be written, which is told of the file
+    // that failed.
     ensures run { IsRun I.reads I.failures O.failures O.idle source.old source.new sink.old sink.new result
-        ⊎ TellsUnwritten O.contents O.failures O.idle sink.old sink.new result }
+        ⊎ TellsUnwritten O.contents O.failures O.idle (F.failed files.new) sink.old sink.new result }
     ensures as_asked { result ≢ Status.Fault
         → IsLoggedMet I.remaining I.reads I.failures O.contents O.failures O.idle F.files words.entry.cut
         (record { steps = not words.entry.quiet; lines = words.entry.sent; totals = words.entry.totals })

@@ -1,17 +1,19 @@
 //! A test bench for Diameter online charging: the program.
 #![tactic(auto)]
 
-ghost use Rattle.std.specs.Prelude.{◌≡◌, ◌<◌, ◌+◌, ◌*◌, ◌-◌, ◌^◌, [], IfSome, map, option_map};
-ghost use Rattle.cmd_words.specs.Words.{Live, wanted, word_faults};
+ghost use Rattle.std.specs.Prelude.{◌≡◌, ◌<◌, ◌+◌, ◌*◌, ◌-◌, ◌^◌, [], IfOk, IfSome, None, map};
+ghost use Rattle.cmd_words.specs.Invocations.{meaning};
+ghost use Rattle.cmd_words.specs.Words.{wanted, word_faults};
+ghost use Rattle.dbench.specs.Living.{AskToLive, live_wanted_by};
 
-use base_device::{ByteSink, Counting, FileSource, Inputs, MAX_READS, Status};
+use base_device::{ByteSink, Counting, FileSource, Inputs, MAX_READS, Status, tell};
 use base_progress::ProgressLine;
 use base_prompt::Prompted;
 use cmd_live::{LiveWords, live, live_one};
 use cmd_run::{log_words, main_on, quiet_words, run_logged, run_quietly, tell_no_words};
-use cmd_words::{Invocation, Task, given_words, parse_words};
+use cmd_words::{Invocation, Task, WordsError, given_words, parse_words};
 use node_logs::Folder;
-use std::alloc::Global;
+use std::alloc::{AllocError, Global};
 use std::convert::AsStr;
 use std::io::IsTerminal;
 use std::process::ExitCode;
@@ -25,15 +27,13 @@ fn is_dialog(words: &[String]) -> bool {
     }
 }
 
-/// What the words of a command line ask `live` for, where they ask for that; the first of them is the program's name.
-fn live_words<'a, S: AsStr>(alloc: Global, words: &'a [S]) -> Option<LiveWords<'a>>
-    ensures asked { IfSome result (λ live. wanted (map S.text words.entry.now)
-        ≡ Live live.config.now (option_map (λ text. text.now) live.node) (option_map (λ text. text.now) live.seconds)
-        (option_map (λ text. text.now) live.log) live.stats) }
-    ensures sound { IfSome result (λ live. word_faults (map S.text words.entry.now) ≡ []) }
+/// The words of `live`, where a command asks for that.
+fn live_in<'a>(task: Task<'a>) -> Option<LiveWords<'a>>
+    ensures some { IfSome result (λ asked. meaning task.entry ≡ live_wanted_by asked) }
+    ensures none { result ≡ None → AskToLive (meaning task.entry) → ⊥ }
 {
-    match parse_words(alloc, words) {
-        Ok(Invocation::Task(Task::Live(config, node, seconds, log, stats))) => Some(LiveWords {
+    match task {
+        Task::Live(config, node, seconds, log, stats) => Some(LiveWords {
             config,
             node,
             seconds,
@@ -41,6 +41,23 @@ fn live_words<'a, S: AsStr>(alloc: Global, words: &'a [S]) -> Option<LiveWords<'
             stats,
         }),
         _ => None,
+    }
+}
+
+/// The words of `live`; None where they are refused or ask for anything else.
+fn live_words<'a, S: AsStr>(
+    alloc: Global,
+    words: &'a [S],
+) -> Result<Option<LiveWords<'a>>, AllocError>
+    ensures asked { IfOk result (λ found. IfSome found (λ asked. (word_faults (map S.text words.entry.now) ≡ [])
+        × (wanted (map S.text words.entry.now) ≡ live_wanted_by asked))) }
+    ensures none { IfOk result (λ found. found ≡ None → word_faults (map S.text words.entry.now) ≡ []
+        → AskToLive (wanted (map S.text words.entry.now)) → ⊥) }
+{
+    match parse_words(alloc, words) {
+        Ok(Invocation::Task(task)) => Ok(live_in(task)),
+        Ok(Invocation::Text(_)) | Err(WordsError::Refused(_)) => Ok(None),
+        Err(WordsError::NoMemory) => Err(AllocError),
     }
 }
 
@@ -57,9 +74,13 @@ fn run_words<I: FileSource, O: ByteSink>(
     requires idle { O.idle sink.old ≡ 0 }
     requires write_failures { O.failures sink.old < 2 ^ 64 - 1 }
 {
-    if let Ok(Some(asked)) = log_words(rt.alloc(), words) {
-        let mut folder = Folder::new(rt, asked.folder);
-        return run_logged(rt.alloc(), asked, source, sink, &mut folder);
+    match log_words(rt.alloc(), words) {
+        Ok(Some(asked)) => {
+            let mut folder = Folder::new(rt, asked.folder);
+            return run_logged(rt.alloc(), asked, source, sink, &mut folder);
+        }
+        Ok(None) => {}
+        Err(AllocError) => return tell(sink, b"no memory\n", Status::NoMemory),
     }
     if rt.stderr().is_terminal() {
         if let Ok(Some(asked)) = quiet_words(rt.alloc(), words) {
@@ -84,7 +105,7 @@ fn main(rt: HostRuntime) -> ExitCode {
             let standard = Prompted::new(rt.stdin(), prompts);
             let mut source = Counting::new(Inputs::new(&rt, standard));
             match live_words(rt.alloc(), &words) {
-                Some(asked) => {
+                Ok(Some(asked)) => {
                     let together = |livings| {
                         thread::map_vec(
                             &rt,
@@ -94,7 +115,8 @@ fn main(rt: HostRuntime) -> ExitCode {
                     };
                     live(&rt, asked, &mut source, &mut sink, &together)
                 }
-                None => run_words(&rt, &words, &mut source, &mut sink),
+                Ok(None) => run_words(&rt, &words, &mut source, &mut sink),
+                Err(AllocError) => tell(&mut sink, b"no memory\n", Status::NoMemory),
             }
         }
         Err(why) => tell_no_words(why, &mut sink),

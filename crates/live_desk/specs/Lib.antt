@@ -3,3 +3,4 @@ pub mod Standing
 pub mod Texts
 pub mod Desks
 pub mod Keys
+pub mod Read

@@ -1,11 +1,13 @@
 //! A desk: which text is the next, and whether its time has come.
-ghost use Rattle.std.specs.Prelude.{◌≡◌, ◌<◌, ◌+◌, ◌^◌, ◌&&◌, ◌||◌, ◌⊎◌, IfOk, IfSome, IsTrue, None, OnErr, OnOk};
-ghost use Rattle.std.specs.Prelude.{map, nat_lt, not, option_copied};
+ghost use Rattle.std.specs.Prelude.{◌≡◌, ◌<◌, ◌+◌, ◌^◌, ◌&&◌, ◌||◌, ◌⊎◌, ℕ, IfErr, IfOk, IfSome, IsTrue, None, OnErr, OnOk};
+ghost use Rattle.std.specs.Prelude.{is_some, map, nat_lt, not, option_copied, true};
 ghost use Rattle.std.specs.List.{list_all};
 ghost use Rattle.live_desk.specs.Desks.{IsDue, LooksInVain, are_answered, count_of, gone_on, is_answered, is_open};
 ghost use Rattle.live_desk.specs.Desks.{is_over, is_pending, is_ready, is_time, next_step, state_name, told_earlier};
 ghost use Rattle.live_desk.specs.Desks.{told_now, told_of, waits, words_of};
+ghost use Rattle.live_desk.specs.Read.{IsFirstBad, can_tell};
 ghost use Rattle.live_desk.specs.Texts.{is_start};
+ghost use Rattle.live_desk.specs.declared.texts.DeskError.TheVariants.{BadText};
 
 use crate::stands::Stands;
 use crate::texts::{DeskError, DeskText, is_start, text_of, told_step};
@@ -148,7 +150,8 @@ fn read_text(
     desk: u32,
     words: &[u8],
 ) -> Result<Option<DeskText>, AllocError>
-    ensures { IfOk result (λ text. IfSome text (λ t. words_of t ≡ words.now)) }
+    ensures words { IfOk result (λ text. IfSome text (λ t. words_of t ≡ words.now)) }
+    ensures could { IfOk result (λ text. is_some text ≡ can_tell core.now desk words.now) }
 {
     let Some(step) = told_step(alloc, core.laws(), desk, words, 1)? else {
         return Ok(None);
@@ -166,7 +169,9 @@ fn read_texts(
     desk: u32,
     lines: &[Octets],
 ) -> Result<Vec<DeskText>, DeskError>
-    ensures { IfOk result (λ texts. map words_of texts.items ≡ lines.now) }
+    ensures words { IfOk result (λ texts. map words_of texts.items ≡ lines.now) }
+    ensures could { OnOk result (list_all (can_tell core.now desk) lines.now ≡ true) }
+    ensures fault { IfErr result (λ f. (place : ℕ) → f ≡ BadText place → IsFirstBad core.now desk lines.now place) }
 {
     let mut texts = Vec::new(alloc);
     for words in lines {
@@ -194,6 +199,10 @@ impl Desk {
         ensures start { IfOk result (λ desk. (desk.number ≡ number)
             × (desk.rounds ≡ rounds) × (desk.round ≡ 1) × (desk.place ≡ 0)
             × (desk.looks ≡ 0) × (desk.patience ≡ patience)) }
+        ensures could { OnOk result (list_all (can_tell core.now number) lines.now ≡ true) }
+        // It is refused for the first text that it can't tell, or for memory.
+        ensures fault { IfErr result (λ f. (place : ℕ) → f ≡ BadText place
+            → IsFirstBad core.now number lines.now place) }
     {
         let texts = read_texts(alloc, core, number, lines)?;
         Ok(Desk {

@@ -1,5 +1,6 @@
 //! What a desk is to tell, read.
-ghost use Rattle.std.specs.Prelude.{◌≡◌, ◌≤◌, ◌++◌, IfOk, IfSome, IsTrue, OnOk, length};
+ghost use Rattle.std.specs.Prelude.{◌≡◌, ◌≤◌, ◌++◌, IfOk, IfSome, IsTrue, OnOk, is_some, length};
+ghost use Rattle.live_desk.specs.Read.{is_told};
 ghost use Rattle.live_desk.specs.Texts.{begins_with_round, in_round, is_start, line_of, step_in, told_step};
 ghost use Rattle.live_desk.specs.declared.texts.DeskError.TheVariants.{NoMemory};
 
@@ -126,7 +127,8 @@ pub(crate) fn text_of(
     words: &[u8],
     step: Step,
 ) -> Result<Option<DeskText>, AllocError>
-    ensures { IfOk result (λ text. IfSome text (λ t. t.words ≡ words.now)) }
+    ensures words { IfOk result (λ text. IfSome text (λ t. t.words ≡ words.now)) }
+    ensures told { IfOk result (λ text. is_some text ≡ is_told step) }
 {
     let Step::Told {
         desk: _,

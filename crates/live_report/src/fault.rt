@@ -1,4 +1,8 @@
 //! Why a node went no further.
+ghost use Rattle.std.specs.Prelude.{◌≡◌};
+ghost use Rattle.live_report.specs.declared.fault.LifeFault.TheVariants.{NoMemory, NoSocket};
+ghost use Rattle.net_sockets.specs.declared.sockets.SocketsFault.TheVariants as sockets;
+
 use net_sockets::SocketsFault;
 use std::alloc::AllocError;
 
@@ -16,12 +20,16 @@ pub enum LifeFault {
 }
 
 impl From<AllocError> for LifeFault {
+    ghost from_gives = { λ _ e. e ≡ NoMemory };
+
     fn from(_e: AllocError) -> LifeFault {
         LifeFault::NoMemory
     }
 }
 
 impl From<SocketsFault> for LifeFault {
+    ghost from_gives = { λ fault e. (fault ≡ sockets.Refused → e ≡ NoSocket) × (fault ≡ sockets.NoMemory → e ≡ NoMemory) };
+
     fn from(fault: SocketsFault) -> LifeFault {
         match fault {
             SocketsFault::Refused => LifeFault::NoSocket,

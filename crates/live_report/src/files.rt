@@ -1,9 +1,9 @@
 //! The files of a node that lived: its log and a CONFIG that opens its bench, and copies of what that names.
-ghost use Rattle.std.specs.Prelude.{◌≡◌, ◌∷◌, [], IfOk, OnOk};
+ghost use Rattle.std.specs.Prelude.{◌≡◌, ◌∷◌, [], IfErr, IfOk, None, Ok, OnOk, false};
 ghost use Rattle.config_json.specs.Json.{config_json};
 ghost use Rattle.live_report.specs.Files.{config_file, own_files};
 ghost use Rattle.node_logs.specs.Files.{with_files};
-ghost use Rattle.node_logs.specs.Logs.{log_file};
+ghost use Rattle.node_logs.specs.Logs.{IsLogFault, log_file};
 
 use crate::paths::{CLIENT, CONFIG, DICTIONARY, PEER, SERVER, beside, name_of, own_files};
 use base_list::Octets;
@@ -40,7 +40,9 @@ fn write_config<F: FileSink>(
     node: &NodeConfig,
     files: &mut F,
 ) -> Result<(), LogError>
-    ensures { OnOk result (F.files files.new ≡ with_files (F.files files.old) (config_file host.now node.now ∷ [])) }
+    ensures written { OnOk result (F.files files.new ≡ with_files (F.files files.old) (config_file host.now node.now ∷ [])) }
+    ensures kept { OnOk result (F.failed files.new ≡ F.failed files.old) }
+    ensures fault { IfErr result (IsLogFault (F.failed files.old) (F.failed files.new)) }
 {
     let name = name_of(alloc, host, CONFIG)?;
     let text = config_of(alloc, host, node)?;
@@ -59,8 +61,10 @@ pub fn write_node<F: FileSink>(
     core: &Core,
     files: &mut F,
 ) -> Result<(), LogError>
-    ensures { OnOk result (F.files files.new
+    ensures written { OnOk result (F.files files.new
         ≡ with_files (F.files files.old) (log_file host.now core.now ∷ config_file host.now node.now ∷ [])) }
+    ensures kept { OnOk result (F.failed files.new ≡ F.failed files.old) }
+    ensures fault { IfErr result (IsLogFault (F.failed files.old) (F.failed files.new)) }
 {
     write_log(alloc, host, core, files)?;
     write_config(alloc, host, node, files)
@@ -175,7 +179,9 @@ pub fn is_unwritten<R: Files>(
     host: &[u8],
     node: &NodeConfig,
     core: &Core,
-) -> Result<bool, AllocError> {
+) -> Result<bool, AllocError>
+    ensures { places.entry ≡ None → result ≡ Ok false }
+{
     let Some(places) = places else {
         return Ok(false);
     };

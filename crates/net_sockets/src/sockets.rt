@@ -1,6 +1,7 @@
 //! All sockets of a bench, and their event loop.
 
 ghost use Rattle.std.specs.Prelude.{◌≡◌, IfOk};
+ghost use Rattle.net_sockets.specs.declared.sockets.SocketsFault.TheVariants.{NoMemory, Refused};
 ghost use Rattle.slab.specs.Slab.{HasRoomFor};
 
 use crate::node::{Node, OnLine};
@@ -39,12 +40,16 @@ pub enum SocketsFault {
 }
 
 impl From<AllocError> for SocketsFault {
+    ghost from_gives = { λ _ e. e ≡ NoMemory };
+
     fn from(_e: AllocError) -> SocketsFault {
         SocketsFault::NoMemory
     }
 }
 
 impl From<io::Error> for SocketsFault {
+    ghost from_gives = { λ _ e. e ≡ Refused };
+
     fn from(_e: io::Error) -> SocketsFault {
         SocketsFault::Refused
     }

@@ -1,5 +1,5 @@
 -- The log of a node as text, and the file in which it stands.
-use Rattle.std.specs.Prelude.{◌==◌, ◌&&◌, not, ℕ, List, [], ◌∷◌, ◌++◌, codes, map, reverse, if◌then◌else◌}
+use Rattle.std.specs.Prelude.{◌≡◌, ◌==◌, ◌&&◌, not, ℕ, List, [], ◌∷◌, ◌++◌, Option, Some, codes, map, reverse, if◌then◌else◌}
 use Rattle.std.specs.List.{flat_map}
 use Rattle.bench_nodes.specs.declared.node.Node.{Node}
 use Rattle.bench_script.specs.Printed.{taken_text}
@@ -7,6 +7,8 @@ use Rattle.bench_spec.specs.Taken.{Run}
 use Rattle.hex.specs.Hex.{encode_lower}
 use Rattle.step_text.specs.Names.{is_plain}
 use Rattle.node_logs.specs.Files.{File}
+use Rattle.node_logs.specs.declared.logs.LogError.{LogError}
+use Rattle.node_logs.specs.declared.logs.LogError.TheVariants.{Failed, NoMemory}
 
 -- the text of a log: all entries, with the names that the bench has at its end
 abbrev pub log_text : Run → List ℕ
@@ -31,3 +33,8 @@ log_of node = log_file node.host node.core
 -- the files of the logs of nodes, from the last to the first: of nodes with one host the first keeps the file
 abbrev pub logs_of : List Node → List File
 logs_of nodes = map log_of (reverse nodes)
+
+-- why logs are not written, by the name of the file that failed last, before and behind: that of this one, or memory ran out
+abbrev pub IsLogFault : (failed failed' : Option (List ℕ)) → LogError → Type 0
+IsLogFault failed failed' (Failed name) = failed' ≡ Some name.items
+IsLogFault failed failed' NoMemory = failed' ≡ failed

@@ -1,7 +1,8 @@
 //! The logs of nodes, written.
-ghost use Rattle.std.specs.Prelude.{◌≡◌, ◌∷◌, [], IfOk, OnOk};
+ghost use Rattle.std.specs.Prelude.{◌≡◌, ◌∷◌, [], IfErr, IfOk, OnOk};
 ghost use Rattle.node_logs.specs.Files.{with_files};
-ghost use Rattle.node_logs.specs.Logs.{file_name, log_file, log_of, logs_of};
+ghost use Rattle.node_logs.specs.Logs.{IsLogFault, file_name, log_file, log_of, logs_of};
+ghost use Rattle.node_logs.specs.declared.logs.LogError.TheVariants.{NoMemory};
 
 use crate::files::{FileError, FileSink};
 use crate::text::{log_text, put_file_name};
@@ -18,6 +19,8 @@ pub enum LogError {
 }
 
 impl From<AllocError> for LogError {
+    ghost from_gives = { λ _ e. e ≡ NoMemory };
+
     fn from(_e: AllocError) -> LogError {
         LogError::NoMemory
     }
@@ -39,7 +42,9 @@ pub fn write_log<F: FileSink>(
     core: &Core,
     files: &mut F,
 ) -> Result<(), LogError>
-    ensures { OnOk result (F.files files.new ≡ with_files (F.files files.old) (log_file host.now core.now ∷ [])) }
+    ensures written { OnOk result (F.files files.new ≡ with_files (F.files files.old) (log_file host.now core.now ∷ [])) }
+    ensures kept { OnOk result (F.failed files.new ≡ F.failed files.old) }
+    ensures fault { IfErr result (IsLogFault (F.failed files.old) (F.failed files.new)) }
 {
     let name = name_of(alloc, host)?;
     let text = log_text(alloc, core)?;
@@ -52,7 +57,9 @@ pub fn write_log<F: FileSink>(
 
 /// Writes the log of a node.
 fn write_node<F: FileSink>(alloc: Global, node: &Node, files: &mut F) -> Result<(), LogError>
-    ensures { OnOk result (F.files files.new ≡ with_files (F.files files.old) (log_of node.now ∷ [])) }
+    ensures written { OnOk result (F.files files.new ≡ with_files (F.files files.old) (log_of node.now ∷ [])) }
+    ensures kept { OnOk result (F.failed files.new ≡ F.failed files.old) }
+    ensures fault { IfErr result (IsLogFault (F.failed files.old) (F.failed files.new)) }
 {
     write_log(alloc, node.host.as_slice(), &node.core, files)
 }
@@ -60,7 +67,9 @@ fn write_node<F: FileSink>(alloc: Global, node: &Node, files: &mut F) -> Result<
 /// Writes the log of each node to the file of its host, from the last node to the first, so that of nodes with one host
 /// the first keeps the file.
 pub fn write_logs<F: FileSink>(alloc: Global, nodes: &[Node], files: &mut F) -> Result<(), LogError>
-    ensures { OnOk result (F.files files.new ≡ with_files (F.files files.old) (logs_of nodes.now)) }
+    ensures written { OnOk result (F.files files.new ≡ with_files (F.files files.old) (logs_of nodes.now)) }
+    ensures kept { OnOk result (F.failed files.new ≡ F.failed files.old) }
+    ensures fault { IfErr result (IsLogFault (F.failed files.old) (F.failed files.new)) }
 {
     let mut left = nodes.len();
     'nodes: while left > 0 {

@@ -1,5 +1,5 @@
 //! Scripts are run on two nodes that charge each other, and what is printed is compared.
-ghost use Rattle.std.specs.Prelude.{None};
+ghost use Rattle.std.specs.Prelude.{None, option_map};
 
 use base_device::{Counting, Status};
 use bench_setup::Setup;
@@ -182,6 +182,7 @@ struct Kept {
     names: Vec<Vec<u8>>,
     texts: Vec<Vec<u8>>,
     room: usize,
+    failed: Option<Vec<u8>>,
 }
 
 impl Kept {
@@ -190,6 +191,7 @@ impl Kept {
             names: Vec::new(alloc),
             texts: Vec::new(alloc),
             room,
+            failed: None,
         }
     }
 
@@ -208,12 +210,15 @@ impl Kept {
 impl FileSink for Kept {
     ghost files = { λ _. None };
 
+    ghost failed = { λ kept. option_map (λ name. name.items) kept.failed };
+
     fn put(&mut self, alloc: Global, name: &[u8], octets: &[u8]) -> Result<(), FileError> {
-        if self.names.len() >= self.room {
-            return Err(FileError::Failed);
-        }
         match (Vec::from_slice(alloc, name), Vec::from_slice(alloc, octets)) {
             (Ok(name), Ok(text)) => {
+                if self.names.len() >= self.room {
+                    self.failed = Some(name);
+                    return Err(FileError::Failed);
+                }
                 if self.names.push(name).is_err() || self.texts.push(text).is_err() {
                     return Err(FileError::NoMemory);
                 }

@@ -1,5 +1,5 @@
 -- A dictionary is copied, one definition after the other.
-use Rattle.std.proofs.Common.{◌≡◌, ◌∙◌, ◌+◌, ◌-◌, ◌++◌, ◌∷◌, ℕ, List, [], Bor, Option, None, Some, ap, arith, false, length, refl, suc, sym, take, true, zero}
+use Rattle.std.proofs.Common.{◌≡◌, ◌∙◌, ◌<◌, ◌+◌, ◌-◌, ◌++◌, ◌∷◌, ℕ, List, [], Bor, Option, None, Some, ap, arith, false, length, refl, suc, sym, take, true, zero}
 use Rattle.std.specs.Prelude.{is_some, option_copied, slice_get}
 use Rattle.std.proofs.lemmas.Option.{same_Some}
 
@@ -22,6 +22,13 @@ front_ends [] zero = refl
 front_ends [] (suc k) = refl
 front_ends (x ∷ xs) zero = refl
 front_ends (x ∷ xs) (suc k) = front_ends xs k
+
+-- where something stands is a place
+pub place_within : {X : Type 0} (xs : List X) (k : ℕ) (x : X) → slice_get xs k ≡ Some x → k < length xs
+place_within [] zero x is = cc
+place_within [] (suc k) x is = cc
+place_within (y ∷ ys) zero x is = omega arith
+place_within (y ∷ ys) (suc k) x is = let below = place_within ys k x is in omega (arith, below)
 
 -- no definition is there yet
 pub front_start : {X : Type 0} (b xs : List X) → [] ≡ take (0 - length b) xs

@@ -1,9 +1,13 @@
 -- What a bench is opened with, copied.
-use Rattle.std.specs.Prelude.{◌≡◌, ◌+◌, ◌-◌, ℕ, Bool, false, true, List, length, take}
+use Rattle.std.specs.Prelude.{◌≡◌, ◌<◌, ◌⊎◌, ◌+◌, ◌-◌, ℕ, Bool, false, true, List, length, take}
 use Rattle.bench_open.specs.declared.config.Config.{Config}
 use Rattle.dia_dict.specs.Base.{base}
+use Rattle.dia_dict.specs.Dictionary.{known}
 use Rattle.dia_dict.specs.declared.definition.Definition.{Definition}
+use Rattle.dia_dict.specs.declared.table.TheConstants.{MAX_DEFINITIONS}
+use Rattle.tab_print.specs.Printed.{printed}
 use Rattle.tab_text.specs.Contents.{Contents}
+use Rattle.tab_text.specs.declared.limits.TheConstants.{MAX_TEXT}
 
 -- the same table, but for the lines on which its rows begin
 abbrev pub IsCopy : Contents → Contents → Type 0
@@ -13,10 +17,27 @@ IsCopy table copy = record copy { lines = table.lines } ≡ table
 abbrev pub front_to : List Definition → (place : ℕ) → List Definition
 front_to added place = take (place - length base) added
 
--- there is a definition at a place, and the copy has all up to it; or there is none, and it has all
+-- there is a definition at a place, and the copy has all up to it
+pub record HasFront (added : List Definition) (place : ℕ) (copy : List Definition) : Type 0 where
+  pub front : copy ≡ front_to added (place + 1)
+  pub within : place < length (known added)
+
+-- that, or there is none, and it has all
 abbrev pub Adds : List Definition → (place : ℕ) → (copy : List Definition) → (there : Bool) → Type 0
-Adds added place copy true = copy ≡ front_to added (place + 1)
+Adds added place copy true = HasFront added place copy
 Adds added place copy false = copy ≡ added
+
+-- a table is not copied: its text is longer than one may be
+abbrev pub IsLong : Contents → Type 0
+IsLong table = MAX_TEXT < length (printed table)
+
+-- a dictionary is not: it has more than one may have
+abbrev pub IsWide : List Definition → Type 0
+IsWide added = MAX_DEFINITIONS < length (known added)
+
+-- so all of a bench is not
+abbrev pub IsUncopied : Config → Type 0
+IsUncopied config = IsLong config.peer ⊎ IsLong config.client ⊎ IsLong config.server ⊎ IsWide config.dictionary
 
 -- all is the same, but for the lines on which rows of tables begin
 pub record IsCopied (config copy : Config) : Type 0 where

@@ -1,8 +1,8 @@
 //! What a bench is opened with, copied: a bench that runs is opened with one, and its parts are gathered on the other.
 #![tactic(auto, using(crate::proofs::CopyLemmas::copying))]
 
-ghost use Rattle.std.specs.Prelude.{◌≡◌, ◌++◌, ◌∷◌, [], IfOk, IfSome, OnOk};
-ghost use Rattle.thread_node.specs.Copied.{Adds, IsCopied, IsCopy, front_to};
+ghost use Rattle.std.specs.Prelude.{◌≡◌, ◌++◌, ◌∷◌, [], IfOk, IfSome, None, OnOk};
+ghost use Rattle.thread_node.specs.Copied.{Adds, IsCopied, IsCopy, IsLong, IsUncopied, IsWide, front_to};
 
 use base_list::Octets;
 use bench_open::Config;
@@ -36,7 +36,8 @@ fn copy_hosts(alloc: Global, hosts: &[Octets]) -> Result<Vec<Octets>, AllocError
 /// The same table, read from its text, in which its rows may stand on other lines; none where the text is longer than
 /// one may be.
 fn copy_table(alloc: Global, table: &Table) -> Result<Option<Table>, AllocError>
-    ensures { IfOk result (λ copy. IfSome copy (IsCopy table.now)) }
+    ensures same { IfOk result (λ copy. IfSome copy (IsCopy table.now)) }
+    ensures none { IfOk result (λ copy. copy ≡ None → IsLong table.now) }
 {
     let text = print(alloc, table)?;
     if text.len() > MAX_TEXT {
@@ -72,7 +73,8 @@ fn add_at(copy: &mut Dictionary, dictionary: &Dictionary, place: usize) -> Resul
 
 /// The same dictionary.
 fn copy_dictionary(alloc: Global, dictionary: &Dictionary) -> Result<Option<Dictionary>, AllocError>
-    ensures { IfOk result (λ copy. IfSome copy (λ c. c ≡ dictionary.now)) }
+    ensures same { IfOk result (λ copy. IfSome copy (λ c. c ≡ dictionary.now)) }
+    ensures none { IfOk result (λ copy. copy ≡ None → IsWide dictionary.now) }
 {
     let mut copy = Dictionary::base(alloc)?;
     for place in 0..MAX_DEFINITIONS + 1 {
@@ -94,17 +96,22 @@ fn copy_identity(alloc: Global, identity: &Identity) -> Result<Identity, AllocEr
     })
 }
 
-/// The same of all that a bench is opened with; in its tables rows may stand on other lines. None where a table's text
-/// is longer than one may be.
+/// The same of all that a bench is opened with; in its tables rows may stand on other lines. None only where a table's
+/// text is longer than one may be, or the dictionary has more definitions.
 pub fn copy_config(alloc: Global, config: &Config) -> Result<Option<Config>, AllocError>
-    ensures { IfOk result (λ copy. IfSome copy (IsCopied config.now)) }
+    ensures same { IfOk result (λ copy. IfSome copy (IsCopied config.now)) }
+    ensures none { IfOk result (λ copy. copy ≡ None → IsUncopied config.now) }
 {
-    let (Some(peer), Some(client), Some(server), Some(dictionary)) = (
-        copy_table(alloc, &config.peer)?,
-        copy_table(alloc, &config.client)?,
-        copy_table(alloc, &config.server)?,
-        copy_dictionary(alloc, &config.dictionary)?,
-    ) else {
+    let Some(peer) = copy_table(alloc, &config.peer)? else {
+        return Ok(None);
+    };
+    let Some(client) = copy_table(alloc, &config.client)? else {
+        return Ok(None);
+    };
+    let Some(server) = copy_table(alloc, &config.server)? else {
+        return Ok(None);
+    };
+    let Some(dictionary) = copy_dictionary(alloc, &config.dictionary)? else {
         return Ok(None);
     };
     Ok(Some(Config {

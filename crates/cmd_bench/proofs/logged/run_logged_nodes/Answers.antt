@@ -9,13 +9,13 @@ use Rattle.cmd_bench.proofs.logged.run_logged_nodes.Goals as goal
 -- a script is run
 pub returns-in-Ok-clause-run : goal.returns-in-Ok-clause-run
 returns-in-Ok-clause-run g c =
-    logged_run g.I.ByteSource.reads g.I.ByteSource.failures g.O.ByteSink.contents g.O.ByteSink.failures g.O.ByteSink.idle g.F.FileSink.files (replicate MAX_SHARDS all_laws) c.args.cut
+    logged_run g.I.ByteSource.reads g.I.ByteSource.failures g.O.ByteSink.contents g.O.ByteSink.failures g.O.ByteSink.idle g.F.FileSink.files g.F.FileSink.failed (replicate MAX_SHARDS all_laws) c.args.cut
     c.in-Ok.ready.setups.items c.in-Ok.ready.script.items c.args.shown c.args.source.now c.read_all_nodes.new.source c.args.sink.now c.run_logged_ready.new.sink c.args.files.now c.run_logged_ready.new.files
     c.run_logged_ready.result c.run_logged_ready.ensures.run c.in-Ok.ensures.sound
 
 pub returns-in-Ok-clause-as_asked : goal.returns-in-Ok-clause-as_asked
 returns-in-Ok-clause-as_asked g c = λ fault.
-    elim (logged_met g.O.ByteSink.contents g.O.ByteSink.failures g.O.ByteSink.idle g.F.FileSink.files (replicate MAX_SHARDS all_laws) c.args.cut
+    elim (logged_met g.O.ByteSink.contents g.O.ByteSink.failures g.O.ByteSink.idle g.F.FileSink.files g.F.FileSink.failed (replicate MAX_SHARDS all_laws) c.args.cut
     c.in-Ok.ready.setups.items c.in-Ok.ready.script.items c.args.shown c.args.sink.now c.run_logged_ready.new.sink c.args.files.now c.run_logged_ready.new.files
     c.run_logged_ready.result c.run_logged_ready.ensures.run fault) [
       | inl logs ↦ inl (record {
@@ -29,7 +29,7 @@ returns-in-Ok-clause-as_asked g c = λ fault.
 
 pub returns-in-Ok-clause-words : goal.returns-in-Ok-clause-words
 returns-in-Ok-clause-words g c =
-    logged_words g.O.ByteSink.contents g.O.ByteSink.failures g.O.ByteSink.idle g.F.FileSink.files (replicate MAX_SHARDS all_laws) c.args.cut
+    logged_words g.O.ByteSink.contents g.O.ByteSink.failures g.O.ByteSink.idle g.F.FileSink.files g.F.FileSink.failed (replicate MAX_SHARDS all_laws) c.args.cut
     c.in-Ok.ready.setups.items c.in-Ok.ready.script.items c.args.shown c.args.sink.now c.run_logged_ready.new.sink c.args.files.now c.run_logged_ready.new.files
     c.run_logged_ready.result c.run_logged_ready.ensures.run
 

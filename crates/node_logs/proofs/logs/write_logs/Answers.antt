@@ -21,6 +21,7 @@ nodes-preserved g c =
     ∙ ap (λ (x : Node). map log_of (reverse (drop c.nodes.left nodes)) ++ log_of x ∷ []) there in
     record {
       within = omega (arith, c.nodes.invariant.within);
-      written = c.in_ok-write_node.ensures ∙ ap (λ w. with_files w (log_of node ∷ [])) c.nodes.invariant.written
+      written = c.in_ok-write_node.ensures.written ∙ ap (λ w. with_files w (log_of node ∷ [])) c.nodes.invariant.written
           ∙ with_more written (map log_of (reverse (drop c.nodes.left nodes))) (log_of node ∷ []) ∙ ap (with_files written) (sym order);
+      kept = c.in_ok-write_node.ensures.kept ∙ c.nodes.invariant.kept;
     }

@@ -1,0 +1,2 @@
+-- The definitions that the contracts of dbench speak of.
+pub mod Living
