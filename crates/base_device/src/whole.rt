@@ -1,5 +1,6 @@
 //! Inputs that are read whole.
-ghost use Rattle.std.specs.Prelude.{◌≡◌, ◌<◌, ◌≤◌, ◌+◌, ◌-◌, ◌^◌, max, length, List, [], ℕ, Some, option_copied, IfOk, IfErr, OnOk};
+ghost use Rattle.std.specs.Prelude.{◌≡◌, ◌<◌, ◌≤◌, ◌+◌, ◌-◌, ◌^◌, max, length, List, [], ℕ, Some, option_copied};
+ghost use Rattle.std.specs.Prelude.{IfOk, IfErr, OnOk};
 ghost use Rattle.base_device.specs.Devices.{failures_after, Tells};
 ghost use Rattle.base_device.specs.Inputs.{
   IsRead,
@@ -174,7 +175,8 @@ fn tell_not_read<O: ByteSink>(alloc: Global, name: &str, sink: &mut O) -> Status
     requires idle { O.idle sink.old ≡ 0 }
     requires failures { O.failures sink.old < 2 ^ 64 - 1 }
     ensures told { (text : List ℕ) × Tells O.contents O.failures O.idle sink.old sink.new text Status.Fault result }
-    ensures said { IsSaid O.contents O.failures O.idle sink.old sink.new (not_read (Some name.now) InputError.Failed) Status.Fault result }
+    ensures said { IsSaid O.contents O.failures O.idle sink.old sink.new (not_read (Some name.now) InputError.Failed)
+        Status.Fault result }
     ensures row { O.most_idle sink.new ≤ max (O.most_idle sink.old) MAX_IDLE_WRITES }
 {
     match not_read_text(alloc, name) {
@@ -193,7 +195,8 @@ pub fn tell_unread<O: ByteSink>(
     requires idle { O.idle sink.old ≡ 0 }
     requires failures { O.failures sink.old < 2 ^ 64 - 1 }
     ensures told { IsToldUnread O.contents O.failures O.idle sink.old sink.new why result }
-    ensures said { IsSaid O.contents O.failures O.idle sink.old sink.new (not_read (option_copied name.entry) why) (unread_status why) result }
+    ensures said { IsSaid O.contents O.failures O.idle sink.old sink.new (not_read (option_copied name.entry) why)
+        (unread_status why) result }
     ensures row { O.most_idle sink.new ≤ max (O.most_idle sink.old) MAX_IDLE_WRITES }
 {
     match (why, name) {

@@ -1,5 +1,6 @@
 -- How many times fell into each bucket, and a percentile of these.
-use Rattle.std.specs.Prelude.{◌≡◌, ◌<◌, ◌≤◌, ℕ, ◌+◌, ◌-◌, ◌*◌, ◌/◌, ◌^◌, ◌==◌, All, List, [], ◌∷◌, Option, None, Some, count_by}
+use Rattle.std.specs.Prelude.{◌≡◌, ◌<◌, ◌≤◌, ℕ, ◌+◌, ◌-◌, ◌*◌, ◌/◌, ◌^◌, ◌==◌, All, List, [], ◌∷◌, Option, None, Some}
+use Rattle.std.specs.Prelude.{count_by}
 use Rattle.std.specs.Prelude.{if◌then◌else◌, length, nat_le, nat_lt, replicate, slice_index, sum}
 use Rattle.base_times.specs.Buckets.{is_in, low_of}
 use Rattle.base_times.specs.declared.bucket.TheConstants.{BUCKETS}

@@ -1,5 +1,6 @@
 //! How many times fell into each bucket.
-ghost use Rattle.std.specs.Prelude.{◌≡◌, ◌≤◌, ◌<◌, ◌-◌, ◌+◌, ◌*◌, ◌^◌, ◌++◌, ◌∷◌, ℕ, List, [], IfOk, IfSome, None, length, sum};
+ghost use Rattle.std.specs.Prelude.{◌≡◌, ◌≤◌, ◌<◌, ◌-◌, ◌+◌, ◌*◌, ◌^◌, ◌++◌, ◌∷◌, ℕ, List, [], IfOk, IfSome, None};
+ghost use Rattle.std.specs.Prelude.{length, sum};
 ghost use Rattle.base_times.specs.Counts.{counted_at};
 ghost use Rattle.base_times.specs.Buckets.{bucket_of};
 ghost use Rattle.base_times.specs.Percentiles.{AreCounts, IsPercentile, no_counts, percentile_of, rank_of, reached};

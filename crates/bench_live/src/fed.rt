@@ -118,8 +118,8 @@ impl Shared {
         Ok(())
     }
 
-    // Drops what a connection lifted, where it is for. Where who drops has no patience nothing comes of it while a shard
-    // is at work.
+    // Drops what a connection lifted, where it is for. Where who drops has no patience nothing comes of it while a
+    // shard is at work.
     fn drop_held<R: Wait>(&self, rt: &R, line: u32, hand: &Hand, patient: bool) -> Turn {
         if !patient && self.is_busy(hand) {
             return Turn::Idle;

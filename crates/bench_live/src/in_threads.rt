@@ -69,8 +69,8 @@ pub trait InThreads<R>: Drop {
     /// How many connections there are.
     fn lines(&self, rt: &R) -> usize;
 
-    /// Says for each connection, from 1 on, whether it sent more than stands in `drawn`, or is closed, as far as `marks`
-    /// reach; and how many connections there are. All is looked at under one lock.
+    /// Says for each connection, from 1 on, whether it sent more than stands in `drawn`, or is closed, as far as
+    /// `marks` reach; and how many connections there are. All is looked at under one lock.
     fn survey(&self, rt: &R, drawn: &[Vec<u8>], marks: &mut [bool]) -> usize;
 
     /// Copies what a connection sent from a place on, as much as there is and fits, to the front of `out`, and says how

@@ -67,8 +67,8 @@ impl Shared {
         }
     }
 
-    /// Says for each connection, from 1 on, whether it sent more than stands in `drawn`, or is closed, as far as `marks`
-    /// reach; and how many connections there are.
+    /// Says for each connection, from 1 on, whether it sent more than stands in `drawn`, or is closed, as far as
+    /// `marks` reach; and how many connections there are.
     pub fn survey<R: Wait>(&self, rt: &R, drawn: &[Vec<u8>], marks: &mut [bool]) -> usize {
         let lines = hold(rt, &self.lines);
         survey_under(&lines, drawn, marks)

@@ -203,8 +203,8 @@ fn wait<R: Wait>(rt: &R, shard: &ShardLock, has_hand: bool, again: bool) -> bool
     slot.ending
 }
 
-/// Carries what a shard put out, and handles its oldest item. Who has nothing to handle waits for a shard that is at work.
-/// Says what is in its hand then, and whether it goes on at once.
+/// Carries what a shard put out, and handles its oldest item. Who has nothing to handle waits for a shard that is at
+/// work. Says what is in its hand then, and whether it goes on at once.
 fn turn<R: Wait + Clock, G: Gate>(
     rt: &R,
     shared: &Shared,

@@ -1,6 +1,7 @@
 //! The operations of deeds, and the outcomes that the account book allows to them.
 
-ghost use Rattle.std.specs.Prelude.{◌≡◌, ◌≤◌, ◌+◌, ◌-◌, ◌++◌, ◌∷◌, [], fold, filter, filter_map, length, max, replicate, IfOk};
+ghost use Rattle.std.specs.Prelude.{◌≡◌, ◌≤◌, ◌+◌, ◌-◌, ◌++◌, ◌∷◌, [], fold, filter, filter_map, length, max};
+ghost use Rattle.std.specs.Prelude.{replicate, IfOk};
 ghost use Rattle.std.specs.Prelude.{OnOk, OnErr, vec_len, vec_capacity};
 ghost use Rattle.acct_book.specs.Book.{after, with_book};
 ghost use Rattle.acct_totals.specs.declared.op.Outcome.TheVariants.{Refused};

@@ -1,5 +1,5 @@
 -- Steps of a bench, one after the other.
-use Rattle.std.proofs.Common.{◌≡◌, ◌++◌, ◌∷◌, ◌∙◌, List, [], Result, Ok, Err, OnErr, OnOk, ap, refl, subst}
+use Rattle.std.proofs.Common.{◌≡◌, ◌<◌, ◌+◌, ◌++◌, ◌∷◌, ◌∙◌, List, [], Result, Ok, Err, OnErr, OnOk, ap, arith, length, length-append, refl, subst}
 use Rattle.bench_item.specs.declared.step.Step.{Step}
 use Rattle.bench_spec.specs.Taken.{Run, Takes, TakesAll}
 use Rattle.bench_node.specs.Going.{Goes}
@@ -43,5 +43,11 @@ goes_refl run = goes_none run run refl
 pub goes_by : {T E : Type 0} (r : Result T E) (old new : Run) (step : Step) → OnOk r (Takes old new step) → OnErr r (new ≡ old) → Goes old new
 goes_by (Ok x) old new step ok err = goes_one old new step ok
 goes_by (Err e) old new step ok err = goes_none old new err
+
+-- a step adds an entry
+pub takes_grow : (old new : Run) (step : Step) → Takes old new step → length old.log < length new.log
+takes_grow old new step taken =
+    let longer : length new.log ≡ length old.log + 1 = ap (λ (run : Run). length run.log) taken.grown ∙ length-append old.log (taken.entry ∷ []) in
+    omega (arith, longer)
 
 pub ruleset going = (goes_refl, goes_on)

@@ -17,3 +17,10 @@ is_closed None = true
 is_closed (Some Closed) = true
 is_closed (Some Open) = false
 is_closed (Some (Dialling peer)) = false
+
+-- a connection is being dialled
+abbrev pub is_dialling : Option LineState → Bool
+is_dialling None = false
+is_dialling (Some Closed) = false
+is_dialling (Some Open) = false
+is_dialling (Some (Dialling peer)) = true

@@ -1,10 +1,10 @@
 -- What a desk tells, and what becomes of it.
-use Rattle.std.specs.Prelude.{◌≡◌, ◌≢◌, ◌⊎◌, ◌-◌, Bool, true, false, Some, length, nat_lt}
+use Rattle.std.specs.Prelude.{◌≡◌, ◌≢◌, ◌⊎◌, ◌-◌, Bool, true, false, None, Some, length, nat_lt}
 use Rattle.bench_item.specs.declared.limit.TheConstants.{MAX_ENTRIES}
 use Rattle.bench_item.specs.declared.step.Step.{Step}
 use Rattle.bench_item.specs.declared.step.StepFault.{StepFault}
 use Rattle.bench_item.specs.declared.step.StepFault.TheVariants.{Full}
-use Rattle.live_desk.specs.Desks.{IsDue, LooksInVain, gone_on}
+use Rattle.live_desk.specs.Desks.{IsDue, LooksInVain, gone_on, next_step}
 use Rattle.live_desk.specs.Standing.{standing_of}
 use Rattle.live_desk.specs.declared.desk.Desk.{Desk}
 use Rattle.bench_node.specs.declared.tell.TheConstants.{KEPT_FREE}
@@ -33,11 +33,25 @@ pub record WentOn (old : Run) (desk : Desk) (new : Run) (desk' : Desk) : Type 0 
   pub tried : IsTried old new step true
   pub behind : desk' ≡ gone_on desk
 
--- a desk stayed where it is: the log is nearly full, it tells no more, its text's time has not come, or there is no
--- room
+-- there is no room for what is due
+pub record HasNoRoom (old : Run) (desk : Desk) : Type 0 where
+  pub step : Step
+  pub due : IsDue (standing_of old) desk step
+  pub full : refusal old.settings old.log old.paused step ≡ Some Full
+
+-- why a desk stays: the log is nearly full, it tells no more, its text's time has not come, or there is no room
+abbrev pub IsHeld : Run → Desk → Desk → Type 0
+IsHeld old desk desk' =
+    (is_nearly_full old ≡ true)
+    ⊎ (next_step old.settings.node.laws desk ≡ None)
+    ⊎ LooksInVain (standing_of old) desk desk'
+    ⊎ HasNoRoom old desk
+
+-- a desk stayed where it is, for such a reason
 pub record Stayed (old : Run) (desk : Desk) (new : Run) (desk' : Desk) : Type 0 where
   pub kept : new ≡ old
   pub stayed : (desk' ≡ desk) ⊎ LooksInVain (standing_of old) desk desk'
+  pub held : IsHeld old desk desk'
 
 abbrev pub Tells : Run → Desk → Run → Desk → (went_on : Bool) → Type 0
 Tells old desk new desk' true = WentOn old desk new desk'

@@ -1,5 +1,7 @@
 //! The connections that are to be dialled.
-ghost use Rattle.std.specs.Prelude.{◌≡◌};
+ghost use Rattle.std.specs.Prelude.{◌≡◌, IfSome, true};
+ghost use Rattle.bench_node.specs.Going.{is_dialling};
+ghost use Rattle.bench_spec.specs.Taken.{shown};
 
 use crate::node::PeerAddress;
 use bench_core::Core;
@@ -72,7 +74,9 @@ impl Dials {
     }
 
     /// The oldest that is still being dialled.
-    pub(crate) fn first(&self, core: &Core) -> Option<WantedDial> {
+    pub(crate) fn first(&self, core: &Core) -> Option<WantedDial>
+        ensures { IfSome result (λ dial. is_dialling ((shown core.now).line_of dial.line) ≡ true) }
+    {
         for place in self.given..self.lines.len() {
             let line = self.lines[place];
             if let Some(LineState::Dialling { peer }) = core.line(line) {

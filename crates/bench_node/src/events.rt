@@ -1,9 +1,10 @@
 //! What happens on the connections of a node.
 #![tactic(auto, using(crate::proofs::GoingLemmas::going))]
 
-ghost use Rattle.std.specs.Prelude.{◌≡◌, ◌<◌, ◌≤◌, ◌+◌, ◌^◌, IfErr, IfSome, None, OnErr, OnOk, drop, length, min, take};
+ghost use Rattle.std.specs.Prelude.{◌≡◌, ◌<◌, ◌≤◌, ◌+◌, ◌^◌, IfErr, IfSome, None, OnErr, OnOk, drop, length, min};
+ghost use Rattle.std.specs.Prelude.{take, true};
 ghost use Rattle.bench_item.specs.declared.step.Step.TheVariants as steps;
-ghost use Rattle.bench_node.specs.Going.{Goes, is_closed};
+ghost use Rattle.bench_node.specs.Going.{Goes, is_closed, is_dialling};
 ghost use Rattle.bench_spec.specs.Lines.{openings};
 ghost use Rattle.bench_spec.specs.Taken.{Takes, fault_of, shown};
 
@@ -110,6 +111,7 @@ impl LiveNode {
 
     /// The dial that is to be made next, if one is; it is told once. One whose peer has no usable address is lost.
     pub fn next_dial(&mut self) -> Option<NextDial>
+        ensures dialling { IfSome result (λ dial. is_dialling ((shown self.new).line_of dial.line) ≡ true) }
         ensures goes { Goes self.old self.new }
         ensures same { self.new.settings ≡ self.old.settings }
     {

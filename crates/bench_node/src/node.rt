@@ -8,7 +8,6 @@ use std::alloc::{AllocError, Global};
 use std::marker::Model;
 use std::net::SocketAddr;
 use tab_step::Stepped;
-use tick_wheel::Wheel;
 
 /// One more than the most connections: they have the numbers from 1 on.
 pub(crate) const LINE_PLACES: usize = 1_025;
@@ -22,16 +21,15 @@ pub struct PeerAddress {
 
 /// A node: a bench, and what is beside it while it lives. A contract sees the bench.
 ///
-/// In: those of `net_sockets::Node`, `advance`, `tell`, `settle`. Looks: `core`.
+/// In: those of `net_sockets::Node`, `fire_all`, `tell`, `settle`. Looks: `core`.
 pub struct LiveNode {
     pub(crate) alloc: Global,
     pub(crate) core: Core,
     // Where a move is decided.
     pub(crate) room: Box<Stepped>,
-    // Of each connection, by its number, whether something happened there since all that it put out was carried.
-    pub(crate) touched: Vec<bool>,
-    // The timers that are armed, over the moments that are handed in.
-    pub(crate) timers: Wheel,
+    // Of each connection, by its number, whether something happened there since it was settled. Those are carried
+    // first; what is left elsewhere, as behind a full inbox, is found without.
+    touched: Vec<bool>,
     pub(crate) dials: Dials,
 }
 
@@ -43,7 +41,6 @@ impl Drop for LiveNode {
             core,
             room,
             touched,
-            timers,
             dials,
         } = self;
     }
@@ -63,7 +60,7 @@ impl Model for LiveNode {
 }
 
 impl LiveNode {
-    /// A node of a bench that was just opened with the laws of all roles, at moment 0.
+    /// A node of a bench that was just opened with the laws of all roles.
     pub fn new(alloc: Global, core: Core, peers: Vec<PeerAddress>) -> Result<LiveNode, AllocError>
         requires { core.settings.node.laws ≡ all_laws }
         ensures { IfOk result (λ node. node ≡ core) }
@@ -73,7 +70,6 @@ impl LiveNode {
             core,
             room: Box::new(alloc, Stepped::new())?,
             touched: vec![in alloc; false; LINE_PLACES]?,
-            timers: Wheel::new(alloc),
             dials: Dials::new(alloc, peers),
         })
     }
@@ -88,7 +84,6 @@ impl LiveNode {
             core,
             room,
             touched,
-            timers,
             dials,
         } = self;
         (core, dials.into_peers())
@@ -110,7 +105,7 @@ impl LiveNode {
         }
     }
 
-    // Whether something happened on a connection since all that it put out was carried.
+    // Whether something happened on a connection since it was settled.
     pub(crate) fn is_touched(&self, line: u32) -> bool {
         match self.touched.get(line as usize) {
             Some(touched) => *touched,
@@ -118,12 +113,10 @@ impl LiveNode {
         }
     }
 
-    // All that a connection put out was carried.
-    pub(crate) fn rest(&mut self, line: u32)
+    // All is settled.
+    pub(crate) fn rest(&mut self)
         ensures { self.new ≡ self.old }
     {
-        if let Some(touched) = self.touched.get_mut(line as usize) {
-            *touched = false;
-        }
+        self.touched.fill(false);
     }
 }

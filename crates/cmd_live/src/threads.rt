@@ -283,8 +283,8 @@ fn live_by<R: Net + Threads + Wait + Clock + Copy + Send + 'static>(
     }
 }
 
-/// Makes the turns of a node whose shards run in threads, with callbacks of its own, which answer by the laws of all roles;
-/// at its end what the threads logged is gathered to its world.
+/// Makes the turns of a node whose shards run in threads, with callbacks of its own, which answer by the laws of all
+/// roles; at its end what the threads logged is gathered to its world.
 pub(crate) fn live_in_threads<R: Net + Threads + Wait + Clock + Copy + Send + 'static>(
     rt: &R,
     alloc: Global,

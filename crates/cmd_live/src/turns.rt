@@ -1,9 +1,10 @@
 //! The loop of a node: timers, desks, sockets.
 #![tactic(auto, using(crate::proofs::LawLemmas::same_laws))]
 
-ghost use Rattle.std.specs.Prelude.{◌≡◌, length};
+ghost use Rattle.std.specs.Prelude.{◌≡◌, ◌⊎◌, OnOk, length};
 ghost use Rattle.std.specs.List.{AllByRecursion as Each};
 ghost use Rattle.bench_node.specs.Going.{Goes};
+ghost use Rattle.bench_node.specs.Settled.{IsFull, IsSettled};
 ghost use Rattle.role_tables.specs.Roles.{all_laws};
 
 use crate::opening::registry_count;
@@ -25,6 +26,7 @@ use std::sync::Wait;
 use std::thread::Threads;
 use std::time::{Duration, Instant};
 use tab_call::Registry;
+use tick_wheel::Wheel;
 
 /// How long a turn waits at most where nothing is under way, in milliseconds.
 pub(crate) const WAIT: u64 = 10;
@@ -72,21 +74,24 @@ fn tell_all(
 /// something was.
 fn stir(
     node: &mut LiveNode,
+    timers: &mut Wheel,
     desks: &mut [Desk],
     registries: &[Registry],
     moment: u64,
 ) -> Result<bool, SocketsFault>
     requires { Each (λ r. r.book ≡ all_laws) registries.now }
-    ensures { Goes node.old node.new }
+    ensures goes { Goes node.old node.new }
+    ensures settled { OnOk result (IsSettled node.new ⊎ IsFull node.new) }
 {
     // There is one for each shard.
     if registries.len() != node.core().shards() {
         return Err(SocketsFault::Refused);
     }
-    let fired = node.advance(registries, moment)?;
+    let due = timers.advance(moment)?;
+    node.fire_all(registries, &due)?;
     let told = tell_all(node, desks, registries)?;
-    let moved = node.settle(registries)?;
-    Ok(fired || told || moved)
+    let moved = node.settle(registries, timers)?;
+    Ok(!due.is_empty() || told || moved)
 }
 
 /// Counts what was added to a log, where it is watched.
@@ -142,6 +147,7 @@ fn turn_all<R: Net + Clock, W: Write>(
     let rt = eye.rt;
     let start = Instant::now(rt)?;
     let mut moment = 0;
+    let mut timers = Wheel::new(eye.alloc);
     for _ in 0..living.turns {
         moment = micros_since(rt, &start, moment);
         let Living {
@@ -153,6 +159,7 @@ fn turn_all<R: Net + Clock, W: Write>(
         look(watch, eye.alloc, sockets.node().node.core(), moment)?;
         let moved = stir(
             &mut sockets.node_mut().node,
+            &mut timers,
             desks,
             registries,
             moment / SECOND,
@@ -182,6 +189,7 @@ fn turn_all<R: Net + Clock, W: Write>(
     look(watch, eye.alloc, sockets.node().node.core(), moment)?;
     stir(
         &mut sockets.node_mut().node,
+        &mut timers,
         desks,
         registries,
         moment / SECOND,
@@ -242,8 +250,8 @@ impl Living {
     }
 }
 
-/// Makes the turns of a node, with callbacks of its own, in one thread or in several; where it is watched, its lines are
-/// written to `terminal`. None where there is no memory for the callbacks.
+/// Makes the turns of a node, with callbacks of its own, in one thread or in several; where it is watched, its lines
+/// are written to `terminal`. None where there is no memory for the callbacks.
 pub fn live_one<R: Net + Threads + Wait + Clock + Copy + Send + 'static, W: Write + Drop>(
     rt: &R,
     alloc: Global,

@@ -1,5 +1,6 @@
 //! A desk: which text is the next, and whether its time has come.
-ghost use Rattle.std.specs.Prelude.{◌≡◌, ◌<◌, ◌+◌, ◌^◌, ◌&&◌, ◌||◌, ◌⊎◌, ℕ, IfErr, IfOk, IfSome, IsTrue, None, OnErr, OnOk};
+ghost use Rattle.std.specs.Prelude.{◌≡◌, ◌<◌, ◌+◌, ◌^◌, ◌&&◌, ◌||◌, ◌⊎◌, ℕ, IfErr, IfOk, IfSome, IsTrue, None, OnErr};
+ghost use Rattle.std.specs.Prelude.{OnOk};
 ghost use Rattle.std.specs.Prelude.{is_some, map, nat_lt, not, option_copied, true};
 ghost use Rattle.std.specs.List.{list_all};
 ghost use Rattle.live_desk.specs.Desks.{IsDue, LooksInVain, are_answered, count_of, gone_on, is_answered, is_open};

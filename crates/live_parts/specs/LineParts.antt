@@ -74,7 +74,8 @@ is_for_lines item = false
 -- why an item is not dropped here: the part is full, or it opens a connection and there are as many as may be
 abbrev pub drop_refusal : LinesPartView → Item → Option CarryFault
 drop_refusal v item =
-    if is_log_full (entries_of v) || (is_dial item && nat_le MAX_LINES (length v.lines)) then Some carrying.Full else None
+    if is_log_full (entries_of v) || (is_dial item && nat_le MAX_LINES (length v.lines)) then Some carrying.Full
+    else None
 
 -- what an item that comes makes of what happened to the connections, and of how many items of each were lifted
 abbrev pub pasts_with : Item → List Past → List Past

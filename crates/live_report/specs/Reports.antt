@@ -36,4 +36,5 @@ unwritten_text host true = codes "node " ++ shown host ++ codes ": its files can
 
 -- what is told of a node
 abbrev pub node_text : Run → (host : List ℕ) → Option LifeFault → (unwritten : Bool) → List ℕ
-node_text run host fault unwritten = report_text run host fault ++ fault_text host fault ++ unwritten_text host unwritten
+node_text run host fault unwritten =
+    report_text run host fault ++ fault_text host fault ++ unwritten_text host unwritten

@@ -28,7 +28,8 @@ impl From<AllocError> for LifeFault {
 }
 
 impl From<SocketsFault> for LifeFault {
-    ghost from_gives = { λ fault e. (fault ≡ sockets.Refused → e ≡ NoSocket) × (fault ≡ sockets.NoMemory → e ≡ NoMemory) };
+    ghost from_gives = { λ fault e. (fault ≡ sockets.Refused → e ≡ NoSocket)
+        × (fault ≡ sockets.NoMemory → e ≡ NoMemory) };
 
     fn from(fault: SocketsFault) -> LifeFault {
         match fault {

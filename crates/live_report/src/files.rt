@@ -40,7 +40,8 @@ fn write_config<F: FileSink>(
     node: &NodeConfig,
     files: &mut F,
 ) -> Result<(), LogError>
-    ensures written { OnOk result (F.files files.new ≡ with_files (F.files files.old) (config_file host.now node.now ∷ [])) }
+    ensures written { OnOk result (F.files files.new
+        ≡ with_files (F.files files.old) (config_file host.now node.now ∷ [])) }
     ensures kept { OnOk result (F.failed files.new ≡ F.failed files.old) }
     ensures fault { IfErr result (IsLogFault (F.failed files.old) (F.failed files.new)) }
 {

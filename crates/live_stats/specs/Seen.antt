@@ -1,5 +1,6 @@
 -- What an entry says of connections, messages and machines.
-use Rattle.std.specs.Prelude.{ℕ, ◌+◌, ◌-◌, ◌*◌, ◌%◌, ◌^◌, ◌==◌, ◌||◌, List, Option, None, Some, if◌then◌else◌, slice_index}
+use Rattle.std.specs.Prelude.{ℕ, ◌+◌, ◌-◌, ◌*◌, ◌%◌, ◌^◌, ◌==◌, ◌||◌, List, Option, None, Some, if◌then◌else◌}
+use Rattle.std.specs.Prelude.{slice_index}
 use Rattle.base_codes.specs.DeedCodes.{number_of}
 use Rattle.base_codes.specs.declared.deed_code.DeedCode.TheVariants.{SndMsg}
 use Rattle.base_codes.specs.declared.message_class.TheConstants.{REQUEST, ANSWER, FAULT}

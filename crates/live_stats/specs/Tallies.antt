@@ -1,5 +1,6 @@
 -- All that is counted, entry by entry.
-use Rattle.std.specs.Prelude.{ℕ, ◌+◌, ◌-◌, ◌==◌, ◌&&◌, not, List, [], fold, if◌then◌else◌, length, replicate, slice_index, slice_set}
+use Rattle.std.specs.Prelude.{ℕ, ◌+◌, ◌-◌, ◌==◌, ◌&&◌, not, List, [], fold, if◌then◌else◌, length, replicate}
+use Rattle.std.specs.Prelude.{slice_index, slice_set}
 use Rattle.base_times.specs.Counts.{more}
 use Rattle.bench_item.specs.declared.entry.Entry.{Entry}
 use Rattle.bench_item.specs.declared.key.Role.{Role}

@@ -2,7 +2,8 @@
 ghost use Rattle.std.specs.Prelude.{◌≡◌, ◌++◌, OnErr, OnOk, IfOk, nat_eq, replicate};
 ghost use Rattle.std.specs.Map.{lookup};
 ghost use Rattle.indexmap.specs.IndexMap.{swap_remove_entry};
-ghost use Rattle.live_stats.specs.Exchanges.{answered, answers_with, at_rest, no_exchange, others_with, requested, timed, waiting_with};
+ghost use Rattle.live_stats.specs.Exchanges.{answered, answers_with, at_rest, no_exchange, others_with, requested};
+ghost use Rattle.live_stats.specs.Exchanges.{timed, waiting_with};
 
 use base_times::{Times, clear, count_at, more};
 use indexmap::IndexMap;

@@ -1,6 +1,7 @@
 //! The text of a line.
 ghost use Rattle.std.specs.Prelude.{◌≡◌, ◌++◌, OnErr, OnOk, decimal, slice_get};
-ghost use Rattle.live_stats.specs.Lines.{answers_text, code_text, codes_text, counts_text, flow_text, line_text, name_of, numbers_text, others_text};
+ghost use Rattle.live_stats.specs.Lines.{answers_text, code_text, codes_text, counts_text, flow_text, line_text};
+ghost use Rattle.live_stats.specs.Lines.{name_of, numbers_text, others_text};
 ghost use Rattle.live_stats.specs.Tallies.{next_second};
 ghost use Rattle.live_stats.specs.Lines.{percentile_text, rate_of, standing_text, state_text, states_text};
 

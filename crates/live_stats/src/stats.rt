@@ -1,6 +1,7 @@
 //! All that is counted, entry by entry.
 ghost use Rattle.std.specs.Prelude.{◌≡◌, OnErr, OnOk, IfOk, replicate, slice_index, slice_set};
-ghost use Rattle.live_stats.specs.Tallies.{began_with, moved_by, noted, noted_by, noted_heard, noted_sent, sessions_after};
+ghost use Rattle.live_stats.specs.Tallies.{began_with, moved_by, noted, noted_by, noted_heard, noted_sent};
+ghost use Rattle.live_stats.specs.Tallies.{sessions_after};
 ghost use Rattle.live_stats.specs.Tallies.{states_after};
 
 use crate::flow::{Flow, zeros};

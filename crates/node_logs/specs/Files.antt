@@ -12,7 +12,8 @@ pub record File : Type 0 where
 abbrev pub with_files : Option (List File) → List File → Option (List File)
 with_files written more = option_map (λ files. files ++ more) written
 
--- why a file is not written, by the name of the file that failed last, before and behind: that of this one, or memory ran out
+-- why a file is not written, by the name of the file that failed last, before and behind: that of this one, or memory
+-- ran out
 abbrev pub IsPutFault : (name : List ℕ) → (failed failed' : Option (List ℕ)) → FileError → Type 0
 IsPutFault name failed failed' Failed = failed' ≡ Some name
 IsPutFault name failed failed' NoMemory = failed' ≡ failed

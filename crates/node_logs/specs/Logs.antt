@@ -1,5 +1,6 @@
 -- The log of a node as text, and the file in which it stands.
-use Rattle.std.specs.Prelude.{◌≡◌, ◌==◌, ◌&&◌, not, ℕ, List, [], ◌∷◌, ◌++◌, Option, Some, codes, map, reverse, if◌then◌else◌}
+use Rattle.std.specs.Prelude.{◌≡◌, ◌==◌, ◌&&◌, not, ℕ, List, [], ◌∷◌, ◌++◌, Option, Some, codes, map, reverse}
+use Rattle.std.specs.Prelude.{if◌then◌else◌}
 use Rattle.std.specs.List.{flat_map}
 use Rattle.bench_nodes.specs.declared.node.Node.{Node}
 use Rattle.bench_script.specs.Printed.{taken_text}
@@ -34,7 +35,8 @@ log_of node = log_file node.host node.core
 abbrev pub logs_of : List Node → List File
 logs_of nodes = map log_of (reverse nodes)
 
--- why logs are not written, by the name of the file that failed last, before and behind: that of this one, or memory ran out
+-- why logs are not written, by the name of the file that failed last, before and behind: that of this one, or memory
+-- ran out
 abbrev pub IsLogFault : (failed failed' : Option (List ℕ)) → LogError → Type 0
 IsLogFault failed failed' (Failed name) = failed' ≡ Some name.items
 IsLogFault failed failed' NoMemory = failed' ≡ failed

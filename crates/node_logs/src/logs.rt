@@ -42,7 +42,8 @@ pub fn write_log<F: FileSink>(
     core: &Core,
     files: &mut F,
 ) -> Result<(), LogError>
-    ensures written { OnOk result (F.files files.new ≡ with_files (F.files files.old) (log_file host.now core.now ∷ [])) }
+    ensures written { OnOk result (F.files files.new
+        ≡ with_files (F.files files.old) (log_file host.now core.now ∷ [])) }
     ensures kept { OnOk result (F.failed files.new ≡ F.failed files.old) }
     ensures fault { IfErr result (IsLogFault (F.failed files.old) (F.failed files.new)) }
 {

@@ -12,6 +12,7 @@ use live_desk::Desk;
 use std::alloc::{AllocError, Global};
 use std::net::{Ipv4Addr, SocketAddr};
 use tab_call::Registry;
+use tick_wheel::Wheel;
 
 /// How many octets are carried at once: messages are cut.
 const PIECE: usize = 17;
@@ -20,6 +21,7 @@ const PIECE: usize = 17;
 #[derive(Drop)]
 pub struct Side {
     pub live: LiveNode,
+    pub timers: Wheel,
     pub desks: Vec<Desk>,
 }
 
@@ -61,7 +63,11 @@ pub fn opened(
     let machine = 0;
     peers.push(PeerAddress { machine, address })?;
     let live = LiveNode::new(alloc, core, peers)?;
-    Ok(Side { live, desks })
+    Ok(Side {
+        live,
+        timers: Wheel::new(alloc),
+        desks,
+    })
 }
 
 // A desk tells.
@@ -76,26 +82,35 @@ fn tell(node: &mut LiveNode, desk: &mut Desk, registries: &[Registry]) -> Result
 }
 
 // The timers of a node that are due fire.
-fn advance(node: &mut LiveNode, registries: &[Registry], moment: u64) -> Result<(), AllocError>
+fn advance(
+    node: &mut LiveNode,
+    timers: &mut Wheel,
+    registries: &[Registry],
+    moment: u64,
+) -> Result<(), AllocError>
     requires { Each (λ r. r.book ≡ all_laws) registries.now }
 {
     if registries.len() != node.core().shards() {
         return Err(AllocError);
     }
-    node.advance(registries, moment)?;
-    Ok(())
+    let due = timers.advance(moment)?;
+    node.fire_all(registries, &due)
 }
 
 /// What a node does of itself at a moment.
 fn stir(side: &mut Side, registries: &[Registry], moment: u64) -> Result<(), AllocError>
     requires { Each (λ r. r.book ≡ all_laws) registries.now }
 {
-    let Side { live, desks } = side;
-    advance(live, registries, moment)?;
+    let Side {
+        live,
+        timers,
+        desks,
+    } = side;
+    advance(live, timers, registries, moment)?;
     for desk in desks.iter_mut() {
         tell(live, desk, registries)?;
     }
-    settle(live, registries)
+    settle(live, timers, registries)
 }
 
 /// Carries what one node sent on line 1, and the other has not got, in small pieces. Says whether there was something.
@@ -122,37 +137,41 @@ struct Got {
 
 // Carries and handles all that waits at both nodes, until nothing moves; a line that one closed is lost at the other.
 fn carry_all(
-    client: &mut LiveNode,
-    server: &mut LiveNode,
+    client: &mut Side,
+    server: &mut Side,
     registries: &[Registry],
     got: &mut Got,
 ) -> Result<(), AllocError>
     requires { Each (λ r. r.book ≡ all_laws) registries.now }
 {
     for _ in 0..100 {
-        let there = carry(client, server, &mut got.by_server);
-        settle(server, registries)?;
-        let back = carry(server, client, &mut got.by_client);
-        settle(client, registries)?;
+        let there = carry(&client.live, &mut server.live, &mut got.by_server);
+        settle(&mut server.live, &mut server.timers, registries)?;
+        let back = carry(&server.live, &mut client.live, &mut got.by_client);
+        settle(&mut client.live, &mut client.timers, registries)?;
         if !there && !back {
             break;
         }
     }
-    if client.is_closed(1) && !server.is_closed(1) {
-        let _ = server.lost(1);
-        settle(server, registries)?;
+    if client.live.is_closed(1) && !server.live.is_closed(1) {
+        let _ = server.live.lost(1);
+        settle(&mut server.live, &mut server.timers, registries)?;
     }
     Ok(())
 }
 
 // Carries and handles all that waits at a node.
-fn settle(node: &mut LiveNode, registries: &[Registry]) -> Result<(), AllocError>
+fn settle(
+    node: &mut LiveNode,
+    timers: &mut Wheel,
+    registries: &[Registry],
+) -> Result<(), AllocError>
     requires { Each (λ r. r.book ≡ all_laws) registries.now }
 {
     if registries.len() != node.core().shards() {
         return Err(AllocError);
     }
-    node.settle(registries)?;
+    node.settle(registries, timers)?;
     Ok(())
 }
 
@@ -201,9 +220,9 @@ fn turn_all(turns: Turns, registries: &[Registry]) -> Result<Vec<u8>, AllocError
     for turn in 0..turns {
         stir(&mut client, registries, 0)?;
         connect(&mut client.live, &mut server.live);
-        settle(&mut client.live, registries)?;
+        settle(&mut client.live, &mut client.timers, registries)?;
         if !is_slow || turn % 2 == 1 {
-            carry_all(&mut client.live, &mut server.live, registries, &mut got)?;
+            carry_all(&mut client, &mut server, registries, &mut got)?;
         }
         put_client(alloc, &mut rows, client.live.core())?;
         put_server(alloc, &mut rows, server.live.core())?;
@@ -247,7 +266,7 @@ fn stand(alone: Alone, registries: &[Registry]) -> Result<Vec<u8>, AllocError>
     for moment in moments {
         stir(&mut client, registries, moment)?;
         let _ = client.live.next_dial();
-        settle(&mut client.live, registries)?;
+        settle(&mut client.live, &mut client.timers, registries)?;
         put_client(alloc, &mut rows, client.live.core())?;
         rows.extend_from_slice(b"\n")?;
     }

@@ -73,7 +73,7 @@ fn hear(heard: Heard, registries: &[Registry]) -> Result<Vec<u8>, AllocError>
         server,
         octets,
     } = heard;
-    let Side { live, desks: _ } = opened(alloc, registries, server, None, 2)?;
+    let Side { live, .. } = opened(alloc, registries, server, None, 2)?;
     let mut node = NodePort { node: live };
     let Some(line) = node.joined() else {
         return Err(AllocError);

@@ -50,8 +50,8 @@ fn desks_of<D: Drop>(alloc: Global, tellers: Vec<Teller<D>>) -> Result<Vec<D>, A
 }
 
 impl<R: Copy, B: InThreads<R>> ThreadNode<R, B> {
-    /// Ends its bench, if it was started, and gathers its parts: its world is then that of what was done. Else it is told
-    /// why there is no such world.
+    /// Ends its bench, if it was started, and gathers its parts: its world is then that of what was done. Else it is
+    /// told why there is no such world.
     pub fn end(&mut self) -> Result<(), GatherFault>
         ensures ends { Ends self.old self.new.run result }
         ensures over { self.new.started ≡ false }

@@ -17,7 +17,8 @@ pub(crate) struct Teller<D> {
 }
 
 /// A node whose shards run in threads, once it is started. A contract sees its world, which stands at its opening until
-/// its parts were gathered, the steps that were fed to its bench, and what its connections sent, as far as it was drawn.
+/// its parts were gathered, the steps that were fed to its bench, and what its connections sent, as far as it was
+/// drawn.
 ///
 /// In: `start`, those of `net_sockets::Node`, `turn`, `end`. Looks: `core`.
 pub struct ThreadNode<R, B: InThreads<R>> {

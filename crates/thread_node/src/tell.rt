@@ -14,8 +14,8 @@ use bench_live::InThreads;
 use bench_node::KEPT_FREE;
 use std::alloc::{AllocError, Global};
 
-/// Where the machines stand by which the time of a desk's next text is told, each looked at under its shard's lock; none
-/// where something that the desk told waits there.
+/// Where the machines stand by which the time of a desk's next text is told, each looked at under its shard's lock;
+/// none where something that the desk told waits there.
 fn board_of<'a, R, B: InThreads<R>>(
     rt: &R,
     alloc: Global,

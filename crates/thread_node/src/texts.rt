@@ -56,8 +56,8 @@ pub(crate) fn length_of(texts: &[Vec<u8>], line: u64) -> usize
     }
 }
 
-/// Copies the text of a connection from a place on, as much as there is and fits, to the front of `buffer`, and says how
-/// much that is.
+/// Copies the text of a connection from a place on, as much as there is and fits, to the front of `buffer`, and says
+/// how much that is.
 pub(crate) fn copy_from(texts: &[Vec<u8>], line: u64, from: usize, buffer: &mut [u8]) -> usize
     ensures within { result ≤ length buffer.new }
     ensures fits { from + result < 2 ^ 64 }

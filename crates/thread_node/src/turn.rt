@@ -8,8 +8,8 @@ use bench_live::InThreads;
 use std::alloc::AllocError;
 
 impl<R: Copy, B: InThreads<R>> ThreadNode<R, B> {
-    /// What it does of itself: desks tell, what connections put out is carried, and what they sent is drawn. Says whether
-    /// something was. Want of memory ends it; what was done until then stays.
+    /// What it does of itself: desks tell, what connections put out is carried, and what they sent is drawn. Says
+    /// whether something was. Want of memory ends it; what was done until then stays.
     pub fn turn(&mut self) -> Result<bool, AllocError>
         ensures { Goes self.old self.new }
     {

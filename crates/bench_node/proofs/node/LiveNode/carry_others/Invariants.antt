@@ -1,7 +1,0 @@
-use Rattle.std.proofs.Common.{◌≡◌}
-use Rattle.bench_node.specs.Going.{Goes}
-use Rattle.bench_node.proofs.node.LiveNode.carry_others.Given as goal
-
--- steps were taken so far, and nothing else
-abbrev pub invariant-desks : goal.invariant-desks
-invariant-desks l = Goes l.initial.self l.self × (l.self.settings ≡ l.initial.self.settings)

@@ -1,9 +1,0 @@
-use Rattle.bench_item.specs.declared.step.Step.TheVariants.{Drop}
-use Rattle.bench_node.proofs.GoingLemmas.{goes_by}
-use Rattle.bench_node.proofs.node.LiveNode.take_drop.Goals as goal
-
--- the step, or none
-pub returns-clause-goes : goal.returns-clause-goes
-returns-clause-goes c =
-    goes_by c.try_drop.result c.args.self.now c.try_drop.new.self (Drop c.args.source)
-    c.try_drop.ensures.ok c.try_drop.ensures.err
