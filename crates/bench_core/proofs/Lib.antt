@@ -17,8 +17,6 @@ pub mod JoinLemmas
 pub mod ToldFaults
 pub mod LookLemmas
 pub mod StartLemmas
-pub mod OpenLemmas
-pub mod NewLemmas
 pub mod RedoneLemmas
 pub mod ReplayLemmas
 pub mod QueueLemmas

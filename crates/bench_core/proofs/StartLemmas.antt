@@ -5,7 +5,7 @@ use Rattle.std.specs.FinMap as map
 use Rattle.std.specs.List.{range_with_len}
 use Rattle.std.proofs.lemmas.Bool.{cases_lt}
 use Rattle.std.proofs.lemmas.List.{length-map, length-replicate}
-use Rattle.std.proofs.lemmas.List.FromFn.{length-map-range_with_len, map-range_with_len_more}
+use Rattle.std.proofs.lemmas.List.FromFn.{length-map-range_with_len}
 use Rattle.acct_book.specs.Book.{Opened}
 use Rattle.bench_item.specs.Keys.{Configured, peers_of}
 use Rattle.bench_queue.specs.Outbox.{OutboxState, OutboxView, nothing_out}
@@ -17,7 +17,8 @@ use Rattle.bench_views.specs.Shards.{outbox_at}
 use Rattle.bench_views.specs.Stored.{EachAt, IsShardAt, IsTied, Stored, source_at}
 use Rattle.bench_views.proofs.Each.{some-same}
 use Rattle.bench_core.specs.Inside.{IsPageAt}
-use Rattle.bench_core.specs.Starting.{AreStanding, page_at_start, pages_at_start, shards_at_start}
+use Rattle.bench_start.specs.Starting.{page_at_start, pages_at_start}
+use Rattle.bench_core.specs.Starting.{AreStanding, shards_at_start}
 use Rattle.bench_core.specs.Whole.{CanGoBack, IsWhole}
 
 -- what is made of each number, by its place
@@ -109,11 +110,6 @@ standing-more peers own n shard so_far own_is shard_is stands settings k less is
       subst (λ (m : ℕ). Stands settings [] (opened m peers)) last
       (subst (λ (p : Configured). Stands settings [] (opened n p)) own_is (subst (Stands settings []) shard_is (stands settings (own_is ∙ is))))
 ]
-
--- one more of a list that is made by numbers
-pub more-by : {X : Type 0} (f : ℕ → X) (n : ℕ) (xs new : List X) (x : X) → xs ≡ map f (range_with_len 0 n) → x ≡ f n → new ≡ xs ++ x ∷ [] → new ≡ map f (range_with_len 0 (n + 1))
-more-by {X} f n xs new x so_far is more =
-    more ∙ ap (λ (ys : List X). ys ++ x ∷ []) so_far ∙ ap (λ (y : X). map f (range_with_len 0 n) ++ y ∷ []) is ∙ sym (map-range_with_len_more f 0 n n (omega arith))
 
 -- each page has its number
 pub each-pages : (count : ℕ) (accounts : List Opened) → EachAt (IsPageAt count) (pages_at_start count accounts)

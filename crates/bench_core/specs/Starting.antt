@@ -1,15 +1,10 @@
--- What the parts of a world are when it is opened.
-use Rattle.std.specs.Prelude.{◌≡◌, ◌<◌, ℕ, List, [], filter, map}
+-- What the shards of a world are when it is opened.
+use Rattle.std.specs.Prelude.{◌≡◌, ◌<◌, ℕ, List, [], map}
 use Rattle.std.specs.List.{range_with_len}
-use Rattle.acct_book.specs.Book.{Opened, Paged}
 use Rattle.bench_item.specs.Keys.{Configured, peers_of}
-use Rattle.bench_open.specs.Given.{opened_as}
-use Rattle.bench_open.specs.declared.config.Config.{Config}
 use Rattle.bench_shard.specs.Stands.{Stands}
 use Rattle.bench_shard.specs.View.{ShardView, opened}
 use Rattle.bench_spec.specs.Settings.{Settings}
-use Rattle.bench_views.specs.Pages.{is_on_page}
-use Rattle.tab_law.specs.Books.{Laws}
 
 -- the shards of a node with these peers
 abbrev pub shards_at_start : Configured → ℕ → List ShardView
@@ -20,31 +15,3 @@ abbrev pub AreStanding : Configured → ℕ → Type 0
 AreStanding peers count =
     (settings : Settings) (number : ℕ) → number < count
     → peers ≡ peers_of settings.node → Stands settings [] (opened number peers)
-
--- a page of the account book, of so many, with its accounts
-abbrev pub page_at_start : ℕ → List Opened → ℕ → Paged
-page_at_start count accounts number = record {
-  number = number;
-  pages = count;
-  book = record { accounts = filter (λ o. is_on_page count number o.id) accounts; journal = [] };
-  room = 0;
-}
-
--- the pages, so many
-abbrev pub pages_at_start : ℕ → List Opened → List Paged
-pages_at_start count accounts = map (page_at_start count accounts) (range_with_len 0 count)
-
--- the settings of a configuration, with these laws
-abbrev pub settings_with : Config → Laws → Settings
-settings_with config laws = record {
-  node = record { laws = laws; peers = config.peers.items; shards = config.shards };
-  peer = config.peer;
-  client = config.client;
-  server = config.server;
-  identity = config.identity;
-  dictionary = config.dictionary;
-  default_units = config.default_units;
-  accounts = map opened_as config.accounts.items;
-  pages = config.pages;
-  desks = config.desks;
-}

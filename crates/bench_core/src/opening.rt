@@ -1,41 +1,25 @@
 //! A world is opened.
-ghost use Rattle.std.specs.Prelude.{◌≡◌, None, Some, IfOk, IfErr, map};
-ghost use Rattle.bench_open.specs.Faults.{IsErrorFor, IsOpeningError, error_of};
+ghost use Rattle.std.specs.Prelude.{◌≡◌, None, IfOk, IfErr, map};
+ghost use Rattle.bench_open.specs.Faults.{IsOpeningError};
 ghost use Rattle.bench_open.specs.Given.{config_of};
 ghost use Rattle.bench_open.specs.Openable.{IsOpenable};
 ghost use Rattle.bench_spec.specs.Opening.{opening_refusal, settings_of};
 ghost use Rattle.bench_spec.specs.Taken.{opened};
-ghost use Rattle.bench_core.specs.Starting.{settings_with};
+ghost use Rattle.bench_start.specs.Starting.{settings_with};
 
 use crate::keeping::Core;
-use crate::parts::{open_outboxes, open_pages, open_peers, open_roles, open_shards};
-use base_list::Octets;
+use crate::parts::{open_outboxes, open_shards};
 use bench_line::Lines;
 use bench_log::Log;
-use bench_open::{Config, OpeningFault, opening_fault};
+use bench_open::{Config, opening_fault};
 use bench_spec::OpeningError;
+use bench_start::{open_pages, open_peers, open_roles, opening_error};
 use bench_undo::UndoLog;
 use line_message::Listener;
 use std::alloc::{AllocError, Global};
 use tab_call::Registry;
 use tab_law::LawBook;
 use tick_wheel::Wheel;
-
-/// The error that tells a fault; want of memory where the name that it tells can't be copied.
-fn error_of(alloc: Global, fault: OpeningFault<'_>) -> OpeningError
-    ensures { IsErrorFor (Some (error_of fault.entry)) result }
-{
-    match fault {
-        OpeningFault::Limits => OpeningError::Limits,
-        OpeningFault::Names => OpeningError::Names,
-        OpeningFault::Laws => OpeningError::Laws,
-        OpeningFault::Unbound(name) => match Octets::from_slice(alloc, name) {
-            Ok(name) => OpeningError::Unbound(name),
-            Err(AllocError) => OpeningError::NoMemory,
-        },
-        OpeningFault::Account => OpeningError::Account,
-    }
-}
 
 impl Core {
     /// A world of a configuration that nothing is in the way of, with these laws.
@@ -87,7 +71,7 @@ impl Core {
         ensures fault { IfErr result (IsOpeningError (config_of config (map (λ r. r.book) registries.now))) }
     {
         if let Some(fault) = opening_fault(&config, registries) {
-            return Err(error_of(alloc, fault));
+            return Err(opening_error(alloc, fault));
         }
         match Core::open(alloc, config, registries[0].laws()) {
             Ok(core) => Ok(core),

@@ -13,13 +13,16 @@ use Rattle.bench_node.specs.declared.node.TheConstants.{LINE_PLACES}
 use Rattle.bench_spec.specs.Lines.{openings}
 use Rattle.bench_spec.specs.Refusal.{refusal}
 use Rattle.bench_spec.specs.Taken.{Run, Takes, fault_of}
-use Rattle.bench_node.specs.Settled.{AreDesksStill, AreIdle, AreLinesStill, AreOthersStill, AreShardsStill, IsRefused, IsSettled, IsStill, Says, Took, Went}
+use Rattle.bench_node.specs.Settled.{AreDesksStill, AreIdle, AreLinesStill, AreOthersStill, AreShardsStill, CanBe, IsRefused, IsSettled, IsStill, Says, Took, Went}
+use Rattle.bench_node.specs.Timed.{Sets}
+use Rattle.tick_wheel.specs.Timers.{Timers}
 use Rattle.bench_node.proofs.GoingLemmas.{takes_grow}
 
 -- what is refused for another reason than want of memory is refused
-refused_for : (r : Option StepFault) (fault : StepFault) → fault ≡ unwrap_or r NoMemory → fault ≢ NoMemory → is_none r ≡ false
-refused_for None fault is other = absurd (other is)
-refused_for (Some reason) fault is other = refl
+refused_for : (run : Run) (step : Step) (r : Option StepFault) (fault : StepFault) → refusal run.settings run.log run.paused step ≡ r
+    → fault ≡ unwrap_or r NoMemory → fault ≢ NoMemory → IsRefused run step
+refused_for run step None fault from is other = absurd (other is)
+refused_for run step (Some reason) fault from is other = record { fault = reason; is = from }
 
 -- a step was taken, or refused
 pub took_by : (r : Result (Unit {0}) StepFault) (a : Result Bool AllocError) (old new : Run) (step : Step) → OnOk r (a ≡ Ok true)
@@ -29,8 +32,27 @@ took_by (Ok _) a old new step sure but taken fault kept =
     subst (λ (b : Result Bool AllocError). IfOk b (λ went. Took step went old new)) (sym sure) taken
 took_by (Err f) (Err e) old new step sure but taken fault kept = tt
 took_by (Err f) (Ok went) old new step sure but taken fault kept =
-    let refused : IsRefused old step = refused_for (refusal old.settings old.log old.paused step) f fault but.1 in
+    let refused : IsRefused old step = refused_for old step (refusal old.settings old.log old.paused step) f refl fault but.1 in
     subst (λ (b : Bool). Took step b old new) (sym but.0) (kept, subst (λ (run : Run). IsRefused run step) (sym kept) refused)
+
+-- what can be taken is taken
+not_both : (run : Run) (step : Step) → CanBe true run step → IsRefused run step → ⊥
+not_both run step could refused =
+    let clash : None ≡ Some refused.fault = sym could ∙ refused.is in
+    absurd cc
+
+-- timers that were made another way where a step could be taken, and then it was
+pub sets_taken : (r : Result Bool AllocError) (old new : Run) (step : Step) (t made u : Timers) → CanBe true old step
+    → IfOk r (λ went. Took step went old new) → u ≡ made → IfOk r (λ went. Sets went t made u)
+sets_taken (Ok true) old new step t made u could took is = is
+sets_taken (Ok false) old new step t made u could took is =
+    absurd (not_both old step could (subst (λ (run : Run). IsRefused run step) took.0 took.1))
+sets_taken (Err e) old new step t made u could took is = tt
+
+-- what a look at its reasons tells
+pub can_be : (run : Run) (step : Step) (r : Option StepFault) → refusal run.settings run.log run.paused step ≡ r → CanBe (is_none r) run step
+can_be run step None is = is
+can_be run step (Some fault) is = record { fault = fault; is = is }
 
 -- and then an entry was added, or it is refused
 pub took_went : (step : Step) (went : Bool) (old new : Run) → Took step went old new → Went (λ run. IsRefused run step) went old new

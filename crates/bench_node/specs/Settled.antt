@@ -1,18 +1,25 @@
 -- When all that waits at a bench was carried and handled, as far as it can be.
-use Rattle.std.specs.Prelude.{◌≡◌, ◌<◌, ◌≤◌, ℕ, Bool, false, true, is_none, length}
+use Rattle.std.specs.Prelude.{◌≡◌, ◌<◌, ◌≤◌, ℕ, Bool, false, true, None, Some, length}
 use Rattle.bench_item.specs.declared.limit.TheConstants.{MAX_ENTRIES}
 use Rattle.bench_item.specs.declared.source.Source.{Source}
 use Rattle.bench_item.specs.declared.source.Source.TheVariants as of
 use Rattle.bench_item.specs.declared.step.Step.{Step}
 use Rattle.bench_item.specs.declared.step.Step.TheVariants as steps
+use Rattle.bench_item.specs.declared.step.StepFault.{StepFault}
 use Rattle.bench_node.specs.declared.node.TheConstants.{LINE_PLACES}
 use Rattle.bench_spec.specs.Lines.{openings}
 use Rattle.bench_spec.specs.Refusal.{refusal}
 use Rattle.bench_spec.specs.Taken.{Run, Takes}
 
--- a step can't be taken
-abbrev pub IsRefused : Run → Step → Type 0
-IsRefused run step = is_none (refusal run.settings run.log run.paused step) ≡ false
+-- a step can't be taken, and why
+pub record IsRefused (run : Run) (step : Step) : Type 0 where
+  pub fault : StepFault
+  pub is : refusal run.settings run.log run.paused step ≡ Some fault
+
+-- whether a step can be taken
+abbrev pub CanBe : (can : Bool) → Run → Step → Type 0
+CanBe true run step = refusal run.settings run.log run.paused step ≡ None
+CanBe false run step = IsRefused run step
 
 -- of what a source put out nothing can be carried
 pub record IsStill (source : Source) (run : Run) : Type 0 where

@@ -1,17 +1,17 @@
 //! An item carried, and what a drop leaves to be dialled or timed.
 #![tactic(auto, using(crate::proofs::GoingLemmas::going, crate::proofs::TimedLemmas::timing))]
 
-ghost use Rattle.std.specs.Prelude.{◌≡◌, ◌≢◌, IfErr, IfOk, None, Ok, OnErr, OnOk, false, is_none, length};
+ghost use Rattle.std.specs.Prelude.{◌≡◌, ◌≢◌, IfErr, IfOk, None, Ok, OnErr, OnOk, false, length};
 ghost use Rattle.std.specs.Prelude.{option_to_list, true};
 ghost use Rattle.std.specs.List.{AllByRecursion as Each};
 ghost use Rattle.bench_item.specs.declared.source.Source.TheVariants.{Shard};
 ghost use Rattle.bench_item.specs.declared.step.Step.TheVariants as steps;
 ghost use Rattle.bench_item.specs.declared.step.StepFault.TheVariants.{NoMemory};
 ghost use Rattle.bench_node.specs.Going.{Goes};
-ghost use Rattle.bench_node.specs.Settled.{IsRefused, IsStill, Took, Went};
+ghost use Rattle.bench_node.specs.Settled.{CanBe, IsRefused, IsStill, Took, Went};
 ghost use Rattle.bench_node.specs.Timed.{IsTimed, LeavesTimers, Sets};
 ghost use Rattle.role_tables.specs.Roles.{all_laws};
-ghost use Rattle.bench_spec.specs.Refusal.{is_source, refusal};
+ghost use Rattle.bench_spec.specs.Refusal.{is_source};
 ghost use Rattle.bench_spec.specs.Taken.{Takes, fault_of, shown};
 ghost use Rattle.tick_wheel.specs.Timers.{after_arm, with_timer_of};
 
@@ -131,7 +131,7 @@ impl LiveNode {
 
     // Whether what lies in a source's hand may be dropped.
     fn can_drop(&self, source: Source) -> bool
-        ensures { result ≡ is_none (refusal self.now.settings self.now.log self.now.paused (steps.Drop source)) }
+        ensures { CanBe result self.now (steps.Drop source) }
     {
         self.core.refusal(&Step::Drop(source)).is_none()
     }

@@ -1,4 +1,3 @@
 -- The definitions that the contracts of cmd_live speak of.
 pub mod Told
 pub mod Met
-pub mod Watched

@@ -4,21 +4,20 @@ ghost use Rattle.cmd_live.specs.Met.{hosts_of, is_wanted, wanted_host};
 
 use crate::opening::{Opened, Opening, Refused, open};
 use crate::places::{Listens, addresses_of, listening_at};
-use crate::turns::Living;
-use crate::watch::Watch;
 use base_list::Octets;
 use base_text::put_number;
+use bench_copy::copy_config;
 use bench_item::is_same_host;
 use bench_node::LiveNode;
 use bench_open::Config;
 use bench_setup::Setup;
 use config_text::NodeConfig;
 use live_report::put_host;
+use live_turns::{Living, Watch};
 use net_sockets::{Sockets, SocketsFault};
 use node_port::NodePort;
 use std::alloc::{AllocError, Global};
 use std::net::Net;
-use thread_node::copy_config;
 
 /// What is told of a node whose sockets the system refuses.
 fn no_socket(alloc: Global, host: &[u8]) -> Result<Refused, AllocError> {

@@ -8,7 +8,7 @@ ghost use Rattle.role_tables.specs.Roles.{all_laws};
 
 use base_text::put_number;
 use bench_core::Core;
-use bench_item::{Key, MAX_SHARDS, Role};
+use bench_item::{Key, Role};
 use bench_node::{LiveNode, PeerAddress, open_bench};
 use bench_open::Config;
 use bench_setup::{WithCalls, with_calls};
@@ -16,6 +16,7 @@ use bench_spec::OpeningError;
 use config_text::{DeskConfig, NodeConfig, PeerConfig};
 use fault_text::unbound_text;
 use live_desk::{Desk, DeskError};
+use live_turns::registry_count;
 use std::alloc::{AllocError, AllocFailed, Global};
 use std::net::SocketAddr;
 use tab_call::Registry;
@@ -205,11 +206,6 @@ impl WithCalls for Opening<'_> {
             Err(error) => Ok(Err(Refused::Told(opening_text(alloc, &registries, &error)?))),
         }
     }
-}
-
-/// How many registries a bench wants.
-pub(crate) fn registry_count(shards: u64) -> usize {
-    shards.min(MAX_SHARDS as u64) as usize
 }
 
 /// Opens a node.

@@ -6,11 +6,11 @@ ghost use Rattle.cmd_live.specs.Told.{AreTold, seconds_of};
 use crate::nodes::{Nodes, nodes_of};
 use crate::opening::Refused;
 use crate::told::{Ended, tell_all};
-use crate::turns::{Lived, Living};
 use base_device::{ByteSink, FileSource, MAX_IDLE_WRITES, MAX_READS, Status, tell};
 use base_text::number_of;
 use bench_setup::{Setup, read_nodes, tell_halt};
 use live_report::Places;
+use live_turns::{Lived, Living};
 use std::alloc::{AllocError, AllocGlobal, Global};
 use std::fs::create_dir_all;
 use std::net::Net;
@@ -115,7 +115,7 @@ fn live_setups<R: Net + Files, F: Fn(Vec<Living>) -> Result<Vec<Option<Lived>>, 
 /// for the turns of CONFIG or so many seconds, and prints of each how many entries its log has,
 /// and what stands on its accounts. Each log is legal.
 ///
-/// `together` has them live side by side, each by `live_one`, and answers them in their order: a thread for each is
+/// `together` has them live side by side, each by `live_one` of `live_threads`, and answers them in their order: a thread for each is
 /// started where the process begins.
 pub fn live<
     R: Net + Files + AllocGlobal,

@@ -2,12 +2,12 @@
 ghost use Rattle.std.specs.Prelude.{◌≡◌, IfOk, OnOk};
 ghost use Rattle.cmd_live.specs.Told.{AreTold, TellsOf, disagreed, failed, worse};
 
-use crate::turns::Lived;
 use base_device::Status;
 use base_list::Octets;
 use bench_core::Core;
 use config_text::NodeConfig;
 use live_report::{LifeFault, Places, is_unwritten, put_node};
+use live_turns::Lived;
 use std::alloc::{AllocError, Global};
 use std::rt::Files;
 

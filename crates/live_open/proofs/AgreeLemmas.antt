@@ -5,7 +5,7 @@ use Rattle.std.specs.List.{AllByRecursion, list_all, range_with_len}
 use Rattle.std.proofs.lemmas.Bool.{and_parts, eqb-true, not-false, or_parts}
 use Rattle.std.proofs.lemmas.List.{length-map}
 use Rattle.std.proofs.lemmas.List.FromFn.{length-range_with_len}
-use Rattle.bench_core.specs.Starting.{page_at_start, pages_at_start}
+use Rattle.bench_start.specs.Starting.{page_at_start, pages_at_start}
 use Rattle.bench_desk.specs.Parts.{PartView}
 use Rattle.bench_item.specs.Keys.{Configured}
 use Rattle.bench_item.specs.Past.{any_after}

@@ -2,7 +2,7 @@
 use Rattle.std.specs.Prelude.{◌≡◌, ◌<◌, ◌≤◌, ℕ, List, [], length, map}
 use Rattle.std.specs.List.{AllByRecursion, range_with_len}
 use Rattle.acct_book.specs.Book.{Paged}
-use Rattle.bench_core.specs.Starting.{pages_at_start}
+use Rattle.bench_start.specs.Starting.{pages_at_start}
 use Rattle.bench_desk.specs.Parts.{PartView}
 use Rattle.bench_item.specs.Keys.{Configured, peers_of}
 use Rattle.bench_item.specs.declared.limit.TheConstants.{MAX_SHARDS}

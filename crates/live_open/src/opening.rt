@@ -1,18 +1,18 @@
 //! The parts of a configuration.
-ghost use Rattle.std.specs.Prelude.{◌≡◌, ◌<◌, None, Some, IfOk, IfErr, length, map};
-ghost use Rattle.bench_core.specs.Starting.{settings_with};
-ghost use Rattle.bench_open.specs.Faults.{IsErrorFor, IsOpeningError, error_of};
+ghost use Rattle.std.specs.Prelude.{◌≡◌, ◌<◌, None, IfOk, IfErr, length, map};
+ghost use Rattle.bench_open.specs.Faults.{IsOpeningError};
 ghost use Rattle.bench_open.specs.Given.{config_of};
 ghost use Rattle.bench_open.specs.Openable.{IsOpenable};
 ghost use Rattle.bench_spec.specs.Opening.{opening_refusal, settings_of};
+ghost use Rattle.bench_start.specs.Starting.{settings_with};
 ghost use Rattle.live_open.specs.Opening.{AreFew, AreOpened, Agree};
 
-use crate::parts::{open_pages, open_peers, open_roles, open_shards};
+use crate::parts::open_shards;
 use acct_book::Page;
-use base_list::Octets;
 use bench_desk::ShardPart;
-use bench_open::{Config, OpeningFault, opening_fault};
+use bench_open::{Config, opening_fault};
 use bench_spec::OpeningError;
+use bench_start::{open_pages, open_peers, open_roles, opening_error};
 use line_message::Listener;
 use live_parts::{ClockPart, LinesPart};
 use std::alloc::{AllocError, Global};
@@ -28,22 +28,6 @@ pub struct Opened {
     pub lines: LinesPart,
     pub clock: ClockPart,
     pub desks: u32,
-}
-
-/// The error that tells a fault; want of memory where the name that it tells can't be copied.
-fn error_of(alloc: Global, fault: OpeningFault<'_>) -> OpeningError
-    ensures { IsErrorFor (Some (error_of fault.entry)) result }
-{
-    match fault {
-        OpeningFault::Limits => OpeningError::Limits,
-        OpeningFault::Names => OpeningError::Names,
-        OpeningFault::Laws => OpeningError::Laws,
-        OpeningFault::Unbound(name) => match Octets::from_slice(alloc, name) {
-            Ok(name) => OpeningError::Unbound(name),
-            Err(AllocError) => OpeningError::NoMemory,
-        },
-        OpeningFault::Account => OpeningError::Account,
-    }
 }
 
 impl Opened {
@@ -99,7 +83,7 @@ impl Opened {
         ensures fault { IfErr result (IsOpeningError (config_of config (map (λ r. r.book) registries.now))) }
     {
         if let Some(fault) = opening_fault(&config, registries) {
-            return Err(error_of(alloc, fault));
+            return Err(opening_error(alloc, fault));
         }
         match Opened::open(alloc, config, registries[0].laws()) {
             Ok(opened) => Ok(opened),

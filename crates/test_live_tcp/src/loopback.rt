@@ -3,7 +3,9 @@
 use base_device::{Counting, Inputs, Status};
 use bench_setup::{Setup, read_nodes};
 use cmd_bench::{Shown, run_on};
-use cmd_live::{LiveWords, Lived, Living, live, live_one};
+use cmd_live::{LiveWords, live};
+use live_threads::live_one;
+use live_turns::{Lived, Living};
 use std::alloc::{AllocError, Global};
 use std::net::{Ipv4Addr, SocketAddr, TcpListener};
 use std::test::Fail;

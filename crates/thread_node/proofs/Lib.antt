@@ -2,4 +2,3 @@ pub mod TextLemmas
 pub mod GoingLemmas
 pub mod TellLemmas
 pub mod EndLemmas
-pub mod CopyLemmas

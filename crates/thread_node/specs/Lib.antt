@@ -3,4 +3,3 @@ pub mod Nodes
 pub mod Boards
 pub mod Told
 pub mod Ended
-pub mod Copied

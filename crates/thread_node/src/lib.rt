@@ -14,12 +14,10 @@
 //! | `turn` | all that it does of itself |
 //! | `wakes` | a worker wakes the sockets |
 //! | `end` | the bench ends, and its parts are gathered |
-//! | `copied` | what a bench is opened with, copied |
 #![tactic(auto)]
 
 mod board;
 mod carry;
-mod copied;
 mod draw;
 mod end;
 mod feed;
@@ -31,6 +29,5 @@ mod texts;
 mod turn;
 mod wakes;
 
-pub use copied::copy_config;
 pub use node::ThreadNode;
 pub use wakes::Wakes;

@@ -1,6 +1,7 @@
 use Rattle.std.proofs.Common.{ap, ◌∙◌}
 use Rattle.bench_shard.specs.View.{opened}
-use Rattle.bench_core.proofs.StartLemmas.{more-by, standing-more}
+use Rattle.bench_start.proofs.ListLemmas.{more-by}
+use Rattle.bench_core.proofs.StartLemmas.{standing-more}
 use Rattle.bench_core.proofs.parts.open_shards.Goals as goal
 
 pub loop-number-preserved : goal.loop-number-preserved

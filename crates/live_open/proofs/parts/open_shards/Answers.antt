@@ -1,6 +1,6 @@
 use Rattle.std.proofs.Common.{[], ap, ◌∙◌}
 use Rattle.std.specs.Arc.{arc_value}
-use Rattle.bench_core.proofs.StartLemmas.{more-by}
+use Rattle.bench_start.proofs.ListLemmas.{more-by}
 use Rattle.bench_desk.specs.Parts.{PartView}
 use Rattle.bench_move.specs.Tables.{Tables}
 use Rattle.bench_shard.specs.View.{ShardView, opened}

@@ -8,13 +8,13 @@ use Rattle.bench_open.proofs.OpenableLemmas.{can-open}
 use Rattle.bench_spec.specs.Opening.{opening_refusal}
 use Rattle.bench_spec.specs.Taken.{opened}
 use Rattle.bench_spec.specs.declared.opening.OpeningError.{OpeningError}
-use Rattle.bench_core.specs.Starting.{settings_with}
-use Rattle.bench_core.proofs.NewLemmas.{registry-there}
+use Rattle.bench_start.specs.Starting.{settings_with}
+use Rattle.bench_start.proofs.NewLemmas.{registry-there}
 use Rattle.bench_core.proofs.keeping.Core.new.Goals as goal
 
 pub returns-in-Some-clause-fault : goal.returns-in-Some-clause-fault
 returns-in-Some-clause-fault g c =
-    subst (λ (r : Option OpeningError). IsErrorFor r c.error_of.result) (ap (option_map error_of) (sym c.in-Some.is) ∙ c.opening_fault.ensures) c.error_of.ensures
+    subst (λ (r : Option OpeningError). IsErrorFor r c.opening_error.result) (ap (option_map error_of) (sym c.in-Some.is) ∙ c.opening_fault.ensures) c.opening_error.ensures
 
 pub bounds-registries-0 : goal.bounds-registries-0
 bounds-registries-0 g c =

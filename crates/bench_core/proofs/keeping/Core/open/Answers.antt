@@ -1,6 +1,6 @@
 use Rattle.std.proofs.Common.{[], ap, map, refl}
 use Rattle.bench_open.specs.Given.{opened_as}
-use Rattle.bench_core.specs.Starting.{settings_with}
+use Rattle.bench_start.specs.Starting.{settings_with}
 use Rattle.bench_core.proofs.StartLemmas.{each-pages, none-paused, start-whole}
 use Rattle.bench_core.proofs.keeping.Core.open.Goals as goal
 

@@ -1,4 +1,4 @@
-use Rattle.cmd_live.proofs.LawLemmas.{laws_there}
+use Rattle.live_turns.proofs.LawLemmas.{laws_there}
 use Rattle.cmd_live.proofs.opening.OpeningWithCalls.run.Goals as goal
 
 -- the callbacks that are handed in have the laws of all roles

@@ -1,0 +1,2 @@
+-- The definitions that the contracts of bench_copy speak of.
+pub mod Copied

@@ -1,5 +1,0 @@
-use Rattle.std.proofs.Common.{◌≡◌, take}
-use Rattle.bench_core.proofs.parts.open_peers.Given as goal
-
-abbrev pub invariant-loop-host : goal.invariant-loop-host
-invariant-loop-host l = l.peers ≡ record { hosts = take l.host-index l.hosts; shards = l.shards }

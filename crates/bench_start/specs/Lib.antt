@@ -1,0 +1,2 @@
+-- The definitions that the contracts of bench_start speak of.
+pub mod Starting

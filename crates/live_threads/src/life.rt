@@ -1,0 +1,24 @@
+//! A node lives, in one thread or in several.
+
+use crate::threads::{live_in_threads, threads_of};
+use live_turns::{Lived, Living, live_in_turns};
+use std::alloc::Global;
+use std::io::Write;
+use std::net::Net;
+use std::rt::Clock;
+use std::sync::Wait;
+use std::thread::Threads;
+
+/// Makes the turns of a node, with callbacks of its own, in one thread or in several; where it is watched, its lines
+/// are written to `terminal`. None where there is no memory for the callbacks.
+pub fn live_one<R: Net + Threads + Wait + Clock + Copy + Send + 'static, W: Write + Drop>(
+    rt: &R,
+    alloc: Global,
+    terminal: W,
+    living: Living,
+) -> Option<Lived> {
+    if threads_of(&living) > 0 {
+        return live_in_threads(rt, alloc, living).ok();
+    }
+    live_in_turns(rt, alloc, terminal, living).ok()
+}

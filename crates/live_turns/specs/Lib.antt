@@ -1,0 +1,2 @@
+-- The definitions that the contracts of live_turns speak of.
+pub mod Watched

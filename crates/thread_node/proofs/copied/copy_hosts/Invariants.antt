@@ -1,6 +1,0 @@
-use Rattle.std.proofs.Common.{◌≡◌, take}
-use Rattle.thread_node.proofs.copied.copy_hosts.Given as goal
-
--- the hosts so far were copied
-abbrev pub invariant-loop-host : goal.invariant-loop-host
-invariant-loop-host l = l.copies.items ≡ take l.host-index l.hosts
