@@ -50,8 +50,8 @@ pub fn read_named<I: FileSource>(
     }
 }
 
-/// The text of a file that CONFIG names.
-fn read_beside<I: FileSource>(
+/// The text of a file that CONFIG names: it stands beside CONFIG, unless its name begins at the root.
+pub fn read_beside<I: FileSource>(
     alloc: Global,
     config: &str,
     name: &Octets,

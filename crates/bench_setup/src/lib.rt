@@ -18,5 +18,5 @@ mod setups;
 
 pub use calls::{WithCalls, with_calls};
 pub use halt::{Halt, tell_halt};
-pub use inputs::read_named;
+pub use inputs::{read_beside, read_named};
 pub use setups::{MAX_NODES, Setup, read_first, read_nodes};

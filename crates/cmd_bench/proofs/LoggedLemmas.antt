@@ -8,8 +8,9 @@ use Rattle.base_device.specs.declared.status.Status.TheVariants as statuses
 use Rattle.bench_nodes.specs.declared.node.Node.{Node}
 use Rattle.bench_setup.specs.declared.setups.Setup.{Setup}
 use Rattle.node_logs.specs.Files.{File}
+use Rattle.node_logs.specs.Logs.{unwritten_text}
 use Rattle.tab_law.specs.Books.{Laws}
-use Rattle.cmd_bench.specs.Logged.{IsLoggedRunOn, IsToldEnded, LogsTold, TellsUnwritten, unwritten_text}
+use Rattle.cmd_bench.specs.Logged.{IsLoggedRunOn, IsToldEnded, LogsTold, TellsUnwritten}
 use Rattle.cmd_bench.specs.Nodes.{IsNodesRun}
 use Rattle.cmd_bench.specs.declared.shown.Shown.{Shown}
 use Rattle.cmd_bench.proofs.EndLemmas.{status_is, told_run, told_words}

@@ -1,5 +1,5 @@
 -- What is told of a script's run on all nodes of a CONFIG, whose logs are written.
-use Rattle.std.specs.Prelude.{◌≡◌, ◌⊎◌, ℕ, Bool, true, false, List, ◌++◌, codes, replicate, Option, Some}
+use Rattle.std.specs.Prelude.{◌≡◌, ◌⊎◌, ℕ, Bool, true, false, List, codes, replicate, Option, Some}
 use Rattle.base_device.specs.Devices.{Tells}
 use Rattle.base_device.specs.Tellings.{told_status}
 use Rattle.base_device.specs.declared.status.Status.{Status}
@@ -8,7 +8,7 @@ use Rattle.bench_item.specs.declared.limit.TheConstants.{MAX_SHARDS}
 use Rattle.bench_nodes.specs.declared.node.Node.{Node}
 use Rattle.bench_setup.specs.declared.setups.Setup.{Setup}
 use Rattle.node_logs.specs.Files.{File, with_files}
-use Rattle.node_logs.specs.Logs.{logs_of}
+use Rattle.node_logs.specs.Logs.{logs_of, unwritten_text}
 use Rattle.node_logs.specs.declared.logs.LogError.{LogError}
 use Rattle.node_logs.specs.declared.logs.LogError.TheVariants.{Failed, NoMemory}
 use Rattle.role_tables.specs.Roles.{all_laws}
@@ -23,11 +23,7 @@ abbrev pub with_logs : Option (List File) → Bool → List Node → Option (Lis
 with_logs written true nodes = written
 with_logs written false nodes = with_files written (logs_of nodes)
 
--- which log can't be written
-abbrev pub unwritten_text : (name : List ℕ) → List ℕ
-unwritten_text name = codes "write fault: " ++ name ++ codes " can't be written\n"
-
--- that is told, as a fault: of the file that failed
+-- which log can't be written is told, as a fault: the file that failed
 pub record TellsUnwritten {O : Type 0} (contents : O → Option (List ℕ)) (failures idle : O → ℕ)
     (failed : Option (List ℕ)) (sink sink' : O) (answer : Status) : Type 0 where
   pub name : List ℕ

@@ -1,27 +1,16 @@
 //! All nodes of a CONFIG opened, a script run on them, their logs written to files, and that told.
-ghost use Rattle.std.specs.Prelude.{◌≡◌, ◌≢◌, ◌⊎◌, ◌<◌, ◌≤◌, ◌+◌, ◌-◌, ◌*◌, ◌^◌, IfOk, max, replicate};
+ghost use Rattle.std.specs.Prelude.{◌≡◌, ◌≢◌, ◌⊎◌, ◌<◌, ◌≤◌, ◌+◌, ◌-◌, ◌*◌, ◌^◌, max, replicate};
 ghost use Rattle.base_device.specs.Devices.{IsRun};
 ghost use Rattle.role_tables.specs.Roles.{all_laws};
 ghost use Rattle.cmd_bench.specs.Logged.{IsLoggedMet, IsLoggedRunOn, IsToldEnded, IsToldWhy, TellsUnwritten};
-ghost use Rattle.cmd_bench.specs.Logged.{unwritten_text};
 
 use crate::nodes::{AllReady, Ended, read_all_nodes, run_setups};
 use crate::shown::Shown;
 use base_device::{ByteSink, FileSource, MAX_IDLE_WRITES, MAX_READS, Status, tell};
 use bench_item::MAX_SHARDS;
 use bench_setup::{Setup, tell_halt};
-use node_logs::{FileSink, LogError, write_logs};
+use node_logs::{FileSink, LogError, unwritten_text, write_logs};
 use std::alloc::{AllocError, Global};
-
-/// Which log can't be written.
-fn unwritten_text(alloc: Global, name: &[u8]) -> Result<Vec<u8>, AllocError>
-    ensures { IfOk result (λ text. text.items ≡ unwritten_text name.now) }
-{
-    let mut text = Vec::from_slice(alloc, b"write fault: ")?;
-    text.extend_from_slice(name)?;
-    text.extend_from_slice(b" can't be written\n")?;
-    Ok(text)
-}
 
 /// Tells why logs are not written.
 fn tell_unwritten<O: ByteSink>(alloc: Global, error: LogError, sink: &mut O) -> Status

@@ -4,17 +4,22 @@ use Rattle.std.proofs.lemmas.List.{take_more}
 use Rattle.base_device.specs.Devices.{Tells}
 use Rattle.base_device.specs.declared.status.Status.{Status}
 use Rattle.base_device.specs.declared.status.Status.TheVariants as statuses
+use Rattle.config_text.specs.declared.node.NodeConfig.{NodeConfig}
 use Rattle.live_report.specs.declared.fault.LifeFault.{LifeFault}
 use Rattle.live_report.specs.declared.fault.LifeFault.TheVariants as faults
+use Rattle.node_logs.specs.Files.{File}
 use Rattle.cmd_live.specs.Told.{AreTold, TellsOf, disagreed, failed, nothing, one_more, worse}
 
--- the next of hosts is told of
-pub told_next : (hosts : List (List ℕ)) (i : ℕ) (host other read text text' : List ℕ) (status status' : Status) → i < length hosts → host ≡ get_or hosts i other
-    → read ≡ host → AreTold (take i hosts) text status → TellsOf read text text' status status' → AreTold (take (i + 1) hosts) text' status'
-told_next hosts i host other read text text' status status' within is same told one =
-    subst (λ (hs : List (List ℕ)). AreTold hs text' status')
-    (ap (λ (h : List ℕ). take i hosts ++ h ∷ []) (same ∙ is) ∙ sym (take_more hosts i other within))
-    (one_more (take i hosts) read text text' status status' told one)
+-- the next of nodes is told of
+pub told_next : (is_logged : Bool) (written before after : Option (List File)) (first failed_before failed_after : Option (List ℕ)) (nodes : List NodeConfig) (i : ℕ)
+    (node other : NodeConfig) (text text' : List ℕ) (status status' : Status) → i < length nodes → node ≡ get_or nodes i other
+    → AreTold is_logged written first (take i nodes) text status before failed_before
+    → TellsOf is_logged node text text' status status' before after failed_before failed_after
+    → AreTold is_logged written first (take (i + 1) nodes) text' status' after failed_after
+told_next is_logged written before after first failed_before failed_after nodes i node other text text' status status' within is told one =
+    subst (λ (ns : List NodeConfig). AreTold is_logged written first ns text' status' after failed_after)
+    (ap (λ (n : NodeConfig). take i nodes ++ n ∷ []) is ∙ sym (take_more nodes i other within))
+    (one_more (take i nodes) node text text' status status' before after failed_before failed_after told one)
 
 failed_unlike : (status : Status) → failed status ≡ statuses.Usage → ⊥
 failed_unlike statuses.NoMemory is = cc
@@ -41,10 +46,11 @@ worse_unlike status None true unlike is = failed_unlike status is
 worse_unlike status None false unlike is = unlike is
 
 -- what is told of nodes asks for no other words
-told_unlike : (hosts : List (List ℕ)) (text : List ℕ) (status : Status) → AreTold hosts text status → status ≡ statuses.Usage → ⊥
-told_unlike hosts text status nothing is = cc
-told_unlike hosts text status (one_more front host before after first last told one) is =
-    worse_unlike first one.fault one.unwritten (told_unlike front before first told) (sym one.status_is ∙ is)
+told_unlike : (is_logged : Bool) (written : Option (List File)) (before : Option (List ℕ)) (written' : Option (List File)) (failed' : Option (List ℕ)) (nodes : List NodeConfig) (text : List ℕ) (status : Status)
+    → AreTold is_logged written before nodes text status written' failed' → status ≡ statuses.Usage → ⊥
+told_unlike is_logged written before written' failed' nodes text status nothing is = cc
+told_unlike is_logged written before written' failed' nodes text status (one_more front node shown more first last mid end mid_failed end_failed told one) is =
+    worse_unlike first one.fault one.unwritten (told_unlike is_logged written before mid mid_failed front shown first told) (sym one.status_is ∙ is)
 
 -- what is told with a status that asks for no other words
 pub tells_unlike : {O : Type 0} (contents : O → Option (List ℕ)) (write_failures idle : O → ℕ) (sink sink' : O) (text : List ℕ) (status answer : Status)
@@ -52,7 +58,8 @@ pub tells_unlike : {O : Type 0} (contents : O → Option (List ℕ)) (write_fail
 tells_unlike contents write_failures idle sink sink' text status answer (inl (whole, is)) unlike usage = unlike (sym is ∙ usage)
 tells_unlike contents write_failures idle sink sink' text status answer (inr (cause, is)) unlike usage = let faulted : statuses.Fault ≡ statuses.Usage = sym is ∙ usage in cc
 
-pub tells_nodes : {O : Type 0} (contents : O → Option (List ℕ)) (write_failures idle : O → ℕ) (sink sink' : O) (hosts : List (List ℕ)) (text : List ℕ) (status answer : Status)
-    → AreTold hosts text status → Tells contents write_failures idle sink sink' text status answer → answer ≡ statuses.Usage → ⊥
-tells_nodes contents write_failures idle sink sink' hosts text status answer told tells =
-    tells_unlike contents write_failures idle sink sink' text status answer tells (told_unlike hosts text status told)
+pub tells_nodes : {O : Type 0} (contents : O → Option (List ℕ)) (write_failures idle : O → ℕ) (sink sink' : O) (is_logged : Bool) (written written' : Option (List File))
+    (before failed' : Option (List ℕ)) (nodes : List NodeConfig) (text : List ℕ) (status answer : Status)
+    → AreTold is_logged written before nodes text status written' failed' → Tells contents write_failures idle sink sink' text status answer → answer ≡ statuses.Usage → ⊥
+tells_nodes contents write_failures idle sink sink' is_logged written written' before failed' nodes text status answer told tells =
+    tells_unlike contents write_failures idle sink sink' text status answer tells (told_unlike is_logged written before written' failed' nodes text status told)

@@ -1,3 +1,5 @@
 -- The definitions that the contracts of cmd_live speak of.
+pub mod Nodes
 pub mod Told
+pub mod Stops
 pub mod Met

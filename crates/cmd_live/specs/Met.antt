@@ -1,82 +1,94 @@
--- What `live` does: nodes live and are told of, or something is refused before.
-use Rattle.std.specs.Prelude.{◌≡◌, ◌<◌, ◌⊎◌, ◌∷◌, ℕ, Bool, true, List, [], Option, None, Some, codes, flat_map}
-use Rattle.std.specs.Prelude.{length, if◌then◌else◌}
+-- What `live` does: nodes live and are told of, or something stands in the way before.
+use Rattle.std.specs.Prelude.{◌≡◌, ◌<◌, ◌⊎◌, ℕ, Bool, false, true, List, Option, None, codes, length}
 use Rattle.base_device.specs.Devices.{Tells}
 use Rattle.base_device.specs.declared.status.Status.{Status}
 use Rattle.base_device.specs.declared.status.Status.TheVariants as statuses
-use Rattle.bench_item.specs.Peers.{is_same_host}
 use Rattle.bench_setup.specs.Halts.{IsHalt, IsToldHalt}
 use Rattle.bench_setup.specs.Setups.{AreSetupsFrom}
 use Rattle.bench_setup.specs.declared.halt.Halt.{Halt}
 use Rattle.bench_setup.specs.declared.setups.Setup.{Setup}
+use Rattle.cmd_live.specs.Nodes.{nodes_of}
+use Rattle.cmd_live.specs.Stops.{IsStop, IsToldStop}
 use Rattle.cmd_live.specs.Told.{AreTold, seconds_of}
+use Rattle.cmd_live.specs.declared.stop.Stop.{Stop}
+use Rattle.config_text.specs.declared.node.NodeConfig.{NodeConfig}
+use Rattle.live_report.specs.Copies.{AllCopied}
+use Rattle.node_logs.specs.Files.{File}
 
--- whether a node is to live: all are, or the one of a host
-abbrev pub is_wanted : Option (List ℕ) → Setup → Bool
-is_wanted None setup = true
-is_wanted (Some host) setup = is_same_host setup.node.identity.host host
-
--- the host of a node, if it is to live
-abbrev pub wanted_host : Option (List ℕ) → Setup → List (List ℕ)
-wanted_host host setup = if is_wanted host setup then setup.node.identity.host ∷ [] else []
-
--- the hosts of the nodes that are to live, in the order of CONFIG
-abbrev pub hosts_of : Option (List ℕ) → List Setup → List (List ℕ)
-hosts_of host setups = flat_map (wanted_host host) setups
-
--- the seconds are no number, and nothing is read
+-- the seconds are no number, and nothing is read or written
 pub record WantsSeconds
-    {I O : Type 0} (contents : O → Option (List ℕ)) (write_failures idle : O → ℕ) (seconds : Option (List ℕ))
-    (source source' : I) (sink sink' : O) (answer : Status) : Type 0 where
+    {I O F : Type 0} (contents : O → Option (List ℕ)) (write_failures idle : O → ℕ) (seconds : Option (List ℕ))
+    (source source' : I) (sink sink' : O) (files files' : F) (answer : Status) : Type 0 where
   pub wrong : seconds_of seconds ≡ None
   pub unread : source' ≡ source
+  pub unwritten : files' ≡ files
   pub told : Tells contents write_failures idle sink sink' (codes "wanted: a number of seconds behind --seconds\n")
       statuses.Usage answer
 
--- CONFIG or a file that it names is not read, or refused
+-- CONFIG or a file that it names is not read, or refused, and nothing is written
 pub record IsHalted
-    {I O : Type 0} (remaining : I → Option (List ℕ)) (reads failures : I → ℕ) (contents : O → Option (List ℕ))
-    (write_failures idle : O → ℕ) (source source' : I) (sink sink' : O) (answer : Status) : Type 0 where
+    {I O F : Type 0} (remaining : I → Option (List ℕ)) (reads failures : I → ℕ) (contents : O → Option (List ℕ))
+    (write_failures idle : O → ℕ) (source source' : I) (sink sink' : O) (files files' : F) (answer : Status)
+    : Type 0 where
   pub halt : Halt
   pub cause : IsHalt remaining reads failures source source' halt
+  pub unwritten : files' ≡ files
   pub told : IsToldHalt contents write_failures idle sink sink' halt answer
 
--- a status with which no node lives
-abbrev pub IsRefusal : Status → Type 0
-IsRefusal statuses.Refused = Unit {0}
-IsRefusal statuses.Fault = Unit {0}
-IsRefusal statuses.NoMemory = Unit {0}
-IsRefusal other = ⊥
-
--- what was read can't live: a node is refused, the system refuses a socket or a folder, or memory ran out
-pub record IsRefusedLife
+-- all was read, and something stands in the way of nodes
+pub record IsStopped
     {I O : Type 0} (remaining : I → Option (List ℕ)) (reads failures : I → ℕ) (contents : O → Option (List ℕ))
-    (write_failures idle : O → ℕ) (source source' : I) (sink sink' : O) (answer : Status) : Type 0 where
-  pub setups : List Setup
-  pub read : AreSetupsFrom remaining reads failures source source' setups
-  pub text : List ℕ
-  pub status : Status
-  pub refusal : IsRefusal status
-  pub told : Tells contents write_failures idle sink sink' text status answer
-
--- the nodes that are to live did, of which there is one at least, and each of them is told of
-pub record HasLived
-    {I O : Type 0} (remaining : I → Option (List ℕ)) (reads failures : I → ℕ) (contents : O → Option (List ℕ))
-    (write_failures idle : O → ℕ) (host : Option (List ℕ)) (source source' : I) (sink sink' : O)
+    (write_failures idle : O → ℕ) (source source' : I) (sink sink' : O) (failed' : Option (List ℕ))
     (answer : Status) : Type 0 where
   pub setups : List Setup
-  pub read : AreSetupsFrom remaining reads failures source source' setups
-  pub some : 0 < length (hosts_of host setups)
+  pub mid : I
+  pub read : AreSetupsFrom remaining reads failures source mid setups
+  pub stop : Stop
+  pub cause : IsStop remaining reads failures mid source' failed' stop
+  pub told : IsToldStop contents write_failures idle sink sink' stop answer
+
+-- the files that nodes name are copied, where logs are wanted
+abbrev pub AreCopiedWhere : {I : Type 0} → (remaining : I → Option (List ℕ)) → (reads failures : I → ℕ)
+    → (is_logged : Bool) → List NodeConfig → (old new : I) → (written written' : Option (List File)) → Type 0
+AreCopiedWhere remaining reads failures true nodes old new written written' =
+    AllCopied remaining reads failures old written nodes new written'
+AreCopiedWhere remaining reads failures false nodes old new written written' =
+    (new ≡ old) × (written' ≡ written)
+
+-- nodes lived, of which there is one at least, and each of them is told of; where logs are wanted, copies of the files
+-- that they name were written before, and behind those the files of each
+pub record HaveLived
+    {I F : Type 0} (remaining : I → Option (List ℕ)) (reads failures : I → ℕ) (written : F → Option (List File))
+    (failed : F → Option (List ℕ)) (is_logged : Bool) (nodes : List NodeConfig) (old new : I) (files files' : F)
+    (text : List ℕ) (status : Status) : Type 0 where
+  pub some : 0 < length nodes
+  pub with_copies : Option (List File)
+  pub copied : AreCopiedWhere remaining reads failures is_logged nodes old new (written files) with_copies
+  pub are : AreTold is_logged with_copies (failed files) nodes text status (written files') (failed files')
+
+-- all was read, and the nodes that are to live did
+pub record HasLived
+    {I O F : Type 0} (remaining : I → Option (List ℕ)) (reads failures : I → ℕ) (contents : O → Option (List ℕ))
+    (write_failures idle : O → ℕ) (written : F → Option (List File)) (failed : F → Option (List ℕ))
+    (host : Option (List ℕ)) (is_logged : Bool) (source source' : I) (sink sink' : O) (files files' : F)
+    (answer : Status) : Type 0 where
+  pub setups : List Setup
+  pub mid : I
+  pub read : AreSetupsFrom remaining reads failures source mid setups
   pub text : List ℕ
   pub status : Status
-  pub are : AreTold (hosts_of host setups) text status
+  pub lived : HaveLived remaining reads failures written failed is_logged (nodes_of host setups) mid source' files files'
+      text status
   pub told : Tells contents write_failures idle sink sink' text status answer
 
-abbrev pub IsLiveMet : {I O : Type 0} → (remaining : I → Option (List ℕ)) → (reads failures : I → ℕ)
-    → (contents : O → Option (List ℕ)) → (write_failures idle : O → ℕ) → (host seconds : Option (List ℕ))
-    → (source source' : I) → (sink sink' : O) → Status → Type 0
-IsLiveMet remaining reads failures contents write_failures idle host seconds source source' sink sink' answer =
-    WantsSeconds contents write_failures idle seconds source source' sink sink' answer
-    ⊎ IsHalted remaining reads failures contents write_failures idle source source' sink sink' answer
-    ⊎ IsRefusedLife remaining reads failures contents write_failures idle source source' sink sink' answer
-    ⊎ HasLived remaining reads failures contents write_failures idle host source source' sink sink' answer
+abbrev pub IsLiveMet : {I O F : Type 0} → (remaining : I → Option (List ℕ)) → (reads failures : I → ℕ)
+    → (contents : O → Option (List ℕ)) → (write_failures idle : O → ℕ) → (written : F → Option (List File))
+    → (failed : F → Option (List ℕ)) → (host seconds : Option (List ℕ)) → (is_logged : Bool)
+    → (source source' : I) → (sink sink' : O) → (files files' : F) → Status → Type 0
+IsLiveMet remaining reads failures contents write_failures idle written failed host seconds is_logged source source'
+    sink sink' files files' answer =
+    WantsSeconds contents write_failures idle seconds source source' sink sink' files files' answer
+    ⊎ IsHalted remaining reads failures contents write_failures idle source source' sink sink' files files' answer
+    ⊎ IsStopped remaining reads failures contents write_failures idle source source' sink sink' (failed files') answer
+    ⊎ HasLived remaining reads failures contents write_failures idle written failed host is_logged source source'
+    sink sink' files files' answer

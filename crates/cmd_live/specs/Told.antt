@@ -1,13 +1,16 @@
--- What is told of nodes that lived.
+-- What is told of nodes that lived, and what is written.
 use Rattle.std.specs.Prelude.{◌≡◌, ◌++◌, ◌∷◌, ◌^◌, ◌-◌, ℕ, Bool, false, true, List, [], Option, None, Some}
 use Rattle.base_device.specs.declared.status.Status.{Status}
 use Rattle.base_device.specs.declared.status.Status.TheVariants as statuses
 use Rattle.base_text.specs.Numbers.{number_of}
 use Rattle.bench_spec.specs.Legal.{IsLegal}
 use Rattle.bench_spec.specs.Taken.{Run}
+use Rattle.config_text.specs.declared.node.NodeConfig.{NodeConfig}
+use Rattle.live_report.specs.Files.{AreWritten}
 use Rattle.live_report.specs.Reports.{node_text}
 use Rattle.live_report.specs.declared.fault.LifeFault.{LifeFault}
 use Rattle.live_report.specs.declared.fault.LifeFault.TheVariants as faults
+use Rattle.node_logs.specs.Files.{File}
 
 -- the status where something failed
 abbrev pub failed : Status → Status
@@ -29,20 +32,34 @@ worse status (Some faults.NoThread) unwritten = failed status
 worse status None true = failed status
 worse status None false = status
 
--- one node more is told of: a bench with a legal log
-pub record TellsOf (host old new : List ℕ) (status status' : Status) : Type 0 where
+-- the files of a node that lived, where logs are wanted: they are written, or not; else nothing is
+abbrev pub AreWrittenWhere : (is_logged : Bool) → NodeConfig → Run → (written written' : Option (List File))
+    → (failed failed' : Option (List ℕ)) → (unwritten : Bool) → Type 0
+AreWrittenWhere true node run written written' failed failed' unwritten =
+    AreWritten node.identity.host node run written written' failed failed' unwritten
+AreWrittenWhere false node run written written' failed failed' unwritten =
+    (unwritten ≡ false) × (written' ≡ written) × (failed' ≡ failed)
+
+-- one node more is told of: a bench with a legal log, which is written where that is wanted
+pub record TellsOf (is_logged : Bool) (node : NodeConfig) (old new : List ℕ) (status status' : Status)
+    (written written' : Option (List File)) (failed failed' : Option (List ℕ)) : Type 0 where
   pub run : Run
   pub legal : IsLegal run.settings run.log
   pub fault : Option LifeFault
   pub unwritten : Bool
-  pub text : new ≡ old ++ node_text run host fault unwritten
+  pub files : AreWrittenWhere is_logged node run written written' failed failed' unwritten
+  pub text : new ≡ old ++ node_text run node.identity.host fault unwritten
   pub status_is : status' ≡ worse status fault unwritten
 
 -- nodes are told of, one behind the other
-pub data AreTold : (hosts : List (List ℕ)) → (text : List ℕ) → Status → Type 0 where
-  nothing : AreTold [] [] statuses.Done
-  one_more : (hosts : List (List ℕ)) (host text text' : List ℕ) (status status' : Status)
-      → AreTold hosts text status → TellsOf host text text' status status' → AreTold (hosts ++ host ∷ []) text' status'
+pub data AreTold (is_logged : Bool) (written : Option (List File)) (failed : Option (List ℕ)) : List NodeConfig
+    → (text : List ℕ) → Status → (written' : Option (List File)) → (failed' : Option (List ℕ)) → Type 0 where
+  nothing : AreTold is_logged written failed [] [] statuses.Done written failed
+  one_more : (nodes : List NodeConfig) (node : NodeConfig) (text text' : List ℕ) (status status' : Status)
+      (before after : Option (List File)) (failed_before failed_after : Option (List ℕ))
+      → AreTold is_logged written failed nodes text status before failed_before
+      → TellsOf is_logged node text text' status status' before after failed_before failed_after
+      → AreTold is_logged written failed (nodes ++ node ∷ []) text' status' after failed_after
 
 -- the seconds that a word asks for; without one as many as a number tells
 abbrev pub seconds_of : Option (List ℕ) → Option ℕ

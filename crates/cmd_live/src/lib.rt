@@ -2,10 +2,12 @@
 //!
 //! | File | What it has |
 //! |---|---|
+//! | `words` | what the words ask for |
 //! | `opening` | a node of a CONFIG as a live node |
 //! | `places` | where nodes listen, and where peers are dialled |
 //! | `nodes` | the nodes of a CONFIG that are to live, opened, and their sockets |
-//! | `told` | what is told of all nodes |
+//! | `stop` | what stands in their way |
+//! | `told` | what is told of all nodes, and their files |
 //! | `run` | all of that, to a status |
 #![tactic(auto)]
 
@@ -13,6 +15,9 @@ mod nodes;
 mod opening;
 mod places;
 mod run;
+mod stop;
 mod told;
+mod words;
 
-pub use run::{LiveWords, live};
+pub use run::live;
+pub use words::LiveWords;

@@ -1,16 +1,17 @@
 //! The nodes of a CONFIG that are to live, opened, and where they listen.
-ghost use Rattle.std.specs.Prelude.{◌≡◌, ◌<◌, ◌++◌, IfOk, OnOk, length, option_map};
-ghost use Rattle.cmd_live.specs.Met.{hosts_of, is_wanted, wanted_host};
+ghost use Rattle.std.specs.Prelude.{◌≡◌, ◌<◌, ◌≤◌, ◌+◌, ◌++◌, IfOk, OnOk, length, option_map};
+ghost use Rattle.cmd_live.specs.Nodes.{is_wanted, nodes_of, wanted_node};
 
 use crate::opening::{Opened, Opening, Refused, open};
 use crate::places::{Listens, addresses_of, listening_at};
+use crate::words::LiveWords;
 use base_list::Octets;
 use base_text::put_number;
 use bench_copy::copy_config;
 use bench_item::is_same_host;
 use bench_node::LiveNode;
 use bench_open::Config;
-use bench_setup::Setup;
+use bench_setup::{MAX_NODES, Setup};
 use config_text::NodeConfig;
 use live_report::put_host;
 use live_turns::{Living, Watch};
@@ -117,10 +118,9 @@ fn living_of<R: Net>(
     })
 }
 
-/// The nodes that are to live, and their hosts.
+/// Nodes that are to live, each opened.
 #[derive(Drop)]
 pub(crate) struct Nodes {
-    pub(crate) hosts: Vec<Octets>,
     pub(crate) nodes: Vec<NodeConfig>,
     pub(crate) livings: Vec<Living>,
 }
@@ -135,59 +135,52 @@ fn is_wanted(setup: &Setup, host: Option<&str>) -> bool
     }
 }
 
-/// Adds the host of a node, if it is to live.
-fn add_wanted(
+/// Opens a node, if it is to live.
+fn add_wanted<R: Net>(
+    rt: &R,
     alloc: Global,
-    hosts: &mut Vec<Octets>,
-    setup: &Setup,
-    host: Option<&str>,
-) -> Result<(), AllocError>
-    ensures { OnOk result (hosts.new.items
-        ≡ hosts.old.items ++ wanted_host (option_map (λ host. host.now) host.entry) setup.now) }
+    nodes: &mut Nodes,
+    place: usize,
+    setup: Setup,
+    words: LiveWords<'_>,
+    seconds: u64,
+) -> Result<(), Refused>
+    ensures nodes { OnOk result (nodes.new.nodes.items
+        ≡ nodes.old.nodes.items ++ wanted_node (option_map (λ host. host.now) words.entry.node) setup) }
+    ensures few { OnOk result (length nodes.new.nodes.items ≤ length nodes.old.nodes.items + 1) }
 {
-    if is_wanted(setup, host) {
-        hosts.push(setup.node.identity.host.copy(alloc)?)?;
+    if is_wanted(&setup, words.node) {
+        let Setup { node, bench } = setup;
+        nodes.livings.push(living_of(rt, alloc, place, &node, bench, seconds, words.stats)?)?;
+        nodes.nodes.push(node)?;
     }
     Ok(())
 }
 
-/// The hosts of the nodes that are to live.
-fn hosts_of(alloc: Global, setups: &[Setup], host: Option<&str>) -> Result<Vec<Octets>, AllocError>
-    ensures { IfOk result (λ hosts. hosts.items ≡ hosts_of (option_map (λ host. host.now) host.entry) setups.now) }
-{
-    let mut hosts = Vec::new(alloc);
-    'setups: for setup in setups {
-        add_wanted(alloc, &mut hosts, setup, host)?;
-    }
-    Ok(hosts)
-}
-
-/// Nodes that were opened, and what CONFIG says of them.
-#[derive(Drop)]
-struct Begun {
-    nodes: Vec<NodeConfig>,
-    livings: Vec<Living>,
-}
-
 /// Opens the nodes that are to live.
-fn begun_of<R: Net>(
+fn all_nodes<R: Net>(
     rt: &R,
     alloc: Global,
     setups: Vec<Setup>,
-    host: Option<&str>,
+    words: LiveWords<'_>,
     seconds: u64,
-    stats: bool,
-) -> Result<Begun, Refused> {
-    let mut nodes = Vec::new(alloc);
-    let mut livings = Vec::new(alloc);
-    'setups: for (place, setup) in setups.into_iter().enumerate() {
-        if is_wanted(&setup, host) {
-            let Setup { node, bench } = setup;
-            livings.push(living_of(rt, alloc, place, &node, bench, seconds, stats)?)?;
-            nodes.push(node)?;
-        }
+) -> Result<Nodes, Refused>
+    requires { length setups.items ≤ MAX_NODES }
+    ensures nodes { IfOk result (λ nodes. nodes.nodes.items
+        ≡ nodes_of (option_map (λ host. host.now) words.entry.node) setups.items) }
+    ensures few { IfOk result (λ nodes. length nodes.nodes.items ≤ MAX_NODES) }
+{
+    let mut nodes = Nodes {
+        nodes: Vec::new(alloc),
+        livings: Vec::new(alloc),
+    };
+    let mut left = setups.into_iter();
+    let mut place = 0;
+    'setups: while let Some(setup) = left.next() {
+        add_wanted(rt, alloc, &mut nodes, place, setup, words, seconds)?;
+        place += 1;
     }
-    Ok(Begun { nodes, livings })
+    Ok(nodes)
 }
 
 /// The nodes that are to live, of which there has to be one.
@@ -195,22 +188,18 @@ pub(crate) fn nodes_of<R: Net>(
     rt: &R,
     alloc: Global,
     setups: Vec<Setup>,
-    host: Option<&str>,
+    words: LiveWords<'_>,
     seconds: u64,
-    stats: bool,
 ) -> Result<Nodes, Refused>
-    ensures hosts { IfOk result (λ nodes. nodes.hosts.items
-        ≡ hosts_of (option_map (λ host. host.now) host.entry) setups.items) }
-    ensures some { IfOk result (λ nodes. 0 < length nodes.hosts.items) }
+    requires { length setups.items ≤ MAX_NODES }
+    ensures nodes { IfOk result (λ nodes. nodes.nodes.items
+        ≡ nodes_of (option_map (λ host. host.now) words.entry.node) setups.items) }
+    ensures few { IfOk result (λ nodes. length nodes.nodes.items ≤ MAX_NODES) }
+    ensures some { IfOk result (λ nodes. 0 < length nodes.nodes.items) }
 {
-    let hosts = hosts_of(alloc, &setups, host)?;
-    if hosts.is_empty() {
-        return Err(no_node(alloc, host)?);
+    let nodes = all_nodes(rt, alloc, setups, words, seconds)?;
+    if nodes.nodes.is_empty() {
+        return Err(no_node(alloc, words.node)?);
     }
-    let Begun { nodes, livings } = begun_of(rt, alloc, setups, host, seconds, stats)?;
-    Ok(Nodes {
-        hosts,
-        nodes,
-        livings,
-    })
+    Ok(nodes)
 }

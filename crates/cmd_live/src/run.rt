@@ -1,37 +1,30 @@
 //! `live`, from what its words ask for to a status.
-ghost use Rattle.std.specs.Prelude.{◌≡◌, ◌<◌, ◌≤◌, ◌+◌, ◌-◌, ◌*◌, ◌^◌, IfOk, None, length, max, option_map};
-ghost use Rattle.cmd_live.specs.Met.{IsLiveMet, hosts_of};
+ghost use Rattle.std.specs.Prelude.{◌≡◌, ◌<◌, ◌≤◌, ◌+◌, ◌-◌, ◌*◌, ◌^◌, IfErr, IfOk, None, OnOk, is_some, length, max};
+ghost use Rattle.std.specs.Prelude.{option_map};
+ghost use Rattle.cmd_live.specs.Met.{AreCopiedWhere, HaveLived, IsLiveMet};
+ghost use Rattle.cmd_live.specs.Nodes.{nodes_of};
+ghost use Rattle.cmd_live.specs.Stops.{IsStop};
 ghost use Rattle.cmd_live.specs.Told.{AreTold, seconds_of};
+ghost use Rattle.live_report.specs.Copies.{IsCopyError};
 
 use crate::nodes::{Nodes, nodes_of};
 use crate::opening::Refused;
+use crate::stop::{Stop, tell_stop};
 use crate::told::{Ended, tell_all};
+use crate::words::LiveWords;
 use base_device::{ByteSink, FileSource, MAX_IDLE_WRITES, MAX_READS, Status, tell};
 use base_text::number_of;
-use bench_setup::{Setup, read_nodes, tell_halt};
-use live_report::Places;
+use bench_setup::{MAX_NODES, Setup, read_nodes, tell_halt};
+use config_text::NodeConfig;
+use live_report::{CopyError, copy_files};
 use live_turns::{Lived, Living};
+use node_logs::FileSink;
 use std::alloc::{AllocError, AllocGlobal, Global};
 use std::fs::create_dir_all;
 use std::net::Net;
 use std::rt::Files;
 
 const BAD_SECONDS: &str = "wanted: a number of seconds behind --seconds\n";
-
-/// What the words of `live` ask for.
-#[derive(Clone, Copy)]
-pub struct LiveWords<'a> {
-    /// The file of the nodes.
-    pub config: &'a str,
-    /// The host of the one node that lives; without it all do.
-    pub node: Option<&'a str>,
-    /// How many seconds at most.
-    pub seconds: Option<&'a str>,
-    /// The folder where logs are written.
-    pub log: Option<&'a str>,
-    /// Whether each node tells a line a second.
-    pub stats: bool,
-}
 
 /// What is told where no log can be written to a folder.
 fn no_folder(alloc: Global, folder: &str) -> Result<Refused, AllocError> {
@@ -50,35 +43,48 @@ fn make_folder<R: Files>(rt: &R, alloc: Global, folder: Option<&str>) -> Result<
     Ok(())
 }
 
-/// Where files are written, where they are.
-fn places_of(words: LiveWords<'_>) -> Option<Places<'_>> {
-    match words.log {
-        Some(folder) => Some(Places {
-            folder,
-            config: words.config,
-        }),
-        None => None,
+/// Copies the files that nodes name, where logs are wanted.
+fn copy_where<I: FileSource, W: FileSink>(
+    alloc: Global,
+    words: LiveWords<'_>,
+    nodes: &[NodeConfig],
+    source: &mut I,
+    files: &mut W,
+) -> Result<(), CopyError>
+    requires few { length nodes.now ≤ MAX_NODES }
+    requires reads { I.reads source.old + 256 * MAX_READS < 2 ^ 64 }
+    requires failures { I.failures source.old < 2 ^ 64 - 1 }
+    ensures reads { I.reads source.new ≤ I.reads source.old + 256 * MAX_READS }
+    ensures made { I.reads source.old ≤ I.reads source.new }
+    ensures sound { OnOk result (I.failures source.new ≡ I.failures source.old) }
+    ensures copied { OnOk result (AreCopiedWhere I.remaining I.reads I.failures (is_some words.entry.log) nodes.now
+        source.old source.new (W.files files.old) (W.files files.new)) }
+    ensures kept { OnOk result (W.failed files.new ≡ W.failed files.old) }
+    ensures error { IfErr result (IsCopyError I.remaining I.reads I.failures source.old source.new
+        (W.failed files.new)) }
+{
+    if words.log.is_some() {
+        copy_files(alloc, words.config, nodes, source, files)
+    } else {
+        Ok(())
     }
 }
 
-/// The nodes live, and are told of.
-fn live_all<R: Files, F: Fn(Vec<Living>) -> Result<Vec<Option<Lived>>, AllocError>>(
-    rt: &R,
+/// Nodes live, and are told of.
+fn live_all<F: Fn(Vec<Living>) -> Result<Vec<Option<Lived>>, AllocError>, W: FileSink>(
     alloc: Global,
+    is_logged: bool,
     nodes: Nodes,
-    places: Option<Places<'_>>,
     together: &F,
+    files: &mut W,
 ) -> Result<Ended, Refused>
     requires { F.IsAlwaysCallable together.now }
-    ensures { IfOk result (λ told. AreTold nodes.hosts.items told.text.items told.status) }
+    ensures { IfOk result (λ told. AreTold is_logged (W.files files.old) (W.failed files.old) nodes.nodes.items
+        told.text.items told.status (W.files files.new) (W.failed files.new)) }
 {
-    let Nodes {
-        hosts,
-        nodes,
-        livings,
-    } = nodes;
+    let Nodes { nodes, livings } = nodes;
     let lived = together(livings)?;
-    Ok(tell_all(rt, alloc, places, &hosts, &nodes, &lived)?)
+    Ok(tell_all(alloc, is_logged, &nodes, &lived, files)?)
 }
 
 /// The seconds that are wanted; without the word as many as a number tells.
@@ -91,29 +97,45 @@ fn seconds_of(word: Option<&str>) -> Option<u64>
     }
 }
 
-/// The same from what a CONFIG and its files hold.
-fn live_setups<R: Net + Files, F: Fn(Vec<Living>) -> Result<Vec<Option<Lived>>, AllocError>>(
+/// The same from what a CONFIG and its files hold: the nodes are opened, then the files that they name are copied, where
+/// logs are wanted.
+fn live_setups<
+    R: Net + Files,
+    I: FileSource,
+    F: Fn(Vec<Living>) -> Result<Vec<Option<Lived>>, AllocError>,
+    W: FileSink,
+>(
     rt: &R,
     alloc: Global,
     setups: Vec<Setup>,
     words: LiveWords<'_>,
     seconds: u64,
+    source: &mut I,
     together: &F,
-) -> Result<Ended, Refused>
-    requires { F.IsAlwaysCallable together.now }
-    ensures told { IfOk result (λ told. AreTold (hosts_of (option_map (λ host. host.now) words.entry.node) setups.items)
-        told.text.items told.status) }
-    ensures some { IfOk result (λ told. 0 < length (hosts_of (option_map (λ host. host.now) words.entry.node)
-        setups.items)) }
+    files: &mut W,
+) -> Result<Ended, Stop>
+    requires callable { F.IsAlwaysCallable together.now }
+    requires few { length setups.items ≤ MAX_NODES }
+    requires reads { I.reads source.old + 256 * MAX_READS < 2 ^ 64 }
+    requires failures { I.failures source.old < 2 ^ 64 - 1 }
+    ensures reads { I.reads source.new ≤ I.reads source.old + 256 * MAX_READS }
+    ensures lived { IfOk result (λ told. HaveLived I.remaining I.reads I.failures W.files W.failed
+        (is_some words.entry.log) (nodes_of (option_map (λ host. host.now) words.entry.node) setups.items)
+        source.old source.new files.old files.new told.text.items told.status) }
+    ensures stopped { IfErr result (IsStop I.remaining I.reads I.failures source.old source.new (W.failed files.new)) }
 {
     make_folder(rt, alloc, words.log)?;
-    let nodes = nodes_of(rt, alloc, setups, words.node, seconds, words.stats)?;
-    live_all(rt, alloc, nodes, places_of(words), together)
+    let nodes = nodes_of(rt, alloc, setups, words, seconds)?;
+    copy_where(alloc, words, &nodes.nodes, source, files)?;
+    Ok(live_all(alloc, words.log.is_some(), nodes, together, files)?)
 }
 
 /// Reads a CONFIG and the files that its nodes name, has its nodes live, or the one that is wanted, over TCP,
 /// for the turns of CONFIG or so many seconds, and prints of each how many entries its log has,
 /// and what stands on its accounts. Each log is legal.
+///
+/// Where a folder for logs is wanted, `files` are those of that folder: before the nodes live, copies of the files that
+/// they name are written there, and behind that the log of each, and a CONFIG that opens its bench with those copies.
 ///
 /// `together` has them live side by side, each by `live_one` of `live_threads`, and answers them in their order: a thread for each is
 /// started where the process begins.
@@ -122,20 +144,22 @@ pub fn live<
     I: FileSource,
     O: ByteSink,
     F: Fn(Vec<Living>) -> Result<Vec<Option<Lived>>, AllocError>,
->(rt: &R, words: LiveWords<'_>, source: &mut I, sink: &mut O, together: &F) -> Status
+    W: FileSink,
+>(rt: &R, words: LiveWords<'_>, source: &mut I, sink: &mut O, together: &F, files: &mut W) -> Status
     requires callable { F.IsAlwaysCallable together.now }
-    requires reads { I.reads source.old + 257 * MAX_READS < 2 ^ 64 }
+    requires reads { I.reads source.old + 513 * MAX_READS < 2 ^ 64 }
     requires read_failures { I.failures source.old < 2 ^ 64 - 1 }
     requires idle { O.idle sink.old ≡ 0 }
     requires write_failures { O.failures sink.old < 2 ^ 64 - 1 }
-    ensures reads { I.reads source.new ≤ I.reads source.old + 257 * MAX_READS }
+    ensures reads { I.reads source.new ≤ I.reads source.old + 513 * MAX_READS }
     ensures row { O.most_idle sink.new ≤ max (O.most_idle sink.old) MAX_IDLE_WRITES }
 
     // Seconds that are no number are told before anything is read; then what is wrong with an input; then what stands
-    // in the way of nodes; else each node is told of that is to live.
-    ensures as_asked { IsLiveMet I.remaining I.reads I.failures O.contents O.failures O.idle
+    // in the way of nodes; else each node is told of that is to live, and where logs are wanted, its files are written,
+    // or it is told that they are not.
+    ensures as_asked { IsLiveMet I.remaining I.reads I.failures O.contents O.failures O.idle W.files W.failed
         (option_map (λ host. host.now) words.entry.node) (option_map (λ text. text.now) words.entry.seconds)
-        source.old source.new sink.old sink.new result }
+        (is_some words.entry.log) source.old source.new sink.old sink.new files.old files.new result }
 
     // Words are refused only where the seconds are no number, and then nothing is read.
     ensures usage { result ≡ Status.Usage → (source.new ≡ source.old)
@@ -149,10 +173,8 @@ pub fn live<
         Ok(setups) => setups,
         Err(halt) => return tell_halt(alloc, halt, sink),
     };
-    match live_setups(rt, alloc, setups, words, seconds, together) {
+    match live_setups(rt, alloc, setups, words, seconds, source, together, files) {
         Ok(told) => tell(sink, &told.text, told.status),
-        Err(Refused::Told(text)) => tell(sink, &text, Status::Refused),
-        Err(Refused::Failed(text)) => tell(sink, &text, Status::Fault),
-        Err(Refused::NoMemory) => tell(sink, b"no memory\n", Status::NoMemory),
+        Err(stop) => tell_stop(alloc, stop, sink),
     }
 }

@@ -1,15 +1,15 @@
-//! What is told of all nodes that lived.
-ghost use Rattle.std.specs.Prelude.{◌≡◌, IfOk, OnOk};
-ghost use Rattle.cmd_live.specs.Told.{AreTold, TellsOf, disagreed, failed, worse};
+//! What is told of all nodes that lived, and their files.
+ghost use Rattle.std.specs.Prelude.{◌≡◌, ◌++◌, IfOk, OnOk};
+ghost use Rattle.cmd_live.specs.Told.{AreTold, AreWrittenWhere, TellsOf, disagreed, failed, worse};
+ghost use Rattle.live_report.specs.Reports.{node_text};
 
 use base_device::Status;
-use base_list::Octets;
 use bench_core::Core;
 use config_text::NodeConfig;
-use live_report::{LifeFault, Places, is_unwritten, put_node};
+use live_report::{LifeFault, is_unwritten, put_node};
 use live_turns::Lived;
+use node_logs::FileSink;
 use std::alloc::{AllocError, Global};
-use std::rt::Files;
 
 /// A text that is printed, and a status.
 #[derive(Drop)]
@@ -60,77 +60,80 @@ fn tell_of(
     fault: Option<LifeFault>,
     is_unwritten: bool,
 ) -> Result<(), AllocError>
-    ensures { OnOk result (TellsOf host.now told.old.text.items told.new.text.items told.old.status told.new.status) }
+    ensures text { OnOk result (told.new.text.items
+        ≡ told.old.text.items ++ node_text core.now host.now fault is_unwritten) }
+    ensures status { OnOk result (told.new.status ≡ worse told.old.status fault is_unwritten) }
 {
-    core.known();
     put_node(alloc, &mut told.text, host, core, fault, is_unwritten)?;
     told.status = worse(told.status, fault, is_unwritten);
     Ok(())
 }
 
+/// Writes the files of a node where that is wanted. Says whether they are not written then.
+fn is_unwritten_where<W: FileSink>(
+    alloc: Global,
+    is_logged: bool,
+    node: &NodeConfig,
+    core: &Core,
+    files: &mut W,
+) -> Result<bool, AllocError>
+    ensures { IfOk result (AreWrittenWhere is_logged node.now core.now (W.files files.old) (W.files files.new)
+        (W.failed files.old) (W.failed files.new)) }
+{
+    if is_logged {
+        is_unwritten(alloc, node.identity.host.as_slice(), node, core, files)
+    } else {
+        Ok(false)
+    }
+}
+
 /// Tells of one node more, and writes its files where that is wanted.
-fn tell_node<R: Files>(
-    rt: &R,
+fn tell_node<W: FileSink>(
     alloc: Global,
     told: &mut Ended,
-    places: Option<Places<'_>>,
-    host: &[u8],
+    is_logged: bool,
     node: &NodeConfig,
     lived: &Lived,
+    files: &mut W,
 ) -> Result<(), AllocError>
-    ensures { OnOk result (TellsOf host.now told.old.text.items told.new.text.items told.old.status told.new.status) }
+    ensures { OnOk result (TellsOf is_logged node.now told.old.text.items told.new.text.items
+        told.old.status told.new.status (W.files files.old) (W.files files.new)
+        (W.failed files.old) (W.failed files.new)) }
 {
-    let is_unwritten = is_unwritten(rt, alloc, places, host, node, &lived.core)?;
+    lived.core.known();
+    let is_unwritten = is_unwritten_where(alloc, is_logged, node, &lived.core, files)?;
+    let host = node.identity.host.as_slice();
     tell_of(alloc, told, host, &lived.core, lived.fault, is_unwritten)
 }
 
-/// A node that was to live, and what became of it.
-#[derive(Clone, Copy)]
-struct LivedNode<'a> {
-    node: &'a NodeConfig,
-    lived: &'a Lived,
-}
-
-/// The node at a place, if it lived.
-fn lived_node_at<'a>(
-    nodes: &'a [NodeConfig],
-    lived: &'a [Option<Lived>],
-    place: usize,
-) -> Option<LivedNode<'a>> {
-    match (nodes.get(place), lived.get(place)) {
-        (Some(node), Some(Some(lived))) => Some(LivedNode { node, lived }),
+/// What became of the node at a place, if it lived.
+fn lived_at(lived: &[Option<Lived>], place: usize) -> Option<&Lived> {
+    match lived.get(place) {
+        Some(Some(lived)) => Some(lived),
         _ => None,
     }
 }
 
-/// Tells of all nodes, by their hosts, in their order.
-pub(crate) fn tell_all<R: Files>(
-    rt: &R,
+/// Tells of all nodes, in their order, and writes the files of each where that is wanted.
+pub(crate) fn tell_all<W: FileSink>(
     alloc: Global,
-    places: Option<Places<'_>>,
-    hosts: &[Octets],
+    is_logged: bool,
     nodes: &[NodeConfig],
     lived: &[Option<Lived>],
+    files: &mut W,
 ) -> Result<Ended, AllocError>
-    ensures { IfOk result (λ told. AreTold hosts.now told.text.items told.status) }
+    ensures { IfOk result (λ told. AreTold is_logged (W.files files.old) (W.failed files.old) nodes.now
+        told.text.items told.status (W.files files.new) (W.failed files.new)) }
 {
     let mut told = Ended {
         text: Vec::new(alloc),
         status: Status::Done,
     };
-    'hosts: for place in 0..hosts.len() {
-        let Some(LivedNode { node, lived: one }) = lived_node_at(nodes, lived, place) else {
+    'nodes: for place in 0..nodes.len() {
+        let Some(one) = lived_at(lived, place) else {
             return Err(AllocError);
         };
-        tell_node(
-            rt,
-            alloc,
-            &mut told,
-            places,
-            hosts[place].as_slice(),
-            node,
-            one,
-        )?;
+        tell_node(alloc, &mut told, is_logged, &nodes[place], one, files)?;
     }
     Ok(told)
 }

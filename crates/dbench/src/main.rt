@@ -114,7 +114,9 @@ fn main(rt: HostRuntime) -> ExitCode {
                             &|living| live_one(&rt, rt.alloc(), rt.stderr(), living),
                         )
                     };
-                    live(&rt, asked, &mut source, &mut sink, &together)
+                    // Without the word nothing is written there.
+                    let mut folder = Folder::new(&rt, asked.log.unwrap_or("."));
+                    live(&rt, asked, &mut source, &mut sink, &together, &mut folder)
                 }
                 Ok(None) => run_words(&rt, &words, &mut source, &mut sink),
                 Err(AllocError) => tell(&mut sink, b"no memory\n", Status::NoMemory),

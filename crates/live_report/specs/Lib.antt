@@ -1,3 +1,4 @@
 -- The definitions that the contracts of live_report speak of.
 pub mod Reports
 pub mod Files
+pub mod Copies

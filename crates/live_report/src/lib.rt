@@ -4,16 +4,19 @@
 //! |---|---|
 //! | `fault` | why a node went no further |
 //! | `report` | what is printed of a node |
-//! | `paths` | the names of a node's files, and where those are that CONFIG names |
-//! | `files` | its log and a CONFIG that opens its bench, written, and what that names, copied |
+//! | `paths` | the names of a node's files |
+//! | `copies` | what CONFIG names, copied |
+//! | `files` | its log and a CONFIG that opens its bench, written |
 #![tactic(auto)]
 
+mod copies;
 mod fault;
 mod files;
 mod paths;
 mod report;
 
+pub use copies::{CopyError, copy_files};
 pub use fault::LifeFault;
-pub use files::{Places, is_unwritten, write_node};
+pub use files::is_unwritten;
 pub use paths::own_files;
 pub use report::{put_host, put_node};

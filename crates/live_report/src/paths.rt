@@ -1,4 +1,4 @@
-//! The names of the files of a node that lived, and where those are that CONFIG names.
+//! The names of the files of a node that lived.
 ghost use Rattle.std.specs.Prelude.{◌≡◌, IfOk, option_map};
 ghost use Rattle.live_report.specs.Files.{name_of, named, own_files, own_tables};
 
@@ -26,17 +26,6 @@ pub(crate) fn name_of(alloc: Global, host: &[u8], ending: &str) -> Result<Vec<u8
     put_file_host(&mut name, host)?;
     name.extend_from_slice(ending.as_bytes())?;
     Ok(name)
-}
-
-/// Where a file is that CONFIG names: beside CONFIG, unless its name begins at the root.
-pub(crate) fn beside(alloc: Global, config: &str, name: &str) -> Result<String, AllocError> {
-    if name.starts_with('/') {
-        return format!(in alloc; "{name}");
-    }
-    match config.rsplit_once('/') {
-        Some((folder, _)) => format!(in alloc; "{folder}/{name}"),
-        None => format!(in alloc; "{name}"),
-    }
 }
 
 /// The name of a node's file with that ending, where it names one of that kind.

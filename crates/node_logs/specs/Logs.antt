@@ -40,3 +40,12 @@ logs_of nodes = map log_of (reverse nodes)
 abbrev pub IsLogFault : (failed failed' : Option (List ℕ)) → LogError → Type 0
 IsLogFault failed failed' (Failed name) = failed' ≡ Some name.items
 IsLogFault failed failed' NoMemory = failed' ≡ failed
+
+-- where a file failed, it is the one of this name
+abbrev pub IsNamed : (own : List ℕ) → LogError → Type 0
+IsNamed own (Failed name) = name.items ≡ own
+IsNamed own NoMemory = Unit {0}
+
+-- which file can't be written, as it is told
+abbrev pub unwritten_text : (name : List ℕ) → List ℕ
+unwritten_text name = codes "write fault: " ++ name ++ codes " can't be written\n"

@@ -15,5 +15,5 @@ mod text;
 
 pub use files::{FileError, FileSink};
 pub use folder::Folder;
-pub use logs::{LogError, write_log, write_logs};
+pub use logs::{LogError, unwritten_text, write_log, write_logs};
 pub use text::{log_text, put_file_host, put_file_name};

@@ -1,7 +1,7 @@
 //! The logs of nodes, written.
 ghost use Rattle.std.specs.Prelude.{◌≡◌, ◌∷◌, [], IfErr, IfOk, OnOk};
 ghost use Rattle.node_logs.specs.Files.{with_files};
-ghost use Rattle.node_logs.specs.Logs.{IsLogFault, file_name, log_file, log_of, logs_of};
+ghost use Rattle.node_logs.specs.Logs.{IsLogFault, IsNamed, file_name, log_file, log_of, logs_of, unwritten_text};
 ghost use Rattle.node_logs.specs.declared.logs.LogError.TheVariants.{NoMemory};
 
 use crate::files::{FileError, FileSink};
@@ -26,6 +26,16 @@ impl From<AllocError> for LogError {
     }
 }
 
+/// Which file can't be written, as it is told.
+pub fn unwritten_text(alloc: Global, name: &[u8]) -> Result<Vec<u8>, AllocError>
+    ensures { IfOk result (λ text. text.items ≡ unwritten_text name.now) }
+{
+    let mut text = Vec::from_slice(alloc, b"write fault: ")?;
+    text.extend_from_slice(name)?;
+    text.extend_from_slice(b" can't be written\n")?;
+    Ok(text)
+}
+
 /// The name of the file of a host's log.
 fn name_of(alloc: Global, host: &[u8]) -> Result<Vec<u8>, AllocError>
     ensures { IfOk result (λ name. name.items ≡ file_name host.now) }
@@ -46,6 +56,7 @@ pub fn write_log<F: FileSink>(
         ≡ with_files (F.files files.old) (log_file host.now core.now ∷ [])) }
     ensures kept { OnOk result (F.failed files.new ≡ F.failed files.old) }
     ensures fault { IfErr result (IsLogFault (F.failed files.old) (F.failed files.new)) }
+    ensures named { IfErr result (IsNamed (file_name host.now)) }
 {
     let name = name_of(alloc, host)?;
     let text = log_text(alloc, core)?;

@@ -1,21 +1,26 @@
-use Rattle.std.proofs.Common.{◌≡◌, List, [], ℕ, arith, subst, sym, take}
+use Rattle.std.proofs.Common.{List, [], ℕ, arith, subst, sym}
 use Rattle.std.proofs.lemmas.List.{take_all}
 use Rattle.base_device.specs.declared.status.Status.TheVariants as statuses
 use Rattle.cmd_live.specs.Told.{AreTold, nothing}
 use Rattle.cmd_live.proofs.ToldLemmas.{told_next}
 use Rattle.cmd_live.proofs.told.tell_all.Goals as goal
+use Rattle.config_text.specs.declared.node.NodeConfig.{NodeConfig}
 
 -- none is
-pub hosts-init : goal.hosts-init
-hosts-init g c = subst (λ (text : List ℕ). AreTold [] text statuses.Done) (sym c.new.ensures.items) nothing
+pub nodes-init : goal.nodes-init
+nodes-init g c =
+    let written = g.W.FileSink.files c.args.files.now in
+    let failed = g.W.FileSink.failed c.args.files.now in
+    subst (λ (text : List ℕ). AreTold c.args.is_logged written failed [] text statuses.Done written failed) (sym c.new.ensures.items) nothing
 
 -- one more is
-pub hosts-preserved : goal.hosts-preserved
-hosts-preserved g c =
-    told_next c.args.hosts.now c.hosts.place _ _ _ _ _ _ _ c.hosts-test.true c.index-hosts-place.is c.as_slice.ensures c.hosts.invariant c.in_ok-tell_node.ensures
+pub nodes-preserved : goal.nodes-preserved
+nodes-preserved g c =
+    told_next c.args.is_logged (g.W.FileSink.files c.args.files.now) _ _ (g.W.FileSink.failed c.args.files.now) _ _ c.args.nodes.now c.nodes.place _ _ _ _ _ _ c.nodes-test.true
+    c.index-nodes-place.is c.nodes.invariant c.in_ok-tell_node.ensures
 
 -- all are
 pub returns : goal.returns
 returns g c =
-    subst (λ (hosts : List (List ℕ)). AreTold hosts c.hosts.told.text.items c.hosts.told.status)
-    (take_all c.hosts.place c.args.hosts.now (omega arith)) c.hosts.invariant
+    subst (λ (nodes : List NodeConfig). AreTold c.args.is_logged (g.W.FileSink.files c.args.files.now) (g.W.FileSink.failed c.args.files.now) nodes c.nodes.told.text.items c.nodes.told.status
+    (g.W.FileSink.files c.nodes.files) (g.W.FileSink.failed c.nodes.files)) (take_all c.nodes.place c.args.nodes.now (omega arith)) c.nodes.invariant

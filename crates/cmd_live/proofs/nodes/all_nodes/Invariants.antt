@@ -1,0 +1,16 @@
+use Rattle.std.proofs.Common.{◌≡◌, ◌≤◌, ◌+◌, ◌++◌, length}
+use Rattle.std.specs.Prelude.{option_map}
+use Rattle.cmd_live.specs.Nodes.{nodes_of}
+use Rattle.cmd_live.proofs.nodes.all_nodes.Given as goal
+
+-- the nodes so far that are to live, and those that are left
+abbrev pub invariant-setups : goal.invariant-setups
+invariant-setups g l = record {
+  nodes : l.nodes.nodes.items ++ nodes_of (option_map (λ host. host.now) l.words.node) l.left.rest.items
+      ≡ nodes_of (option_map (λ host. host.now) l.words.node) l.initial.left.rest.items;
+  few : l.place + length l.left.rest.items ≤ 64;
+  count : length l.nodes.nodes.items ≤ l.place;
+}
+
+abbrev pub decreases-setups : goal.decreases-setups
+decreases-setups g l = l.left.rest.len
