@@ -2,3 +2,4 @@
 pub mod Refusals
 pub mod Halts
 pub mod Setups
+pub mod Opening

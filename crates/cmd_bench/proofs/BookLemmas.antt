@@ -1,6 +1,6 @@
 -- The registries of a bench that was opened have its laws, one for each shard.
 use Rattle.std.proofs.Common.{◌≡◌, true, List, [], ◌∷◌, None, ap, length, map, refl, subst, sym, ◌∙◌}
-use Rattle.std.specs.Prelude.{◌==◌, ◌&&◌, ◌||◌, nat_lt, not, replicate, slice_get}
+use Rattle.std.specs.Prelude.{◌==◌, ◌&&◌, ◌||◌, nat_lt, not, replicate}
 use Rattle.std.specs.List.{list_all}
 use Rattle.std.proofs.lemmas.Bool.{and_parts, eqb-true, not-false, or_parts}
 use Rattle.tab_law.specs.Books.{Laws}
@@ -8,12 +8,12 @@ use Rattle.tab_step.specs.Bind.{lacking}
 use Rattle.bench_item.specs.Past.{any_after}
 use Rattle.bench_item.specs.declared.limit.TheConstants.{MAX_DESKS, MAX_PAGES, MAX_PEERS, MAX_SHARDS}
 use Rattle.bench_open.proofs.ReasonLemmas.{holds-none}
-use Rattle.bench_open.specs.Given.{config_of, first_of, opened_as}
+use Rattle.bench_open.specs.Given.{config_of, opened_as}
 use Rattle.bench_open.specs.declared.account.Account.{Account}
 use Rattle.bench_open.specs.declared.config.Config.{Config}
 use Rattle.bench_script.specs.Ran.{IsRunBy}
 use Rattle.bench_spec.proofs.SameLemmas.{is_same_book-Decides}
-use Rattle.bench_spec.specs.Opening.{has_bad_laws, has_bad_names, is_bad_account, is_past_limits, is_within, laws_of, no_laws, opening_refusal, role_kinds, settings_of, unbound}
+use Rattle.bench_spec.specs.Opening.{has_bad_laws, has_bad_names, is_bad_account, is_past_limits, is_within, laws_of, opening_refusal, role_kinds, settings_of, unbound}
 use Rattle.bench_spec.specs.SameLaws.{is_same_book}
 use Rattle.bench_spec.specs.Taken.{Run, opened}
 
@@ -47,8 +47,3 @@ run_by config books core none is =
 pub ids_same : (accounts : List Account) → map (λ account. account.id) accounts ≡ map (λ account. account.id) (map opened_as accounts)
 ids_same [] = refl
 ids_same (account ∷ accounts) = ap (λ ids. account.id ∷ ids) (ids_same accounts)
-
--- without a registry there are no laws
-pub no_books : {R : Type 0} (book : R → Laws) (registries : List R) → None ≡ slice_get registries 0 → first_of (map book registries) ≡ no_laws
-no_books book [] none = refl
-no_books book (registry ∷ registries) none = absurd cc

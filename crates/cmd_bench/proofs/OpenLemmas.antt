@@ -18,7 +18,7 @@ use Rattle.bench_spec.specs.declared.opening.OpeningError.{OpeningError}
 use Rattle.fault_text.specs.declared.spots.RowPlace.{RowPlace}
 use Rattle.tab_law.specs.Books.{Laws}
 use Rattle.cmd_bench.specs.Nodes.{AreOpenNodes, AreOpened, IsEnded, IsNodesRun, IsOpenNode, IsOpened, IsRunOnOpen, node_refusal, opened_by}
-use Rattle.cmd_bench.specs.Told.{opening_text_at, opening_told, unbound_at}
+use Rattle.bench_setup.specs.Opening.{opening_text_at, opening_told, unbound_at}
 use Rattle.cmd_bench.specs.declared.nodes.AllOpened.{AllOpened}
 use Rattle.cmd_bench.specs.declared.nodes.AllOpened.TheVariants as all
 use Rattle.cmd_bench.specs.declared.nodes.Ended.{Ended}

@@ -10,7 +10,8 @@ use Rattle.bench_spec.specs.declared.opening.OpeningError.{OpeningError}
 use Rattle.bench_spec.specs.declared.opening.OpeningError.TheVariants as errors
 use Rattle.fault_text.specs.declared.spots.RowPlace.{RowPlace}
 use Rattle.script_text.specs.RunLines.{first_bad_run}
-use Rattle.cmd_bench.specs.Told.{IsBenchRun, IsRunIn, bad_text, opening_text_at, refusal_of, unbound_at}
+use Rattle.bench_setup.specs.Opening.{opening_text_at, unbound_at}
+use Rattle.cmd_bench.specs.Told.{IsBenchRun, IsRunIn, bad_text, refusal_of}
 use Rattle.cmd_bench.specs.declared.shown.Shown.{Shown}
 
 -- where the bench is opened, the script alone can be refused

@@ -26,7 +26,8 @@ use Rattle.cmd_bench.specs.declared.nodes.AllOpened.TheVariants as all
 use Rattle.cmd_bench.specs.declared.nodes.Ended.{Ended}
 use Rattle.cmd_bench.specs.declared.nodes.Opened.{Opened}
 use Rattle.cmd_bench.specs.declared.nodes.Opened.TheVariants as tried
-use Rattle.cmd_bench.specs.Told.{bad_text, if_shown, opening_told}
+use Rattle.bench_setup.specs.Opening.{opening_told}
+use Rattle.cmd_bench.specs.Told.{bad_text, if_shown}
 use Rattle.cmd_bench.specs.declared.shown.Shown.{Shown}
 
 -- what a node's bench is opened with, of registries with these laws: the first of them, one for each shard

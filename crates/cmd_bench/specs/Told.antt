@@ -1,7 +1,7 @@
 -- What is told of a bench that is opened and of a script that is run on it.
 use Rattle.std.specs.Prelude.{◌≡◌, ◌⊎◌, ℕ, min, Bool, true, false, List, [], ◌++◌, codes, decimal, map, replicate}
 use Rattle.std.specs.Prelude.{Option, Some, None, option_map}
-use Rattle.std.specs.Option.{option_and_then, option_or}
+use Rattle.std.specs.Option.{option_or}
 use Rattle.base_device.specs.Devices.{Tells}
 use Rattle.base_device.specs.Tellings.{told_status}
 use Rattle.base_device.specs.declared.status.Status.{Status}
@@ -9,20 +9,14 @@ use Rattle.base_device.specs.declared.status.Status.TheVariants as statuses
 use Rattle.bench_item.specs.declared.limit.TheConstants.{MAX_SHARDS}
 use Rattle.bench_open.specs.Given.{config_of}
 use Rattle.bench_open.specs.declared.config.Config as handed
+use Rattle.bench_setup.specs.Opening.{opening_told}
 use Rattle.bench_script.specs.Ends.{lines_text, totals_text}
 use Rattle.bench_script.specs.Ran.{Ran}
-use Rattle.bench_spec.specs.Opening.{Config, laws_of, opening_refusal, settings_of}
+use Rattle.bench_spec.specs.Opening.{Config, laws_of, settings_of}
 use Rattle.bench_spec.specs.Taken.{Run, opened}
-use Rattle.bench_spec.specs.declared.opening.OpeningError.{OpeningError}
-use Rattle.bench_spec.specs.declared.opening.OpeningError.TheVariants as errors
-use Rattle.fault_text.specs.Faults.{unbound_text}
-use Rattle.fault_text.specs.Spots.{unbound_place}
-use Rattle.fault_text.specs.declared.spots.RowPlace.{RowPlace}
 use Rattle.role_tables.specs.Roles.{all_laws}
 use Rattle.script_text.specs.RunLines.{first_bad_run, run_script_of}
 use Rattle.script_text.specs.declared.run_line.RunLine.{RunLine}
-use Rattle.tab_law.specs.Books.{Laws}
-use Rattle.tab_text.specs.Contents.{Contents}
 use Rattle.cmd_bench.specs.declared.shown.Shown.{Shown}
 
 -- what is opened: a configuration with the laws of all roles for each shard, of which there are no more than may be
@@ -50,35 +44,6 @@ pub record RunText (old : Run) (lines : List RunLine) (shown : Shown) (accounts 
   pub steps : List ℕ
   pub ran : Ran old lines new steps
   pub printed : text ≡ if_shown shown.steps steps ++ ends_text shown new accounts
-
--- why a bench is not opened, and what is wanted, memory aside
-abbrev pub opening_text : Laws → OpeningError → Option (List ℕ)
-opening_text laws errors.Limits =
-    Some (codes "not opened: limits\n  wanted: 1 to 16 shards, 1 to 8 pages, at most 16 desks and 64 peers\n")
-opening_text laws errors.Names =
-    Some (codes "not opened: names\n  wanted: a host, a realm and peers of 1 to 255 octets of ASCII, each peer once\n")
-opening_text laws errors.Laws = Some (codes "not opened: laws\n")
-opening_text laws (errors.Unbound name) = Some (unbound_text laws None name)
-opening_text laws errors.Account = Some
-    (codes "not opened: account\n  wanted: numbers from 1, each once, at most 2^62 units, 1024 accounts on a page\n")
-opening_text laws errors.NoMemory = None
-
--- the first row with a name that the laws lack: of the peers' table, of the clients' or of the servers'
-abbrev pub unbound_in : Laws → (peer client server : Contents) → Option RowPlace
-unbound_in laws peer client server =
-    option_or (unbound_place laws peer) (option_or (unbound_place laws client) (unbound_place laws server))
-
-abbrev pub unbound_at : Config → Option RowPlace
-unbound_at config = unbound_in (laws_of config) config.peer config.client config.server
-
--- why a bench is not opened, where a name that the laws lack is told with its row
-abbrev pub opening_text_at : Laws → Option RowPlace → OpeningError → Option (List ℕ)
-opening_text_at laws place (errors.Unbound name) = Some (unbound_text laws place name)
-opening_text_at laws place error = opening_text laws error
-
--- why the bench of a configuration is not opened; none where it is
-abbrev pub opening_told : Config → Option (List ℕ)
-opening_told config = option_and_then (opening_text_at (laws_of config) (unbound_at config)) (opening_refusal config)
 
 -- the first line of a script that has another form
 abbrev pub bad_text : ℕ → List ℕ

@@ -17,6 +17,6 @@ mod shown;
 
 pub use logged::{run_logged_nodes, run_logged_on};
 pub use nodes::{run_all_nodes, run_nodes_on};
-pub use opening::{bad_line, opening_text, opening_text_at, run_on, unbound_at};
+pub use opening::{bad_line, run_on};
 pub use running::{run, run_watched, tell_sample};
 pub use shown::Shown;

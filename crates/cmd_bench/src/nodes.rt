@@ -8,13 +8,16 @@ ghost use Rattle.role_tables.specs.Roles.{all_laws};
 ghost use Rattle.cmd_bench.specs.Nodes.{AreNodeInputs, AreOpened, IsEnded, IsNodesMet, IsNodesRunOn, IsOpened};
 ghost use Rattle.cmd_bench.specs.Nodes.{IsRunOnOpen, NodesText, node_ends};
 
-use crate::opening::{bad_line, numbers_of, opening_text_at, unbound_at};
+use crate::opening::{bad_line, numbers_of};
 use crate::shown::Shown;
 use base_device::{ByteSink, FileSource, MAX_IDLE_WRITES, MAX_READS, Status, Told, tell};
 use bench_core::Core;
 use bench_item::MAX_SHARDS;
 use bench_nodes::{Node, NodeLine, put_node_lines, put_node_totals, read_nodes_script, run_nodes};
-use bench_setup::{Halt, Setup, WithCalls, read_named, read_nodes, tell_halt, with_calls};
+use bench_setup::{
+    Halt, Setup, WithCalls, opening_text_at, read_named, read_nodes, tell_halt, unbound_at,
+    with_calls,
+};
 use event_text::LinesError;
 use std::alloc::{AllocError, Global};
 use tab_call::Registry;

@@ -13,7 +13,8 @@ use Rattle.bench_spec.specs.Taken.{Run, opened}
 use Rattle.bench_spec.specs.declared.opening.OpeningError.{OpeningError}
 use Rattle.bench_spec.specs.declared.opening.OpeningError.TheVariants as errors
 use Rattle.cmd_bench.proofs.BookLemmas.{run_by}
-use Rattle.cmd_bench.specs.Told.{bad_text, opening_text}
+use Rattle.bench_setup.specs.Opening.{opening_text}
+use Rattle.cmd_bench.specs.Told.{bad_text}
 use Rattle.script_text.specs.Scripts.{first_bad}
 use Rattle.tab_law.specs.Books.{Laws}
 use Rattle.cmd_debug.specs.Opened.{IsBegun, IsOpenedBy, refusal_of}

@@ -8,7 +8,8 @@ use Rattle.bench_open.specs.declared.config.Config as handed
 use Rattle.bench_script.specs.Ran.{IsRunBy}
 use Rattle.bench_spec.specs.Opening.{Config, laws_of, opening_refusal, settings_of}
 use Rattle.bench_spec.specs.Taken.{Run, opened}
-use Rattle.cmd_bench.specs.Told.{bad_text, opening_text}
+use Rattle.bench_setup.specs.Opening.{opening_text}
+use Rattle.cmd_bench.specs.Told.{bad_text}
 use Rattle.role_tables.specs.Roles.{all_laws}
 use Rattle.script_text.specs.Scripts.{first_bad, script_of}
 use Rattle.tab_law.specs.Books.{Laws}

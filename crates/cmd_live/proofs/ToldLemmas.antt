@@ -8,7 +8,10 @@ use Rattle.config_text.specs.declared.node.NodeConfig.{NodeConfig}
 use Rattle.live_report.specs.declared.fault.LifeFault.{LifeFault}
 use Rattle.live_report.specs.declared.fault.LifeFault.TheVariants as faults
 use Rattle.node_logs.specs.Files.{File}
-use Rattle.cmd_live.specs.Told.{AreTold, TellsOf, disagreed, failed, nothing, one_more, worse}
+use Rattle.bench_spec.specs.Taken.{Run}
+use Rattle.live_report.specs.Files.{AreWritten}
+use Rattle.std.specs.Prelude.{IfOk, Result}
+use Rattle.cmd_live.specs.Told.{AreTold, AreWrittenWhere, TellsOf, disagreed, failed, nothing, one_more, worse}
 
 -- the next of nodes is told of
 pub told_next : (is_logged : Bool) (written before after : Option (List File)) (first failed_before failed_after : Option (List ℕ)) (nodes : List NodeConfig) (i : ℕ)
@@ -20,6 +23,14 @@ told_next is_logged written before after first failed_before failed_after nodes 
     subst (λ (ns : List NodeConfig). AreTold is_logged written first ns text' status' after failed_after)
     (ap (λ (n : NodeConfig). take i nodes ++ n ∷ []) is ∙ sym (take_more nodes i other within))
     (one_more (take i nodes) node text text' status status' before after failed_before failed_after told one)
+
+-- where logs are wanted the files are those of the node
+pub written_where : {E : Type 0} (r : Result Bool E) (host : List ℕ) (node : NodeConfig) (run : Run) (written written' : Option (List File)) (before failed' : Option (List ℕ))
+    (is_logged : Bool) → is_logged ≡ true → host ≡ node.identity.host → IfOk r (AreWritten host node run written written' before failed')
+    → IfOk r (AreWrittenWhere is_logged node run written written' before failed')
+written_where {E} r host node run written written' before failed' is_logged logged same are =
+    subst (λ (b : Bool). IfOk r (AreWrittenWhere b node run written written' before failed')) (sym logged)
+    (subst (λ (h : List ℕ). IfOk r (AreWritten h node run written written' before failed')) same are)
 
 failed_unlike : (status : Status) → failed status ≡ statuses.Usage → ⊥
 failed_unlike statuses.NoMemory is = cc

@@ -11,27 +11,14 @@ use bench_core::Core;
 use bench_item::{Key, Role};
 use bench_node::{LiveNode, PeerAddress, open_bench};
 use bench_open::Config;
-use bench_setup::{WithCalls, with_calls};
+use bench_setup::{WithCalls, opening_text_at, unbound_at, with_calls};
 use bench_spec::OpeningError;
 use config_text::{DeskConfig, NodeConfig, PeerConfig};
-use fault_text::unbound_text;
 use live_desk::{Desk, DeskError};
 use live_turns::registry_count;
 use std::alloc::{AllocError, AllocFailed, Global};
 use std::net::SocketAddr;
 use tab_call::Registry;
-use tab_law::LawBook;
-
-const BAD_LIMITS: &str =
-    "not opened: limits\n  wanted: 1 to 16 shards, 1 to 8 pages, at most 16 desks and 64 peers\n";
-
-const BAD_NAMES: &str =
-    "not opened: names\n  wanted: a host, a realm and peers of 1 to 255 octets of ASCII, each peer once\n";
-
-const BAD_LAWS: &str = "not opened: laws\n";
-
-const BAD_ACCOUNT: &str =
-    "not opened: account\n  wanted: numbers from 1, each once, at most 2^62 units, 1024 accounts on a page\n";
 
 /// Why a node does not live.
 #[derive(Drop)]
@@ -56,34 +43,6 @@ impl<T: Drop> From<AllocFailed<T>> for Refused {
 
     fn from(_e: AllocFailed<T>) -> Refused {
         Refused::NoMemory
-    }
-}
-
-/// The first name of a table that the laws lack, and what is near it.
-fn lacking_text(
-    alloc: Global,
-    registries: &[Registry],
-    name: &[u8],
-) -> Result<Vec<u8>, AllocError> {
-    match registries.first() {
-        Some(registry) => unbound_text(alloc, registry.laws(), None, name),
-        None => unbound_text(alloc, &LawBook::new(alloc), None, name),
-    }
-}
-
-/// Why a bench is not opened, and what is wanted.
-fn opening_text(
-    alloc: Global,
-    registries: &[Registry],
-    error: &OpeningError,
-) -> Result<Vec<u8>, AllocError> {
-    match error {
-        OpeningError::Limits => Vec::from_slice(alloc, BAD_LIMITS.as_bytes()),
-        OpeningError::Names => Vec::from_slice(alloc, BAD_NAMES.as_bytes()),
-        OpeningError::Laws => Vec::from_slice(alloc, BAD_LAWS.as_bytes()),
-        OpeningError::Unbound(name) => lacking_text(alloc, registries, name.as_slice()),
-        OpeningError::Account => Vec::from_slice(alloc, BAD_ACCOUNT.as_bytes()),
-        OpeningError::NoMemory => Err(AllocError),
     }
 }
 
@@ -200,10 +159,11 @@ impl WithCalls for Opening<'_> {
             bench,
             dialled,
         } = self;
+        let row = unbound_at(alloc, &bench, &registries);
         match open_bench(alloc, bench, &registries) {
             Ok(core) => Ok(node_of(alloc, core, place, node, dialled)),
             Err(OpeningError::NoMemory) => Err(AllocError),
-            Err(error) => Ok(Err(Refused::Told(opening_text(alloc, &registries, &error)?))),
+            Err(error) => Ok(Err(Refused::Told(opening_text_at(alloc, &registries, row, &error)?))),
         }
     }
 }

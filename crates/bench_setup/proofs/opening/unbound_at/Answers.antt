@@ -1,8 +1,8 @@
 use Rattle.std.proofs.Common.{◌∙◌, ap, sym}
 use Rattle.tab_law.specs.Books.{Laws}
-use Rattle.cmd_bench.specs.Told.{unbound_in}
-use Rattle.cmd_bench.proofs.BookLemmas.{no_books}
-use Rattle.cmd_bench.proofs.opening.unbound_at.Goals as goal
+use Rattle.bench_setup.specs.Opening.{unbound_in}
+use Rattle.bench_setup.proofs.OpeningLemmas.{no_books}
+use Rattle.bench_setup.proofs.opening.unbound_at.Goals as goal
 
 -- without a registry there are no laws
 pub returns-in-None : goal.returns-in-None
