@@ -1,6 +1,6 @@
 -- Which words ask that nodes live.
 use Rattle.std.specs.Prelude.{option_map}
-use Rattle.cmd_live.specs.declared.run.LiveWords.{LiveWords}
+use Rattle.cmd_live.specs.declared.words.LiveWords.{LiveWords}
 use Rattle.cmd_words.specs.Words.{Wanted, Live}
 
 -- what these words ask for
