@@ -1,5 +1,5 @@
 -- What `live` does: nodes live and are told of, or something stands in the way before.
-use Rattle.std.specs.Prelude.{◌≡◌, ◌<◌, ◌⊎◌, ℕ, Bool, false, true, List, Option, None, codes, length}
+use Rattle.std.specs.Prelude.{◌≡◌, ◌<◌, ◌⊎◌, ℕ, Bool, false, true, List, Option, None, codes, is_some, length}
 use Rattle.base_device.specs.Devices.{Tells}
 use Rattle.base_device.specs.declared.status.Status.{Status}
 use Rattle.base_device.specs.declared.status.Status.TheVariants as statuses
@@ -38,13 +38,13 @@ pub record IsHalted
 -- all was read, and something stands in the way of nodes
 pub record IsStopped
     {I O : Type 0} (remaining : I → Option (List ℕ)) (reads failures : I → ℕ) (contents : O → Option (List ℕ))
-    (write_failures idle : O → ℕ) (source source' : I) (sink sink' : O) (failed' : Option (List ℕ))
-    (answer : Status) : Type 0 where
+    (write_failures idle : O → ℕ) (host log : Option (List ℕ)) (source source' : I) (sink sink' : O)
+    (failed' : Option (List ℕ)) (answer : Status) : Type 0 where
   pub setups : List Setup
   pub mid : I
   pub read : AreSetupsFrom remaining reads failures source mid setups
   pub stop : Stop
-  pub cause : IsStop remaining reads failures mid source' failed' stop
+  pub cause : IsStop remaining reads failures host log setups mid source' failed' stop
   pub told : IsToldStop contents write_failures idle sink sink' stop answer
 
 -- the files that nodes name are copied, where logs are wanted
@@ -83,12 +83,13 @@ pub record HasLived
 
 abbrev pub IsLiveMet : {I O F : Type 0} → (remaining : I → Option (List ℕ)) → (reads failures : I → ℕ)
     → (contents : O → Option (List ℕ)) → (write_failures idle : O → ℕ) → (written : F → Option (List File))
-    → (failed : F → Option (List ℕ)) → (host seconds : Option (List ℕ)) → (is_logged : Bool)
+    → (failed : F → Option (List ℕ)) → (host seconds log : Option (List ℕ))
     → (source source' : I) → (sink sink' : O) → (files files' : F) → Status → Type 0
-IsLiveMet remaining reads failures contents write_failures idle written failed host seconds is_logged source source'
+IsLiveMet remaining reads failures contents write_failures idle written failed host seconds log source source'
     sink sink' files files' answer =
     WantsSeconds contents write_failures idle seconds source source' sink sink' files files' answer
     ⊎ IsHalted remaining reads failures contents write_failures idle source source' sink sink' files files' answer
-    ⊎ IsStopped remaining reads failures contents write_failures idle source source' sink sink' (failed files') answer
-    ⊎ HasLived remaining reads failures contents write_failures idle written failed host is_logged source source'
+    ⊎ IsStopped remaining reads failures contents write_failures idle host log source source' sink sink' (failed files')
+    answer
+    ⊎ HasLived remaining reads failures contents write_failures idle written failed host (is_some log) source source'
     sink sink' files files' answer

@@ -4,6 +4,8 @@ use Rattle.base_device.specs.Devices.{Tells}
 use Rattle.base_device.specs.declared.status.Status.{Status}
 use Rattle.base_device.specs.declared.status.Status.TheVariants as statuses
 use Rattle.bench_setup.specs.Halts.{IsToldHalt}
+use Rattle.bench_setup.specs.declared.setups.Setup.{Setup}
+use Rattle.cmd_live.specs.Refusals.{IsRefusal}
 use Rattle.cmd_live.specs.declared.opening.Refused.TheVariants.{Failed, NoMemory, Told}
 use Rattle.cmd_live.specs.declared.stop.Stop.{Stop}
 use Rattle.cmd_live.specs.declared.stop.Stop.TheVariants.{Refused, Uncopied}
@@ -11,12 +13,12 @@ use Rattle.live_report.specs.Copies.{IsCopyError}
 use Rattle.live_report.specs.declared.copies.CopyError.TheVariants.{Unread, Unwritten}
 use Rattle.node_logs.specs.Logs.{unwritten_text}
 
--- a node is refused, or the system refuses a socket or a folder, or memory ran out, and nothing is read;
--- or a file that a node names is not copied
-abbrev pub IsStop : {I : Type 0} → (remaining : I → Option (List ℕ)) → (reads failures : I → ℕ) → (old new : I)
-    → (failed' : Option (List ℕ)) → Stop → Type 0
-IsStop remaining reads failures old new failed' (Refused why) = failures new ≡ failures old
-IsStop remaining reads failures old new failed' (Uncopied error) =
+-- nodes are refused, and no call failed; or a file that a node names is not copied
+abbrev pub IsStop : {I : Type 0} → (remaining : I → Option (List ℕ)) → (reads failures : I → ℕ)
+    → (host log : Option (List ℕ)) → List Setup → (old new : I) → (failed' : Option (List ℕ)) → Stop → Type 0
+IsStop remaining reads failures host log setups old new failed' (Refused why) =
+    (failures new ≡ failures old) × IsRefusal host log setups why
+IsStop remaining reads failures host log setups old new failed' (Uncopied error) =
     IsCopyError remaining reads failures old new failed' error
 
 -- it is told

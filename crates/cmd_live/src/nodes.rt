@@ -1,8 +1,10 @@
 //! The nodes of a CONFIG that are to live, opened, and where they listen.
-ghost use Rattle.std.specs.Prelude.{◌≡◌, ◌<◌, ◌≤◌, ◌+◌, ◌++◌, IfOk, OnOk, length, option_map};
+ghost use Rattle.std.specs.Prelude.{◌≡◌, ◌<◌, ◌≤◌, ◌+◌, ◌++◌, IfErr, IfOk, OnOk, length, option_map};
 ghost use Rattle.cmd_live.specs.Nodes.{is_wanted, nodes_of, wanted_node};
+ghost use Rattle.cmd_live.specs.Refusals.{IsRefusedIfWanted, IsRefusedIn, IsRefusedNode, IsRefusedOrNone};
+ghost use Rattle.cmd_live.specs.Refusals.{IsWithoutSockets, no_address_text, no_node_text, no_socket_text};
 
-use crate::opening::{Opened, Opening, Refused, open};
+use crate::opening::{Opened, Refused, open};
 use crate::places::{Listens, addresses_of, listening_at};
 use crate::words::LiveWords;
 use base_list::Octets;
@@ -21,29 +23,35 @@ use std::alloc::{AllocError, Global};
 use std::net::Net;
 
 /// What is told of a node whose sockets the system refuses.
-fn no_socket(alloc: Global, host: &[u8]) -> Result<Refused, AllocError> {
+fn no_socket(alloc: Global, host: &[u8]) -> Result<Vec<u8>, AllocError>
+    ensures { IfOk result (λ out. out.items ≡ no_socket_text host.now) }
+{
     let mut out = Vec::from_slice(alloc, b"node ")?;
     put_host(&mut out, host)?;
     out.extend_from_slice(b": the system refuses a socket\n")?;
-    Ok(Refused::Failed(out))
+    Ok(out)
 }
 
 /// What is told of a node that listens at what is no address.
-fn no_address(alloc: Global, place: usize) -> Result<Refused, AllocError> {
+fn no_address(alloc: Global, place: usize) -> Result<Vec<u8>, AllocError>
+    ensures { IfOk result (λ out. out.items ≡ no_address_text place) }
+{
     let mut out = Vec::new(alloc);
     put_number(&mut out, b"nodes[", place as u64)?;
     out.extend_from_slice(b"].listen: a host and a port are wanted, as 127.0.0.1:3868\n")?;
-    Ok(Refused::Told(out))
+    Ok(out)
 }
 
 /// What is told where no node is to live.
-fn no_node(alloc: Global, host: Option<&str>) -> Result<Refused, AllocError> {
+fn no_node(alloc: Global, host: Option<&str>) -> Result<Vec<u8>, AllocError>
+    ensures { IfOk result (λ out. out.items ≡ no_node_text (option_map (λ host. host.now) host.entry)) }
+{
     let mut out = Vec::from_slice(alloc, b"CONFIG has no node ")?;
     if let Some(host) = host {
         put_host(&mut out, host.as_bytes())?;
     }
     out.extend_from_slice(b"\n")?;
-    Ok(Refused::Told(out))
+    Ok(out)
 }
 
 /// The sockets of a node, which listens where it is to.
@@ -53,16 +61,20 @@ fn sockets_of<R: Net>(
     place: usize,
     node: &NodeConfig,
     live: LiveNode,
-) -> Result<Sockets<NodePort>, Refused> {
+) -> Result<Sockets<NodePort>, Refused>
+    ensures { IfErr result (IsWithoutSockets place node.now) }
+{
     let address = match listening_at(rt, node.listen.as_ref()) {
         Listens::Nowhere => None,
         Listens::At(address) => Some(address),
-        Listens::Unknown => return Err(no_address(alloc, place)?),
+        Listens::Unknown => return Err(Refused::Told(no_address(alloc, place)?)),
     };
     match Sockets::new(rt, alloc, NodePort { node: live }, address) {
         Ok(sockets) => Ok(sockets),
         Err(SocketsFault::NoMemory) => Err(Refused::NoMemory),
-        Err(SocketsFault::Refused) => Err(no_socket(alloc, node.identity.host.as_slice())?),
+        Err(SocketsFault::Refused) => {
+            Err(Refused::Failed(no_socket(alloc, node.identity.host.as_slice())?))
+        }
     }
 }
 
@@ -82,6 +94,7 @@ fn watch_of(
 }
 
 /// Opens a node at its place in CONFIG, and its sockets.
+#[tactic(auto, using(crate::proofs::RefusalLemmas::no_memory))]
 fn living_of<R: Net>(
     rt: &R,
     alloc: Global,
@@ -90,7 +103,9 @@ fn living_of<R: Net>(
     bench: Config,
     seconds: u64,
     stats: bool,
-) -> Result<Living, Refused> {
+) -> Result<Living, Refused>
+    ensures { IfErr result (IsRefusedNode place (record { node = node.now; bench = bench })) }
+{
     let dialled = addresses_of(rt, alloc, node.peers.as_slice())?;
     let shards = bench.shards;
     // Who looks each second looks at one log.
@@ -99,13 +114,7 @@ fn living_of<R: Net>(
     } else {
         None
     };
-    let Opened { node: live, desks } = open(Opening {
-        alloc,
-        place,
-        node,
-        bench,
-        dialled: &dialled,
-    })?;
+    let Opened { node: live, desks } = open(alloc, place, node, bench, &dialled)?;
     let watch = watch_of(alloc, node, &live, stats)?;
     Ok(Living {
         sockets: sockets_of(rt, alloc, place, node, live)?,
@@ -148,6 +157,7 @@ fn add_wanted<R: Net>(
     ensures nodes { OnOk result (nodes.new.nodes.items
         ≡ nodes.old.nodes.items ++ wanted_node (option_map (λ host. host.now) words.entry.node) setup) }
     ensures few { OnOk result (length nodes.new.nodes.items ≤ length nodes.old.nodes.items + 1) }
+    ensures refused { IfErr result (IsRefusedIfWanted (option_map (λ host. host.now) words.entry.node) place setup) }
 {
     if is_wanted(&setup, words.node) {
         let Setup { node, bench } = setup;
@@ -169,6 +179,7 @@ fn all_nodes<R: Net>(
     ensures nodes { IfOk result (λ nodes. nodes.nodes.items
         ≡ nodes_of (option_map (λ host. host.now) words.entry.node) setups.items) }
     ensures few { IfOk result (λ nodes. length nodes.nodes.items ≤ MAX_NODES) }
+    ensures refused { IfErr result (IsRefusedIn (option_map (λ host. host.now) words.entry.node) setups.items) }
 {
     let mut nodes = Nodes {
         nodes: Vec::new(alloc),
@@ -196,10 +207,11 @@ pub(crate) fn nodes_of<R: Net>(
         ≡ nodes_of (option_map (λ host. host.now) words.entry.node) setups.items) }
     ensures few { IfOk result (λ nodes. length nodes.nodes.items ≤ MAX_NODES) }
     ensures some { IfOk result (λ nodes. 0 < length nodes.nodes.items) }
+    ensures refused { IfErr result (IsRefusedOrNone (option_map (λ host. host.now) words.entry.node) setups.items) }
 {
     let nodes = all_nodes(rt, alloc, setups, words, seconds)?;
     if nodes.nodes.is_empty() {
-        return Err(no_node(alloc, words.node)?);
+        return Err(Refused::Told(no_node(alloc, words.node)?));
     }
     Ok(nodes)
 }

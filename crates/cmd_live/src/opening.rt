@@ -1,8 +1,10 @@
 //! A node of a CONFIG as a live node.
 #![tactic(auto, using(crate::proofs::LawLemmas::same_laws))]
 
-ghost use Rattle.std.specs.Prelude.{◌≡◌};
+ghost use Rattle.std.specs.Prelude.{◌≡◌, IfErr, IfOk};
 ghost use Rattle.std.specs.List.{AllByRecursion as Each};
+ghost use Rattle.cmd_live.specs.Refusals.{HasBadDeskIn, HasOpened, IsBadDesk, IsUnopened, IsUnready};
+ghost use Rattle.cmd_live.specs.Refusals.{bad_text};
 ghost use Rattle.cmd_live.specs.declared.opening.Refused.TheVariants.{NoMemory};
 ghost use Rattle.role_tables.specs.Roles.{all_laws};
 
@@ -12,7 +14,6 @@ use bench_item::{Key, Role};
 use bench_node::{LiveNode, PeerAddress, open_bench};
 use bench_open::Config;
 use bench_setup::{WithCalls, opening_text_at, unbound_at, with_calls};
-use bench_spec::OpeningError;
 use config_text::{DeskConfig, NodeConfig, PeerConfig};
 use live_desk::{Desk, DeskError};
 use live_turns::registry_count;
@@ -47,7 +48,9 @@ impl<T: Drop> From<AllocFailed<T>> for Refused {
 }
 
 /// The text that tells of a desk's text that is none.
-fn bad_text(alloc: Global, place: usize, desk: usize, text: usize) -> Result<Vec<u8>, AllocError> {
+fn bad_text(alloc: Global, place: usize, desk: usize, text: usize) -> Result<Vec<u8>, AllocError>
+    ensures { IfOk result (λ out. out.items ≡ bad_text place desk text) }
+{
     let mut out = Vec::new(alloc);
     put_number(&mut out, b"nodes[", place as u64)?;
     put_number(&mut out, b"].desks[", desk as u64)?;
@@ -79,44 +82,78 @@ fn addresses_of(
     Ok(addresses)
 }
 
+/// A desk of a bench.
+fn desk_of(
+    alloc: Global,
+    core: &Core,
+    place: usize,
+    number: usize,
+    config: &DeskConfig,
+    turns: u64,
+) -> Result<Desk, Refused>
+    ensures { IfErr result (IsBadDesk place number config.now core.now) }
+{
+    let DeskConfig { lines, repeat } = config;
+    let shown = number.min(u32::MAX as usize) as u32;
+    match Desk::new(alloc, core, shown, lines.as_slice(), *repeat, turns) {
+        Ok(desk) => Ok(desk),
+        Err(DeskError::BadText(text)) => Err(Refused::Told(bad_text(alloc, place, number, text)?)),
+        Err(DeskError::NoMemory) => Err(Refused::NoMemory),
+    }
+}
+
 /// The desks of a bench.
 fn desks_of(
     alloc: Global,
     core: &Core,
     place: usize,
     node: &NodeConfig,
-) -> Result<Vec<Desk>, Refused> {
+) -> Result<Vec<Desk>, Refused>
+    ensures { IfErr result (HasBadDeskIn place node.now core.now) }
+{
     let mut desks = Vec::new(alloc);
-    for (number, desk) in node.desks.as_slice().iter().enumerate() {
-        let DeskConfig { lines, repeat } = desk;
-        match Desk::new(
-            alloc,
-            core,
-            number.min(u32::MAX as usize) as u32,
-            lines.as_slice(),
-            *repeat,
-            node.turns,
-        ) {
-            Ok(desk) => desks.push(desk)?,
-            Err(DeskError::BadText(text)) => {
-                return Err(Refused::Told(bad_text(alloc, place, number, text)?));
-            }
-            Err(DeskError::NoMemory) => return Err(Refused::NoMemory),
-        }
+    let configs = node.desks.as_slice();
+    'desks: for number in 0..configs.len() {
+        desks.push(desk_of(alloc, core, place, number, &configs[number], node.turns)?)?;
     }
     Ok(desks)
 }
 
-/// A node that is to be opened.
+/// A bench that is to be opened.
 #[derive(Drop)]
-pub(crate) struct Opening<'a> {
-    pub(crate) alloc: Global,
-    /// Its place in CONFIG.
-    pub(crate) place: usize,
-    pub(crate) node: &'a NodeConfig,
-    pub(crate) bench: Config,
-    /// Of each peer where it is dialled.
-    pub(crate) dialled: &'a [Option<SocketAddr>],
+struct Bench {
+    alloc: Global,
+    config: Config,
+}
+
+impl WithCalls for Bench {
+    type Answer = Result<Core, Vec<u8>>;
+
+    ghost fits = { λ _ laws. Each (λ l. l ≡ all_laws) laws };
+
+    ghost answers = { λ bench laws answer. HasOpened bench.config laws answer };
+
+    fn run(self, registries: Vec<Registry>) -> Result<Result<Core, Vec<u8>>, AllocError> {
+        let Bench { alloc, config } = self;
+        let row = unbound_at(alloc, &config, &registries);
+        match open_bench(alloc, config, &registries) {
+            Ok(core) => Ok(Ok(core)),
+            Err(error) => Ok(Err(opening_text_at(alloc, &registries, row, &error)?)),
+        }
+    }
+}
+
+/// Opens the bench of a node.
+fn core_of(alloc: Global, config: Config) -> Result<Core, Refused>
+    ensures laws { IfOk result (λ core. core.settings.node.laws ≡ all_laws) }
+    ensures refused { IfErr result (IsUnopened config) }
+{
+    let count = registry_count(config.shards);
+    match with_calls(alloc, count, Bench { alloc, config }) {
+        Ok(Ok(core)) => Ok(core),
+        Ok(Err(text)) => Err(Refused::Told(text)),
+        Err(AllocError) => Err(Refused::NoMemory),
+    }
 }
 
 /// A node that was opened, and its desks.
@@ -135,6 +172,7 @@ fn node_of(
     dialled: &[Option<SocketAddr>],
 ) -> Result<Opened, Refused>
     requires { core.settings.node.laws ≡ all_laws }
+    ensures { IfErr result (HasBadDeskIn place node.now core) }
 {
     let peers = addresses_of(alloc, &core, node.peers.as_slice(), dialled)?;
     let desks = desks_of(alloc, &core, place, node)?;
@@ -144,35 +182,16 @@ fn node_of(
     })
 }
 
-impl WithCalls for Opening<'_> {
-    type Answer = Result<Opened, Refused>;
-
-    ghost fits = { λ _ laws. Each (λ l. l ≡ all_laws) laws };
-
-    ghost answers = { λ _ _ _. Unit {0} };
-
-    fn run(self, registries: Vec<Registry>) -> Result<Result<Opened, Refused>, AllocError> {
-        let Opening {
-            alloc,
-            place,
-            node,
-            bench,
-            dialled,
-        } = self;
-        let row = unbound_at(alloc, &bench, &registries);
-        match open_bench(alloc, bench, &registries) {
-            Ok(core) => Ok(node_of(alloc, core, place, node, dialled)),
-            Err(OpeningError::NoMemory) => Err(AllocError),
-            Err(error) => Ok(Err(Refused::Told(opening_text_at(alloc, &registries, row, &error)?))),
-        }
-    }
-}
-
-/// Opens a node.
-pub(crate) fn open(opening: Opening<'_>) -> Result<Opened, Refused> {
-    let count = registry_count(opening.bench.shards);
-    match with_calls(opening.alloc, count, opening) {
-        Ok(answer) => answer,
-        Err(AllocError) => Err(Refused::NoMemory),
-    }
+/// Opens a node at its place in CONFIG, whose peers are dialled there.
+pub(crate) fn open(
+    alloc: Global,
+    place: usize,
+    node: &NodeConfig,
+    bench: Config,
+    dialled: &[Option<SocketAddr>],
+) -> Result<Opened, Refused>
+    ensures { IfErr result (IsUnready place node.now bench) }
+{
+    let core = core_of(alloc, bench)?;
+    node_of(alloc, core, place, node, dialled)
 }

@@ -1,4 +1,6 @@
 //! Where nodes listen, and where peers are dialled.
+ghost use Rattle.std.specs.Prelude.{◌≡◌, List, Some, option_map, ℕ};
+ghost use Rattle.cmd_live.specs.declared.places.Listens.TheVariants.{Unknown};
 
 use base_list::Octets;
 use config_text::PeerConfig;
@@ -40,7 +42,9 @@ pub(crate) enum Listens {
 }
 
 /// Where a node listens.
-pub(crate) fn listening_at<R: Net>(rt: &R, text: Option<&Octets>) -> Listens {
+pub(crate) fn listening_at<R: Net>(rt: &R, text: Option<&Octets>) -> Listens
+    ensures { result ≡ Unknown → (listen : List ℕ) × (option_map (λ text. text.now) text.entry ≡ Some listen) }
+{
     let Some(text) = text else {
         return Listens::Nowhere;
     };

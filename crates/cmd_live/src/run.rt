@@ -3,6 +3,7 @@ ghost use Rattle.std.specs.Prelude.{◌≡◌, ◌<◌, ◌≤◌, ◌+◌, ◌-
 ghost use Rattle.std.specs.Prelude.{option_map};
 ghost use Rattle.cmd_live.specs.Met.{AreCopiedWhere, HaveLived, IsLiveMet};
 ghost use Rattle.cmd_live.specs.Nodes.{nodes_of};
+ghost use Rattle.cmd_live.specs.Refusals.{IsNoFolder, no_folder_text};
 ghost use Rattle.cmd_live.specs.Stops.{IsStop};
 ghost use Rattle.cmd_live.specs.Told.{AreTold, seconds_of};
 ghost use Rattle.live_report.specs.Copies.{IsCopyError};
@@ -27,17 +28,21 @@ use std::rt::Files;
 const BAD_SECONDS: &str = "wanted: a number of seconds behind --seconds\n";
 
 /// What is told where no log can be written to a folder.
-fn no_folder(alloc: Global, folder: &str) -> Result<Refused, AllocError> {
+fn no_folder(alloc: Global, folder: &str) -> Result<Vec<u8>, AllocError>
+    ensures { IfOk result (λ out. out.items ≡ no_folder_text folder.now) }
+{
     let mut out = Vec::from_slice(alloc, folder.as_bytes())?;
     out.extend_from_slice(b": no log can be written there\n")?;
-    Ok(Refused::Failed(out))
+    Ok(out)
 }
 
 /// Makes the folder of the logs, where one is wanted and isn't there.
-fn make_folder<R: Files>(rt: &R, alloc: Global, folder: Option<&str>) -> Result<(), Refused> {
+fn make_folder<R: Files>(rt: &R, alloc: Global, folder: Option<&str>) -> Result<(), Refused>
+    ensures { IfErr result (IsNoFolder (option_map (λ folder. folder.now) folder.entry)) }
+{
     if let Some(folder) = folder {
         if create_dir_all(rt, folder).is_err() {
-            return Err(no_folder(alloc, folder)?);
+            return Err(Refused::Failed(no_folder(alloc, folder)?));
         }
     }
     Ok(())
@@ -57,7 +62,7 @@ fn copy_where<I: FileSource, W: FileSink>(
     ensures reads { I.reads source.new ≤ I.reads source.old + 256 * MAX_READS }
     ensures made { I.reads source.old ≤ I.reads source.new }
     ensures sound { OnOk result (I.failures source.new ≡ I.failures source.old) }
-    ensures copied { OnOk result (AreCopiedWhere I.remaining I.reads I.failures (is_some words.entry.log) nodes.now
+    ensures copied { OnOk result (AreCopiedWhere I.remaining I.reads I.failures (is_some (option_map (λ folder. folder.now) words.entry.log)) nodes.now
         source.old source.new (W.files files.old) (W.files files.new)) }
     ensures kept { OnOk result (W.failed files.new ≡ W.failed files.old) }
     ensures error { IfErr result (IsCopyError I.remaining I.reads I.failures source.old source.new
@@ -77,14 +82,14 @@ fn live_all<F: Fn(Vec<Living>) -> Result<Vec<Option<Lived>>, AllocError>, W: Fil
     nodes: Nodes,
     together: &F,
     files: &mut W,
-) -> Result<Ended, Refused>
+) -> Result<Ended, AllocError>
     requires { F.IsAlwaysCallable together.now }
     ensures { IfOk result (λ told. AreTold is_logged (W.files files.old) (W.failed files.old) nodes.nodes.items
         told.text.items told.status (W.files files.new) (W.failed files.new)) }
 {
     let Nodes { nodes, livings } = nodes;
     let lived = together(livings)?;
-    Ok(tell_all(alloc, is_logged, &nodes, &lived, files)?)
+    tell_all(alloc, is_logged, &nodes, &lived, files)
 }
 
 /// The seconds that are wanted; without the word as many as a number tells.
@@ -120,9 +125,11 @@ fn live_setups<
     requires failures { I.failures source.old < 2 ^ 64 - 1 }
     ensures reads { I.reads source.new ≤ I.reads source.old + 256 * MAX_READS }
     ensures lived { IfOk result (λ told. HaveLived I.remaining I.reads I.failures W.files W.failed
-        (is_some words.entry.log) (nodes_of (option_map (λ host. host.now) words.entry.node) setups.items)
+        (is_some (option_map (λ folder. folder.now) words.entry.log)) (nodes_of (option_map (λ host. host.now) words.entry.node) setups.items)
         source.old source.new files.old files.new told.text.items told.status) }
-    ensures stopped { IfErr result (IsStop I.remaining I.reads I.failures source.old source.new (W.failed files.new)) }
+    ensures stopped { IfErr result (IsStop I.remaining I.reads I.failures
+        (option_map (λ host. host.now) words.entry.node) (option_map (λ folder. folder.now) words.entry.log)
+        setups.items source.old source.new (W.failed files.new)) }
 {
     make_folder(rt, alloc, words.log)?;
     let nodes = nodes_of(rt, alloc, setups, words, seconds)?;
@@ -159,7 +166,8 @@ pub fn live<
     // or it is told that they are not.
     ensures as_asked { IsLiveMet I.remaining I.reads I.failures O.contents O.failures O.idle W.files W.failed
         (option_map (λ host. host.now) words.entry.node) (option_map (λ text. text.now) words.entry.seconds)
-        (is_some words.entry.log) source.old source.new sink.old sink.new files.old files.new result }
+        (option_map (λ folder. folder.now) words.entry.log) source.old source.new sink.old sink.new
+        files.old files.new result }
 
     // Words are refused only where the seconds are no number, and then nothing is read.
     ensures usage { result ≡ Status.Usage → (source.new ≡ source.old)

@@ -1,6 +1,7 @@
 //! What stands in the way of nodes of which all was read.
 ghost use Rattle.std.specs.Prelude.{◌≡◌, ◌≢◌, ◌<◌, ◌≤◌, ◌-◌, ◌^◌, max};
 ghost use Rattle.cmd_live.specs.Stops.{IsToldStop};
+ghost use Rattle.cmd_live.specs.declared.opening.Refused.TheVariants.{NoMemory};
 ghost use Rattle.cmd_live.specs.declared.stop.Stop.TheVariants as stops;
 
 use crate::opening::Refused;
@@ -32,6 +33,14 @@ impl From<CopyError> for Stop {
 
     fn from(error: CopyError) -> Stop {
         Stop::Uncopied(error)
+    }
+}
+
+impl From<AllocError> for Stop {
+    ghost from_gives = { λ _ e. e ≡ stops.Refused NoMemory };
+
+    fn from(_e: AllocError) -> Stop {
+        Stop::Refused(Refused::NoMemory)
     }
 }
 

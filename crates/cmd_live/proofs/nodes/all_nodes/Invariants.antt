@@ -1,4 +1,4 @@
-use Rattle.std.proofs.Common.{◌≡◌, ◌≤◌, ◌+◌, ◌++◌, length}
+use Rattle.std.proofs.Common.{◌≡◌, ◌≤◌, ◌+◌, ◌++◌, drop, length}
 use Rattle.std.specs.Prelude.{option_map}
 use Rattle.cmd_live.specs.Nodes.{nodes_of}
 use Rattle.cmd_live.proofs.nodes.all_nodes.Given as goal
@@ -8,7 +8,8 @@ abbrev pub invariant-setups : goal.invariant-setups
 invariant-setups g l = record {
   nodes : l.nodes.nodes.items ++ nodes_of (option_map (λ host. host.now) l.words.node) l.left.rest.items
       ≡ nodes_of (option_map (λ host. host.now) l.words.node) l.initial.left.rest.items;
-  few : l.place + length l.left.rest.items ≤ 64;
+  left : drop l.place l.initial.left.rest.items ≡ l.left.rest.items;
+  all : l.place + length l.left.rest.items ≡ length l.initial.left.rest.items;
   count : length l.nodes.nodes.items ≤ l.place;
 }
 

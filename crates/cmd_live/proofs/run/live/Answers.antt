@@ -39,7 +39,7 @@ returns-in-Err-live_setups-clause-as_asked g c = inr (inr (inl (record {
 -- nodes that lived ask for no other words
 pub returns-in-Ok-live_setups-clause-usage : goal.returns-in-Ok-live_setups-clause-usage
 returns-in-Ok-live_setups-clause-usage g c = λ usage. absurd
-    (tells_nodes g.O.ByteSink.contents g.O.ByteSink.failures g.O.ByteSink.idle c.args.sink.now c.tell-in-Ok-live_setups.new.sink (is_some c.args.words.log)
+    (tells_nodes g.O.ByteSink.contents g.O.ByteSink.failures g.O.ByteSink.idle c.args.sink.now c.tell-in-Ok-live_setups.new.sink (is_some (option_map (λ folder. folder.now) c.args.words.log))
     c.in-Ok-live_setups.ensures.lived.with_copies (g.W.FileSink.files c.live_setups.new.files) (g.W.FileSink.failed c.args.files.now) (g.W.FileSink.failed c.live_setups.new.files)
     (nodes_of (option_map (λ host. host.now) c.args.words.node) c.in-Ok.setups.items) c.in-Ok-live_setups.told.text.items c.in-Ok-live_setups.told.status
     c.tell-in-Ok-live_setups.result c.in-Ok-live_setups.ensures.lived.are (rw c.deref.ensures.value at c.tell-in-Ok-live_setups.ensures.told) usage)
