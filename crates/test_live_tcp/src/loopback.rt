@@ -6,6 +6,7 @@ use cmd_bench::{Shown, run_on};
 use cmd_live::{LiveWords, live};
 use live_threads::live_one;
 use live_turns::{Lived, Living};
+use node_logs::Folder;
 use std::alloc::{AllocError, Global};
 use std::net::{Ipv4Addr, SocketAddr, TcpListener};
 use std::test::Fail;
@@ -84,7 +85,8 @@ fn told<'a, F: Fn(Vec<Living>) -> Result<Vec<Option<Lived>>, AllocError>>(
         log: Some(folder),
         stats: false,
     };
-    match live(rt, words, &mut source, &mut sink, together) {
+    let mut files = Folder::new(rt, folder);
+    match live(rt, words, &mut source, &mut sink, together, &mut files) {
         Status::Done => Ok(sink.device),
         _ => Err(Fail::new("ended")),
     }
