@@ -1,11 +1,11 @@
 -- What comes to a shard behind its lock, and why it does not.
 use Rattle.std.specs.Prelude.{◌≡◌, ◌==◌, ◌&&◌, ◌||◌, ℕ, Bool, true, false, not, Option, Some, None}
-use Rattle.std.specs.Prelude.{is_some, if◌then◌else◌}
+use Rattle.std.specs.Prelude.{is_some, if◌then◌else◌, unwrap_or}
 use Rattle.bench_desk.specs.Desks.{DeskView, look_refusal, tell_refusal}
-use Rattle.bench_desk.specs.Parts.{PartView, is_full, with_arrival}
+use Rattle.bench_desk.specs.Parts.{PartView, is_full, node_in, with_arrival}
 use Rattle.bench_desk.specs.Working.{key_in_part, lift_refusal, work_refusal}
 use Rattle.bench_desk.specs.declared.fault.DeskFault.{DeskFault}
-use Rattle.bench_desk.specs.declared.fault.DeskFault.TheVariants.{Unknown}
+use Rattle.bench_desk.specs.declared.fault.DeskFault.TheVariants.{NoMemory, Unknown}
 use Rattle.bench_item.specs.Keys.{home}
 use Rattle.bench_item.specs.declared.item.Item.{Item}
 use Rattle.bench_item.specs.declared.item.Item.TheVariants.{Arm}
@@ -42,6 +42,12 @@ tell_refusal_at settings part desk key kind =
 abbrev pub look_refusal_at : Settings → PartView → DeskView → ℕ → Key → Option DeskFault
 look_refusal_at settings part desk stamp key =
     if is_home_of part desk.shards key then look_refusal settings part desk stamp key else Some Unknown
+
+-- a look was refused, with a stamp that was drawn: for the first reason that holds, or for memory where none does
+pub record IsLookFault (part : PartView) (desk : DeskView) (key : Key) (fault : DeskFault) : Type 0 where
+  pub stamp : ℕ
+  pub first : (settings : Settings) → settings.node ≡ node_in part
+      → fault ≡ unwrap_or (look_refusal_at settings part desk stamp key) NoMemory
 
 -- the key that goes with an item: that of the machine whose timer it arms
 abbrev pub key_for : PartView → Item → Option Key

@@ -1,9 +1,11 @@
 //! A step of a connection is taken.
-ghost use Rattle.std.specs.Prelude.{◌≡◌, ◌<◌, ◌≤◌, Err, IfOk, IsSome, None, OnErr, OnOk, false, length, true};
+ghost use Rattle.std.specs.Prelude.{◌≡◌, ◌<◌, ◌≤◌, Err, IfErr, IfOk, IsSome, None, OnErr, OnOk, false, length, true};
+ghost use Rattle.std.specs.Prelude.{unwrap_or};
 ghost use Rattle.bench_item.specs.declared.limit.TheConstants.{MAX_LINES};
 ghost use Rattle.bench_item.specs.declared.step.Step.TheVariants as steps;
 ghost use Rattle.bench_spec.specs.Merged.{is_fed};
-ghost use Rattle.bench_live.specs.Happened.{HasHappened, HasLifted, happens};
+ghost use Rattle.live_parts.specs.LineParts.{joined_refusal, lift_refusal};
+ghost use Rattle.bench_live.specs.Happened.{HasHappened, HasLifted, happen_refusal, happens};
 
 use crate::shared::Shared;
 use base_lock::hold;
@@ -17,7 +19,10 @@ use std::sync::atomic::AtomicU64;
 /// A connection is accepted, under the lock of the connections, with a stamp that is drawn now. Answers its number.
 fn join_under(lines: &mut LinesPart, stamps: &AtomicU64) -> Result<u64, StepFault>
     ensures number { IfOk result (λ line. (0 < line) × (line ≤ MAX_LINES)) }
+    ensures could { OnOk result (joined_refusal lines.old ≡ None) }
     ensures ok { OnOk result (HasHappened lines.old lines.new steps.Joined) }
+    // It is refused only for the first reason that holds, and for memory only where none does.
+    ensures fault { IfErr result (λ f. f ≡ unwrap_or (joined_refusal lines.old) StepFault.NoMemory) }
     ensures err { OnErr result (lines.new ≡ lines.old) }
 {
     lines.joined(draw(stamps))
@@ -25,7 +30,10 @@ fn join_under(lines: &mut LinesPart, stamps: &AtomicU64) -> Result<u64, StepFaul
 
 /// Something happens to a connection, under the lock of the connections, with a stamp that is drawn now.
 fn happen_under(lines: &mut LinesPart, stamps: &AtomicU64, step: &Step) -> Result<(), StepFault>
+    ensures could { OnOk result (happen_refusal lines.old step.now ≡ None) }
     ensures ok { OnOk result (HasHappened lines.old lines.new step.now) }
+    // It is refused only for the first reason that holds, and for memory only where none does.
+    ensures fault { IfErr result (λ f. f ≡ unwrap_or (happen_refusal lines.old step.now) StepFault.NoMemory) }
     ensures other { happens step.now ≡ false → result ≡ Err StepFault.Unknown }
     ensures err { OnErr result (lines.new ≡ lines.old) }
 {
@@ -46,6 +54,8 @@ fn happen_under(lines: &mut LinesPart, stamps: &AtomicU64, step: &Step) -> Resul
 /// Lifts the oldest item of a connection, under the lock of the connections, with a stamp that is drawn now.
 fn lift_under(lines: &mut LinesPart, stamps: &AtomicU64, line: u32) -> Result<Hand, StepFault>
     ensures ok { IfOk result (λ hand. HasLifted lines.old lines.new line hand) }
+    // It is refused only for the first reason that holds, and for memory only where none does.
+    ensures fault { IfErr result (λ f. f ≡ unwrap_or (lift_refusal lines.old line) StepFault.NoMemory) }
     ensures err { OnErr result (lines.new ≡ lines.old) }
 {
     let item = lines.lift(line, draw(stamps))?;

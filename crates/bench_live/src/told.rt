@@ -1,7 +1,10 @@
 //! A desk tells and looks, under the lock of a shard.
-ghost use Rattle.std.specs.Prelude.{◌≡◌, ◌<◌, ◌≤◌, IfOk, OnErr, OnOk};
+ghost use Rattle.std.specs.Prelude.{◌≡◌, ◌<◌, ◌≤◌, IfErr, IfOk, None, OnErr, OnOk, unwrap_or};
+ghost use Rattle.bench_desk.specs.Parts.{node_in};
 ghost use Rattle.bench_item.specs.declared.limit.TheConstants.{MAX_SHARDS};
+ghost use Rattle.bench_spec.specs.Settings.{Settings};
 ghost use Rattle.bench_live.specs.Kept.{HasLooked, HasTold};
+ghost use Rattle.bench_live.specs.Slots.{IsLookFault, tell_refusal_at};
 
 use crate::shared::{ShardLock, Shared};
 use crate::slot::Slot;
@@ -22,7 +25,13 @@ fn tell_under(
     event: &Event,
 ) -> Result<(), DeskFault>
     ensures told { OnOk result (HasTold desk.old desk.new key.now event.now) }
-    ensures err { OnErr result (desk.new ≡ desk.old) }
+    // It is refused only for the first reason that holds, and for memory only where none does.
+    ensures could { (settings : Settings) → settings.node ≡ node_in slot.old.part
+        → OnOk result (tell_refusal_at settings slot.old.part desk.old key.now event.now.kind ≡ None) }
+    ensures fault { (settings : Settings) → settings.node ≡ node_in slot.old.part
+        → IfErr result (λ f. f
+        ≡ unwrap_or (tell_refusal_at settings slot.old.part desk.old key.now event.now.kind) DeskFault.NoMemory) }
+    ensures err { OnErr result ((desk.new ≡ desk.old) × (slot.new.part ≡ slot.old.part)) }
 {
     let drawn = [draw(stamps), draw(stamps), draw(stamps)];
     slot.tell(desk, drawn, key, event)?;
@@ -37,11 +46,16 @@ fn look_under(
     key: &Key,
 ) -> Result<Look, DeskFault>
     ensures looked { IfOk result (λ look. HasLooked desk.old desk.new key.now look) }
+    // It is refused only for the first reason that holds, and for memory only where none does; the stamp is one that
+    // was drawn.
+    ensures fault { IfErr result (λ f. IsLookFault slot.now.part desk.old key.now f) }
     ensures err { OnErr result (desk.new ≡ desk.old) }
 {
     let stamp = draw(stamps);
-    let look = slot.look(desk, stamp, key)?;
-    Ok(look)
+    match slot.look(desk, stamp, key) {
+        Ok(look) => Ok(look),
+        Err(fault) => Err(fault),
+    }
 }
 
 impl Shared {

@@ -1,3 +1,5 @@
 pub mod LawLemmas
 pub mod RefusalLemmas
 pub mod ToldLemmas
+pub mod TwiceLemmas
+pub mod TogetherLemmas

@@ -1,5 +1,5 @@
 -- Which node is refused.
-use Rattle.std.proofs.Common.{◌≡◌, ◌∙◌, ◌<◌, ◌+◌, ◌∷◌, ℕ, List, Option, Some, ap, drop, get_or, inr, length, subst, sym, true}
+use Rattle.std.proofs.Common.{◌≡◌, ◌∙◌, ◌<◌, ◌+◌, ◌∷◌, ℕ, List, Option, Some, Ok, ap, drop, get_or, inr, length, refl, subst, sym, true}
 use Rattle.std.proofs.lemmas.List.{drop_more}
 use Rattle.std.proofs.lemmas.Option.{slice_get-get_or}
 use Rattle.std.specs.List.{slice_get}
@@ -9,9 +9,16 @@ use Rattle.bench_open.specs.Given.{config_of, first_of}
 use Rattle.bench_open.specs.declared.config.Config.{Config}
 use Rattle.bench_setup.specs.Opening.{opening_text_at, unbound_in}
 use Rattle.bench_setup.specs.declared.setups.Setup.{Setup}
+use Rattle.bench_spec.specs.Opening.{settings_of}
+use Rattle.bench_spec.specs.Taken.{Run, opened}
 use Rattle.bench_spec.specs.declared.opening.OpeningError.{OpeningError}
-use Rattle.cmd_live.specs.Nodes.{is_wanted}
-use Rattle.cmd_live.specs.Refusals.{IsNotOpened, IsRefusedIfWanted, IsRefusedIn, IsRefusedNode}
+use Rattle.cmd_live.specs.Nodes.{is_wanted, nodes_of}
+use Rattle.cmd_live.specs.Refusals.{HasOpened, IsNotOpened, IsRefusal, IsRefusedIfWanted, IsRefusedIn, IsRefusedNode, IsTwice}
+use Rattle.cmd_live.specs.Stops.{IsStop}
+use Rattle.cmd_live.specs.declared.stop.Stop.{Stop}
+use Rattle.cmd_live.specs.declared.stop.Stop.TheVariants as stops
+use Rattle.config_text.specs.declared.node.NodeConfig.{NodeConfig}
+use Rattle.role_tables.specs.Roles.{all_laws}
 use Rattle.cmd_live.specs.declared.opening.Refused.{Refused}
 use Rattle.cmd_live.specs.declared.opening.Refused.TheVariants.{Failed, NoMemory, Told}
 use Rattle.fault_text.specs.declared.spots.RowPlace.{RowPlace}
@@ -65,6 +72,29 @@ wanted_err {T} host place setup was why r is same wanted refused =
 -- memory may always be wanting
 pub no_memory : (place : ℕ) (setup : Setup) → IsRefusedNode place setup NoMemory
 no_memory place setup = inr tt
+
+-- a bench is opened with the laws of registries, which are borrowed
+pub opened_by : {R : Type 0} (book : R → Laws) (rs rs_open : List R) (config : Config) (run : Run) → rs_open ≡ rs → run.settings.node.laws ≡ all_laws
+    → run ≡ opened (settings_of (config_of config (map book rs_open))) → HasOpened config (map book rs) (Ok run)
+opened_by {R} book rs rs_open config run same laws is =
+    (laws, subst (λ (qs : List R). run.settings ≡ settings_of (config_of config (map book qs))) same (ap (λ (r : Run). r.settings) is))
+
+-- two nodes would have one log
+twice_refusal : (host log : Option (List ℕ)) (setups : List Setup) (nodes : List NodeConfig) (why : Refused) → nodes ≡ nodes_of host setups
+    → IsTwice log nodes why → IsRefusal host log setups why
+twice_refusal host log setups nodes (Told text) same twice = inr (subst (λ (ns : List NodeConfig). IsTwice log ns (Told text)) same twice)
+twice_refusal host log setups nodes (Failed text) same twice = absurd twice
+twice_refusal host log setups nodes NoMemory same twice = tt
+
+-- what an error is
+err_is : {T E : Type 0} (P : E → Type 0) (was e : E) (r : Result T E) → r ≡ Err e → e ≡ was → P was → IfErr r P
+err_is {T} {E} P was e r is same holds = subst (λ (q : Result T E). IfErr q P) (sym is) (subst P (sym same) holds)
+
+pub twice_err : {T I : Type 0} (remaining : I → Option (List ℕ)) (reads failures : I → ℕ) (host log : Option (List ℕ)) (setups : List Setup) (source : I) (failed' : Option (List ℕ)) (nodes : List NodeConfig)
+    (why : Refused) (stop : Stop) (r : Result T Stop) → r ≡ Err stop → stop ≡ stops.Refused why → nodes ≡ nodes_of host setups → IsTwice log nodes why
+    → IfErr r (IsStop remaining reads failures host log setups source source failed')
+twice_err remaining reads failures host log setups source failed' nodes why stop r is same there twice =
+    err_is (IsStop remaining reads failures host log setups source source failed') (stops.Refused why) stop r is same (refl, twice_refusal host log setups nodes why there twice)
 
 -- a bench is not opened with the laws of registries, which are borrowed three times
 pub not_opened : {R : Type 0} (book : R → Laws) (rs rs_row rs_open rs_text : List R) (config : Config) (row : Option RowPlace) (error : OpeningError) (text : List ℕ)

@@ -7,7 +7,8 @@ use Rattle.bench_setup.specs.Halts.{IsHalt, IsToldHalt}
 use Rattle.bench_setup.specs.Setups.{AreSetupsFrom}
 use Rattle.bench_setup.specs.declared.halt.Halt.{Halt}
 use Rattle.bench_setup.specs.declared.setups.Setup.{Setup}
-use Rattle.cmd_live.specs.Nodes.{nodes_of}
+use Rattle.bench_spec.specs.Settings.{Settings}
+use Rattle.cmd_live.specs.Nodes.{AreApartWhere, benches_of, nodes_of}
 use Rattle.cmd_live.specs.Stops.{IsStop, IsToldStop}
 use Rattle.cmd_live.specs.Told.{AreTold, seconds_of}
 use Rattle.cmd_live.specs.declared.stop.Stop.{Stop}
@@ -55,16 +56,17 @@ AreCopiedWhere remaining reads failures true nodes old new written written' =
 AreCopiedWhere remaining reads failures false nodes old new written written' =
     (new ≡ old) × (written' ≡ written)
 
--- nodes lived, of which there is one at least, and each of them is told of; where logs are wanted, copies of the files
--- that they name were written before, and behind those the files of each
+-- nodes lived, of which there is one at least, and of each a world of its bench is told; where logs are wanted, each has a host of its
+-- own, copies of the files that they name were written before, and behind those the files of each
 pub record HaveLived
     {I F : Type 0} (remaining : I → Option (List ℕ)) (reads failures : I → ℕ) (written : F → Option (List File))
-    (failed : F → Option (List ℕ)) (is_logged : Bool) (nodes : List NodeConfig) (old new : I) (files files' : F)
+    (failed : F → Option (List ℕ)) (is_logged : Bool) (nodes : List NodeConfig) (opened : List Settings) (old new : I) (files files' : F)
     (text : List ℕ) (status : Status) : Type 0 where
   pub some : 0 < length nodes
+  pub apart : AreApartWhere is_logged nodes
   pub with_copies : Option (List File)
   pub copied : AreCopiedWhere remaining reads failures is_logged nodes old new (written files) with_copies
-  pub are : AreTold is_logged with_copies (failed files) nodes text status (written files') (failed files')
+  pub are : AreTold is_logged with_copies (failed files) nodes opened text status (written files') (failed files')
 
 -- all was read, and the nodes that are to live did
 pub record HasLived
@@ -77,7 +79,8 @@ pub record HasLived
   pub read : AreSetupsFrom remaining reads failures source mid setups
   pub text : List ℕ
   pub status : Status
-  pub lived : HaveLived remaining reads failures written failed is_logged (nodes_of host setups) mid source' files files'
+  pub lived : HaveLived remaining reads failures written failed is_logged (nodes_of host setups)
+      (benches_of host setups) mid source' files files'
       text status
   pub told : Tells contents write_failures idle sink sink' text status answer
 

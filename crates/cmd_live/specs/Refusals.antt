@@ -1,16 +1,16 @@
 -- Why a node does not live, as it is told.
 use Rattle.std.specs.Prelude.{◌≡◌, ◌⊎◌, ◌++◌, ◌-◌, ◌^◌, ℕ, min, true, List, [], Option, None, Some, codes, decimal, slice_get}
-use Rattle.std.specs.Prelude.{Err, Ok, Result, Vec}
+use Rattle.std.specs.Prelude.{Err, Ok, Result, Vec, is_some}
 use Rattle.std.specs.Global.{Global}
 use Rattle.bench_open.specs.Faults.{IsOpeningError}
 use Rattle.bench_open.specs.Given.{config_of}
 use Rattle.bench_open.specs.declared.config.Config.{Config}
 use Rattle.bench_setup.specs.Opening.{opening_text_at, unbound_at}
 use Rattle.bench_setup.specs.declared.setups.Setup.{Setup}
-use Rattle.bench_spec.specs.Opening.{laws_of}
+use Rattle.bench_spec.specs.Opening.{laws_of, settings_of}
 use Rattle.bench_spec.specs.Taken.{Run}
 use Rattle.bench_spec.specs.declared.opening.OpeningError.{OpeningError}
-use Rattle.cmd_live.specs.Nodes.{is_wanted, nodes_of}
+use Rattle.cmd_live.specs.Nodes.{first_twice, is_wanted, nodes_of}
 use Rattle.cmd_live.specs.declared.opening.Refused.{Refused}
 use Rattle.cmd_live.specs.declared.opening.Refused.TheVariants.{Failed, NoMemory, Told}
 use Rattle.config_text.specs.declared.node.DeskConfig.{DeskConfig}
@@ -39,6 +39,10 @@ no_socket_text host = codes "node " ++ shown host ++ codes ": the system refuses
 abbrev pub no_node_text : Option (List ℕ) → List ℕ
 no_node_text None = codes "CONFIG has no node " ++ codes "\n"
 no_node_text (Some host) = codes "CONFIG has no node " ++ shown host ++ codes "\n"
+
+-- two nodes of one host are to be logged
+abbrev pub twice_text : (host : List ℕ) → List ℕ
+twice_text host = codes "CONFIG has two nodes " ++ shown host ++ codes ": their logs would be one file\n"
 
 -- a folder can't be made
 abbrev pub no_folder_text : (folder : List ℕ) → List ℕ
@@ -70,9 +74,10 @@ pub record IsNotOpened (config : Config) (laws : List Laws) (text : List ℕ) : 
   pub is : IsOpeningError (config_of config laws) error
   pub told : opening_text_at (laws_of (config_of config laws)) (unbound_at (config_of config laws)) error ≡ Some text
 
--- a bench is opened with the laws of all roles, or what stands in its way is told
+-- a bench is opened as its configuration says, with the laws of all roles; or what stands in its way is told
 abbrev pub HasOpened : Config → List Laws → Result Run (Vec ℕ Global) → Type 0
-HasOpened config laws (Ok run) = run.settings.node.laws ≡ all_laws
+HasOpened config laws (Ok run) =
+    (run.settings.node.laws ≡ all_laws) × (run.settings ≡ settings_of (config_of config laws))
 HasOpened config laws (Err text) = IsNotOpened config laws text.items
 
 -- the bench of a node is not opened
@@ -129,8 +134,17 @@ IsNoFolder log (Failed text) = (folder : List ℕ) × (log ≡ Some folder) × (
 IsNoFolder log (Told text) = ⊥
 IsNoFolder log NoMemory = Unit {0}
 
--- why nodes do not live: the system refuses a folder for logs, or they are refused
+-- two nodes are to be logged and have one host, or memory ran out
+abbrev pub IsTwice : (log : Option (List ℕ)) → List NodeConfig → Refused → Type 0
+IsTwice log nodes (Failed text) = ⊥
+IsTwice log nodes (Told text) = (is_some log ≡ true)
+    × (host : List ℕ) × (first_twice nodes ≡ Some host) × (text.items ≡ twice_text host)
+IsTwice log nodes NoMemory = Unit {0}
+
+-- why nodes do not live: the system refuses a folder for logs, they are refused, or two would have one log
 abbrev pub IsRefusal : (host log : Option (List ℕ)) → List Setup → Refused → Type 0
 IsRefusal host log setups (Failed text) =
     IsNoFolder log (Failed text) ⊎ IsRefusedAt host setups (Failed text)
-IsRefusal host log setups why = IsRefusedOrNone host setups why
+IsRefusal host log setups (Told text) =
+    IsRefusedOrNone host setups (Told text) ⊎ IsTwice log (nodes_of host setups) (Told text)
+IsRefusal host log setups NoMemory = Unit {0}

@@ -4,6 +4,7 @@ use Rattle.base_device.specs.declared.status.Status.{Status}
 use Rattle.base_device.specs.declared.status.Status.TheVariants as statuses
 use Rattle.base_text.specs.Numbers.{number_of}
 use Rattle.bench_spec.specs.Legal.{IsLegal}
+use Rattle.bench_spec.specs.Settings.{Settings}
 use Rattle.bench_spec.specs.Taken.{Run}
 use Rattle.config_text.specs.declared.node.NodeConfig.{NodeConfig}
 use Rattle.live_report.specs.Files.{AreWritten}
@@ -40,10 +41,12 @@ AreWrittenWhere true node run written written' failed failed' unwritten =
 AreWrittenWhere false node run written written' failed failed' unwritten =
     (unwritten ≡ false) × (written' ≡ written) × (failed' ≡ failed)
 
--- one node more is told of: a bench with a legal log, which is written where that is wanted
-pub record TellsOf (is_logged : Bool) (node : NodeConfig) (old new : List ℕ) (status status' : Status)
+-- one node more is told of: a world of a bench that was opened so, with a legal log, which is written where that is
+-- wanted
+pub record TellsOf (is_logged : Bool) (node : NodeConfig) (settings : Settings) (old new : List ℕ) (status status' : Status)
     (written written' : Option (List File)) (failed failed' : Option (List ℕ)) : Type 0 where
   pub run : Run
+  pub opened : run.settings ≡ settings
   pub legal : IsLegal run.settings run.log
   pub fault : Option LifeFault
   pub unwritten : Bool
@@ -51,15 +54,15 @@ pub record TellsOf (is_logged : Bool) (node : NodeConfig) (old new : List ℕ) (
   pub text : new ≡ old ++ node_text run node.identity.host fault unwritten
   pub status_is : status' ≡ worse status fault unwritten
 
--- nodes are told of, one behind the other
+-- nodes are told of, one behind the other, whose benches were opened so
 pub data AreTold (is_logged : Bool) (written : Option (List File)) (failed : Option (List ℕ)) : List NodeConfig
-    → (text : List ℕ) → Status → (written' : Option (List File)) → (failed' : Option (List ℕ)) → Type 0 where
-  nothing : AreTold is_logged written failed [] [] statuses.Done written failed
-  one_more : (nodes : List NodeConfig) (node : NodeConfig) (text text' : List ℕ) (status status' : Status)
+    → (opened : List Settings) → (text : List ℕ) → Status → (written' : Option (List File)) → (failed' : Option (List ℕ)) → Type 0 where
+  nothing : AreTold is_logged written failed [] [] [] statuses.Done written failed
+  one_more : (nodes : List NodeConfig) (node : NodeConfig) (opened : List Settings) (settings : Settings) (text text' : List ℕ) (status status' : Status)
       (before after : Option (List File)) (failed_before failed_after : Option (List ℕ))
-      → AreTold is_logged written failed nodes text status before failed_before
-      → TellsOf is_logged node text text' status status' before after failed_before failed_after
-      → AreTold is_logged written failed (nodes ++ node ∷ []) text' status' after failed_after
+      → AreTold is_logged written failed nodes opened text status before failed_before
+      → TellsOf is_logged node settings text text' status status' before after failed_before failed_after
+      → AreTold is_logged written failed (nodes ++ node ∷ []) (opened ++ settings ∷ []) text' status' after failed_after
 
 -- the seconds that a word asks for; without one as many as a number tells
 abbrev pub seconds_of : Option (List ℕ) → Option ℕ

@@ -1,6 +1,7 @@
 //! The nodes of a CONFIG that are to live, opened, and where they listen.
-ghost use Rattle.std.specs.Prelude.{◌≡◌, ◌<◌, ◌≤◌, ◌+◌, ◌++◌, IfErr, IfOk, OnOk, length, option_map};
-ghost use Rattle.cmd_live.specs.Nodes.{is_wanted, nodes_of, wanted_node};
+ghost use Rattle.std.specs.Prelude.{◌≡◌, ◌<◌, ◌≤◌, ◌+◌, ◌++◌, IfErr, IfOk, OnOk, length, map, option_map};
+ghost use Rattle.cmd_live.specs.Nodes.{benches_of, is_wanted, nodes_of, settings_at, wanted_node, wanted_settings};
+ghost use Rattle.live_turns.specs.Together.{opened_with};
 ghost use Rattle.cmd_live.specs.Refusals.{IsRefusedIfWanted, IsRefusedIn, IsRefusedNode, IsRefusedOrNone};
 ghost use Rattle.cmd_live.specs.Refusals.{IsWithoutSockets, no_address_text, no_node_text, no_socket_text};
 
@@ -62,7 +63,8 @@ fn sockets_of<R: Net>(
     node: &NodeConfig,
     live: LiveNode,
 ) -> Result<Sockets<NodePort>, Refused>
-    ensures { IfErr result (IsWithoutSockets place node.now) }
+    ensures node { IfOk result (λ sockets. sockets.port.node.node ≡ live) }
+    ensures refused { IfErr result (IsWithoutSockets place node.now) }
 {
     let address = match listening_at(rt, node.listen.as_ref()) {
         Listens::Nowhere => None,
@@ -104,7 +106,8 @@ fn living_of<R: Net>(
     seconds: u64,
     stats: bool,
 ) -> Result<Living, Refused>
-    ensures { IfErr result (IsRefusedNode place (record { node = node.now; bench = bench })) }
+    ensures opened { IfOk result (λ living. opened_with living ≡ settings_at bench) }
+    ensures refused { IfErr result (IsRefusedNode place (record { node = node.now; bench = bench })) }
 {
     let dialled = addresses_of(rt, alloc, node.peers.as_slice())?;
     let shards = bench.shards;
@@ -157,6 +160,11 @@ fn add_wanted<R: Net>(
     ensures nodes { OnOk result (nodes.new.nodes.items
         ≡ nodes.old.nodes.items ++ wanted_node (option_map (λ host. host.now) words.entry.node) setup) }
     ensures few { OnOk result (length nodes.new.nodes.items ≤ length nodes.old.nodes.items + 1) }
+    ensures opened { OnOk result (map opened_with nodes.new.livings.items
+        ≡ map opened_with nodes.old.livings.items
+        ++ wanted_settings (option_map (λ host. host.now) words.entry.node) setup) }
+    ensures both { OnOk result (length nodes.old.livings.items ≡ length nodes.old.nodes.items
+        → length nodes.new.livings.items ≡ length nodes.new.nodes.items) }
     ensures refused { IfErr result (IsRefusedIfWanted (option_map (λ host. host.now) words.entry.node) place setup) }
 {
     if is_wanted(&setup, words.node) {
@@ -179,6 +187,9 @@ fn all_nodes<R: Net>(
     ensures nodes { IfOk result (λ nodes. nodes.nodes.items
         ≡ nodes_of (option_map (λ host. host.now) words.entry.node) setups.items) }
     ensures few { IfOk result (λ nodes. length nodes.nodes.items ≤ MAX_NODES) }
+    ensures opened { IfOk result (λ nodes. map opened_with nodes.livings.items
+        ≡ benches_of (option_map (λ host. host.now) words.entry.node) setups.items) }
+    ensures both { IfOk result (λ nodes. length nodes.livings.items ≡ length nodes.nodes.items) }
     ensures refused { IfErr result (IsRefusedIn (option_map (λ host. host.now) words.entry.node) setups.items) }
 {
     let mut nodes = Nodes {
@@ -206,6 +217,9 @@ pub(crate) fn nodes_of<R: Net>(
     ensures nodes { IfOk result (λ nodes. nodes.nodes.items
         ≡ nodes_of (option_map (λ host. host.now) words.entry.node) setups.items) }
     ensures few { IfOk result (λ nodes. length nodes.nodes.items ≤ MAX_NODES) }
+    ensures opened { IfOk result (λ nodes. map opened_with nodes.livings.items
+        ≡ benches_of (option_map (λ host. host.now) words.entry.node) setups.items) }
+    ensures both { IfOk result (λ nodes. length nodes.livings.items ≡ length nodes.nodes.items) }
     ensures some { IfOk result (λ nodes. 0 < length nodes.nodes.items) }
     ensures refused { IfErr result (IsRefusedOrNone (option_map (λ host. host.now) words.entry.node) setups.items) }
 {

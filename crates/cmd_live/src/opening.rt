@@ -3,6 +3,7 @@
 
 ghost use Rattle.std.specs.Prelude.{◌≡◌, IfErr, IfOk};
 ghost use Rattle.std.specs.List.{AllByRecursion as Each};
+ghost use Rattle.cmd_live.specs.Nodes.{settings_at};
 ghost use Rattle.cmd_live.specs.Refusals.{HasBadDeskIn, HasOpened, IsBadDesk, IsUnopened, IsUnready};
 ghost use Rattle.cmd_live.specs.Refusals.{bad_text};
 ghost use Rattle.cmd_live.specs.declared.opening.Refused.TheVariants.{NoMemory};
@@ -144,8 +145,10 @@ impl WithCalls for Bench {
 }
 
 /// Opens the bench of a node.
+#[tactic(auto, using(crate::proofs::LawLemmas::same_laws), unfolding(crate::specs::Nodes::settings_at))]
 fn core_of(alloc: Global, config: Config) -> Result<Core, Refused>
     ensures laws { IfOk result (λ core. core.settings.node.laws ≡ all_laws) }
+    ensures opened { IfOk result (λ core. core.settings ≡ settings_at config) }
     ensures refused { IfErr result (IsUnopened config) }
 {
     let count = registry_count(config.shards);
@@ -172,7 +175,8 @@ fn node_of(
     dialled: &[Option<SocketAddr>],
 ) -> Result<Opened, Refused>
     requires { core.settings.node.laws ≡ all_laws }
-    ensures { IfErr result (HasBadDeskIn place node.now core) }
+    ensures opened { IfOk result (λ opened. opened.node ≡ core) }
+    ensures refused { IfErr result (HasBadDeskIn place node.now core) }
 {
     let peers = addresses_of(alloc, &core, node.peers.as_slice(), dialled)?;
     let desks = desks_of(alloc, &core, place, node)?;
@@ -190,7 +194,8 @@ pub(crate) fn open(
     bench: Config,
     dialled: &[Option<SocketAddr>],
 ) -> Result<Opened, Refused>
-    ensures { IfErr result (IsUnready place node.now bench) }
+    ensures opened { IfOk result (λ opened. opened.node.settings ≡ settings_at bench) }
+    ensures refused { IfErr result (IsUnready place node.now bench) }
 {
     let core = core_of(alloc, bench)?;
     node_of(alloc, core, place, node, dialled)

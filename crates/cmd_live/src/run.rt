@@ -1,8 +1,9 @@
 //! `live`, from what its words ask for to a status.
-ghost use Rattle.std.specs.Prelude.{◌≡◌, ◌<◌, ◌≤◌, ◌+◌, ◌-◌, ◌*◌, ◌^◌, IfErr, IfOk, None, OnOk, is_some, length, max};
-ghost use Rattle.std.specs.Prelude.{option_map};
+ghost use Rattle.std.specs.Prelude.{◌≡◌, ◌<◌, ◌≤◌, ◌+◌, ◌-◌, ◌*◌, ◌^◌, IfErr, IfOk, None, Ok, OnOk, is_some, length, max};
+ghost use Rattle.std.specs.Prelude.{map, option_map};
 ghost use Rattle.cmd_live.specs.Met.{AreCopiedWhere, HaveLived, IsLiveMet};
-ghost use Rattle.cmd_live.specs.Nodes.{nodes_of};
+ghost use Rattle.cmd_live.specs.Nodes.{benches_of, nodes_of};
+ghost use Rattle.live_turns.specs.Together.{AreTogether, opened_with};
 ghost use Rattle.cmd_live.specs.Refusals.{IsNoFolder, no_folder_text};
 ghost use Rattle.cmd_live.specs.Stops.{IsStop};
 ghost use Rattle.cmd_live.specs.Told.{AreTold, seconds_of};
@@ -12,6 +13,7 @@ use crate::nodes::{Nodes, nodes_of};
 use crate::opening::Refused;
 use crate::stop::{Stop, tell_stop};
 use crate::told::{Ended, tell_all};
+use crate::twice::check_hosts;
 use crate::words::LiveWords;
 use base_device::{ByteSink, FileSource, MAX_IDLE_WRITES, MAX_READS, Status, tell};
 use base_text::number_of;
@@ -83,9 +85,12 @@ fn live_all<F: Fn(Vec<Living>) -> Result<Vec<Option<Lived>>, AllocError>, W: Fil
     together: &F,
     files: &mut W,
 ) -> Result<Ended, AllocError>
-    requires { F.IsAlwaysCallable together.now }
+    requires callable { F.IsAlwaysCallable together.now }
+    requires both { length nodes.livings.items ≡ length nodes.nodes.items }
+    requires together { (livings : _) (lived : _) → F.post together.now livings (Ok lived)
+        → AreTogether livings.items lived.items }
     ensures { IfOk result (λ told. AreTold is_logged (W.files files.old) (W.failed files.old) nodes.nodes.items
-        told.text.items told.status (W.files files.new) (W.failed files.new)) }
+        (map opened_with nodes.livings.items) told.text.items told.status (W.files files.new) (W.failed files.new)) }
 {
     let Nodes { nodes, livings } = nodes;
     let lived = together(livings)?;
@@ -120,19 +125,22 @@ fn live_setups<
     files: &mut W,
 ) -> Result<Ended, Stop>
     requires callable { F.IsAlwaysCallable together.now }
+    requires together { (livings : _) (lived : _) → F.post together.now livings (Ok lived)
+        → AreTogether livings.items lived.items }
     requires few { length setups.items ≤ MAX_NODES }
     requires reads { I.reads source.old + 256 * MAX_READS < 2 ^ 64 }
     requires failures { I.failures source.old < 2 ^ 64 - 1 }
     ensures reads { I.reads source.new ≤ I.reads source.old + 256 * MAX_READS }
     ensures lived { IfOk result (λ told. HaveLived I.remaining I.reads I.failures W.files W.failed
         (is_some (option_map (λ folder. folder.now) words.entry.log)) (nodes_of (option_map (λ host. host.now) words.entry.node) setups.items)
-        source.old source.new files.old files.new told.text.items told.status) }
+        (benches_of (option_map (λ host. host.now) words.entry.node) setups.items) source.old source.new files.old files.new told.text.items told.status) }
     ensures stopped { IfErr result (IsStop I.remaining I.reads I.failures
         (option_map (λ host. host.now) words.entry.node) (option_map (λ folder. folder.now) words.entry.log)
         setups.items source.old source.new (W.failed files.new)) }
 {
     make_folder(rt, alloc, words.log)?;
     let nodes = nodes_of(rt, alloc, setups, words, seconds)?;
+    check_hosts(alloc, words.log, &nodes.nodes)?;
     copy_where(alloc, words, &nodes.nodes, source, files)?;
     Ok(live_all(alloc, words.log.is_some(), nodes, together, files)?)
 }
@@ -143,9 +151,10 @@ fn live_setups<
 ///
 /// Where a folder for logs is wanted, `files` are those of that folder: before the nodes live, copies of the files that
 /// they name are written there, and behind that the log of each, and a CONFIG that opens its bench with those copies.
+/// Two of one host are refused then: their logs would be one file.
 ///
-/// `together` has them live side by side, each by `live_one` of `live_threads`, and answers them in their order: a thread for each is
-/// started where the process begins.
+/// `together` has them live side by side, each by `live_one` of `live_threads`, and answers them in their order, each a
+/// world of its bench: a thread for each is started where the process begins.
 pub fn live<
     R: Net + Files + AllocGlobal,
     I: FileSource,
@@ -154,6 +163,8 @@ pub fn live<
     W: FileSink,
 >(rt: &R, words: LiveWords<'_>, source: &mut I, sink: &mut O, together: &F, files: &mut W) -> Status
     requires callable { F.IsAlwaysCallable together.now }
+    requires together { (livings : _) (lived : _) → F.post together.now livings (Ok lived)
+        → AreTogether livings.items lived.items }
     requires reads { I.reads source.old + 513 * MAX_READS < 2 ^ 64 }
     requires read_failures { I.failures source.old < 2 ^ 64 - 1 }
     requires idle { O.idle sink.old ≡ 0 }

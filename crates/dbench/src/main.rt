@@ -5,6 +5,7 @@ ghost use Rattle.std.specs.Prelude.{◌≡◌, ◌<◌, ◌+◌, ◌*◌, ◌-�
 ghost use Rattle.cmd_words.specs.Invocations.{meaning};
 ghost use Rattle.cmd_words.specs.Words.{wanted, word_faults};
 ghost use Rattle.dbench.specs.Living.{AskToLive, live_wanted_by};
+ghost use Rattle.live_threads.specs.Together.{AreTogether};
 
 use base_device::{ByteSink, Counting, FileSource, Inputs, MAX_READS, Status, tell};
 use base_progress::ProgressLine;
@@ -107,7 +108,9 @@ fn main(rt: HostRuntime) -> ExitCode {
             let mut source = Counting::new(Inputs::new(&rt, standard));
             match live_words(rt.alloc(), &words) {
                 Ok(Some(asked)) => {
-                    let together = |livings| {
+                    let together = |livings|
+                        ensures { IfOk result (λ lived. AreTogether livings.items lived.items) }
+                    {
                         thread::map_vec(
                             &rt,
                             livings,

@@ -1,5 +1,9 @@
 //! The loop of a node whose shards run in threads: desks, connections, sockets.
-ghost use Rattle.std.specs.Prelude.{◌≡◌, [], None};
+#![tactic(auto, using(thread_node::proofs::GoingLemmas::going, thread_node::proofs::DoingLemmas::doing, crate::proofs::LifeLemmas::living))]
+
+ghost use Rattle.std.specs.Prelude.{◌≡◌, [], IfOk, IfSome, None, length};
+ghost use Rattle.live_threads.specs.Lives.{fault_before, not_gathered, not_started, threads_of};
+ghost use Rattle.thread_node.specs.Nodes.{Does, Goes};
 
 use bench_core::Core;
 use bench_gather::GatherFault;
@@ -24,7 +28,9 @@ use tab_role::TakesRoles;
 use thread_node::{ThreadNode, Wakes};
 
 /// Why a bench is not started. What its world was opened with can be opened again.
-fn not_started(fault: StartFault) -> LifeFault {
+fn not_started(fault: StartFault) -> LifeFault
+    ensures { result ≡ not_started fault }
+{
     match fault {
         StartFault::NoThread => LifeFault::NoThread,
         StartFault::Opening(OpeningError::NoMemory) => LifeFault::NoMemory,
@@ -33,7 +39,9 @@ fn not_started(fault: StartFault) -> LifeFault {
 }
 
 /// Why a bench has no log.
-fn not_gathered(fault: GatherFault) -> LifeFault {
+fn not_gathered(fault: GatherFault) -> LifeFault
+    ensures { result ≡ not_gathered fault }
+{
     match fault {
         GatherFault::NoMemory => LifeFault::NoMemory,
         GatherFault::Full | GatherFault::Disagree(_) => LifeFault::Disagreed,
@@ -61,7 +69,10 @@ struct Span {
 fn moves<R: Copy, B: InThreads<R>>(
     node: &mut ThreadNode<R, B>,
     wakes: &Wakes,
-) -> Result<bool, AllocError> {
+) -> Result<bool, AllocError>
+    ensures goes { Goes node.old node.new }
+    ensures done { IfOk result (λ done. Does node.old node.new done) }
+{
     if node.turn()? {
         return Ok(true);
     }
@@ -75,21 +86,23 @@ fn turn_all<R: Net + Clock + Copy, B: InThreads<R>>(
     sockets: &mut Sockets<ThreadNode<R, B>>,
     wakes: &Wakes,
     span: Span,
-) -> Result<(), LifeFault> {
+) -> Result<(), LifeFault>
+    ensures { sockets.new.port.node.run ≡ sockets.old.port.node.run }
+{
     let Ok(start) = Instant::now(rt) else {
         return Err(LifeFault::NoSocket);
     };
     let mut moment = 0;
     for _ in 0..span.turns {
         moment = micros_since(rt, &start, moment);
-        let moved = moves(sockets.node_mut(), wakes)?;
+        let moved = moves(&mut sockets.port.node, wakes)?;
         if moment / SECOND >= span.seconds || sockets.node().is_over() {
             return Ok(());
         }
         let wait = if moved { 0 } else { WAIT };
         sockets.turn(rt, Duration::from_millis(wait))?;
     }
-    sockets.node_mut().turn()?;
+    sockets.port.node.turn()?;
     Ok(())
 }
 
@@ -115,6 +128,7 @@ fn node_of<R: Copy, B: InThreads<R>>(
     desks: Vec<Desk>,
 ) -> Result<ThreadNode<R, B>, AllocError>
     requires { core.log ≡ [] }
+    ensures { IfOk result (λ node. node.run ≡ core) }
 {
     match ThreadNode::new(rt, alloc, core, peers) {
         Ok(node) => {
@@ -138,6 +152,7 @@ fn live_started<R: Net + Clock + Copy, B: InThreads<R>>(
     own: Vec<B::Desk>,
 ) -> Result<Lived, AllocError>
     requires { waiting.core.log ≡ [] }
+    ensures { IfOk result (λ lived. lived.core.settings ≡ waiting.core.settings) }
 {
     let Waiting {
         core,
@@ -150,7 +165,7 @@ fn live_started<R: Net + Clock + Copy, B: InThreads<R>>(
     let node = node_of(rt, alloc, core, peers, bench, own, desks)?;
     let mut sockets = bare.with(node);
     let lived = turn_all(rt, &mut sockets, &*wakes, span).err();
-    let ended = sockets.node_mut().end();
+    let ended = sockets.port.node.end();
     let (node, bare) = sockets.apart();
     let (core, _peers) = node.into_parts();
     let fault = match ended {
@@ -162,7 +177,8 @@ fn live_started<R: Net + Clock + Copy, B: InThreads<R>>(
 
 /// A node of a world, of which is known why its bench can't be started; at its opening it is to be.
 fn fault_before(core: &Core, config: &Config, desks: &[Desk]) -> Option<LifeFault>
-    ensures { result ≡ None → core.now.log ≡ [] }
+    ensures is { result ≡ fault_before core.now config.now (length desks.now) }
+    ensures opening { result ≡ None → core.now.log ≡ [] }
 {
     if core.place() != 0 || config.desks != desks.len() as u64 {
         return Some(LifeFault::Disagreed);
@@ -177,7 +193,9 @@ fn start_and_live<R: Net + Threads + Wait + Clock + Copy + Send + 'static>(
     waiting: Waiting,
     config: Config,
     registries: Vec<Registry>,
-) -> Result<Lived, AllocError> {
+) -> Result<Lived, AllocError>
+    ensures { IfOk result (λ lived. lived.core.settings ≡ waiting.core.settings) }
+{
     if let Some(fault) = fault_before(&waiting.core, &config, &waiting.desks) {
         let Waiting { core, bare, .. } = waiting;
         return Ok(Lived {
@@ -205,7 +223,9 @@ fn live_with<R: Net + Threads + Wait + Clock + Copy + Send + 'static>(
     alloc: Global,
     living: Living,
     registries: Vec<Registry>,
-) -> Result<Lived, AllocError> {
+) -> Result<Lived, AllocError>
+    ensures { IfOk result (λ lived. lived.core.settings ≡ living.sockets.port.node.node.settings) }
+{
     let Living {
         sockets,
         desks,
@@ -252,7 +272,10 @@ fn live_by<R: Net + Threads + Wait + Clock + Copy + Send + 'static>(
     laws: &LawBook,
     count: usize,
     living: &mut Option<Living>,
-) -> Result<Lived, AllocError> {
+) -> Result<Lived, AllocError>
+    ensures { IfOk result (λ lived. IfSome living.old (λ l.
+        lived.core.settings ≡ l.sockets.port.node.node.settings)) }
+{
     let mut registries = Vec::new(alloc);
     'registries: for _ in 0..count {
         let mut guards = Vec::new(alloc);
@@ -283,7 +306,9 @@ fn live_by<R: Net + Threads + Wait + Clock + Copy + Send + 'static>(
 }
 
 /// How many shards of a node run in threads: none where it has one thread.
-pub(crate) fn threads_of(living: &Living) -> usize {
+pub(crate) fn threads_of(living: &Living) -> usize
+    ensures { result ≡ threads_of living.now.config }
+{
     match &living.config {
         None => 0,
         Some(config) => registry_count(config.shards),
@@ -291,12 +316,14 @@ pub(crate) fn threads_of(living: &Living) -> usize {
 }
 
 /// Makes the turns of a node whose shards run in threads, with callbacks of its own, which answer by the laws of all
-/// roles; at its end what the threads logged is gathered to its world.
+/// roles; at its end what the threads logged is gathered to its world, which is one of the same bench.
 pub(crate) fn live_in_threads<R: Net + Threads + Wait + Clock + Copy + Send + 'static>(
     rt: &R,
     alloc: Global,
     living: Living,
-) -> Result<Lived, AllocError> {
+) -> Result<Lived, AllocError>
+    ensures { IfOk result (λ lived. lived.core.settings ≡ living.sockets.port.node.node.settings) }
+{
     let laws = all_laws(alloc)?;
     let count = threads_of(&living);
     let mut lent = Some(living);

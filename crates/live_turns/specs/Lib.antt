@@ -1,2 +1,3 @@
 -- The definitions that the contracts of live_turns speak of.
 pub mod Watched
+pub mod Together

@@ -1,10 +1,12 @@
--- What stands on accounts of a node together.
-use Rattle.std.specs.Prelude.{ℕ, List, Option, None, Some, sum_by}
+-- What is counted of a node that lives.
+use Rattle.std.specs.Prelude.{◌≡◌, ℕ, List, Option, None, Some, drop, length, sum_by}
 use Rattle.acct_book.specs.Book.{Opened}
 use Rattle.acct_totals.specs.declared.answer.Totals.{Totals}
 use Rattle.bench_open.specs.declared.account.Account.{Account}
 use Rattle.bench_spec.specs.Taken.{Run, shown}
+use Rattle.live_stats.specs.Tallies.{noted_all}
 use Rattle.live_stats.specs.declared.stats.Sums.{Sums}
+use Rattle.live_turns.specs.declared.watch.Watch.{Watch}
 
 -- what is reserved on an account, and what is debited, if it is there
 abbrev pub reserved_on : Option Totals → ℕ
@@ -35,3 +37,10 @@ sums_of run = record {
   reserved = sum_by (λ (account : Opened). reserved_at run account.id) run.settings.accounts;
   debited = sum_by (λ (account : Opened). debited_at run account.id) run.settings.accounts;
 }
+
+-- where a log is watched, the entries were counted that were added since the last look, as of a moment
+abbrev pub HasLooked : Option Watch → Option Watch → Run → ℕ → Type 0
+HasLooked None new run moment = new ≡ None
+HasLooked (Some watch) None run moment = ⊥
+HasLooked (Some watch) (Some watch') run moment =
+    (watch'.stats ≡ noted_all watch.stats moment (drop watch.seen run.log)) × (watch'.seen ≡ length run.log)

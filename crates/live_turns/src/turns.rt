@@ -1,10 +1,12 @@
 //! The loop of a node: timers, desks, sockets.
-#![tactic(auto, using(crate::proofs::LawLemmas::same_laws))]
+#![tactic(auto, using(crate::proofs::LawLemmas::same_laws, bench_node::proofs::GoingLemmas::going, node_port::proofs::TurnLemmas::turned_goes))]
 
-ghost use Rattle.std.specs.Prelude.{◌≡◌, ◌⊎◌, OnOk, length};
+ghost use Rattle.std.specs.Prelude.{◌≡◌, ◌⊎◌, IfOk, OnOk, length, min};
 ghost use Rattle.std.specs.List.{AllByRecursion as Each};
+ghost use Rattle.bench_item.specs.declared.limit.TheConstants.{MAX_SHARDS};
 ghost use Rattle.bench_node.specs.Going.{Goes};
 ghost use Rattle.bench_node.specs.Settled.{IsFull, IsSettled};
+ghost use Rattle.live_turns.specs.Watched.{HasLooked};
 ghost use Rattle.role_tables.specs.Roles.{all_laws};
 
 use crate::watch::{SECOND, Watch};
@@ -97,7 +99,9 @@ fn look(
     alloc: Global,
     core: &Core,
     moment: u64,
-) -> Result<(), AllocError> {
+) -> Result<(), AllocError>
+    ensures { OnOk result (HasLooked watch.old watch.new core.now moment) }
+{
     match watch {
         Some(watch) => watch.look(alloc, core, moment),
         None => Ok(()),
@@ -140,6 +144,7 @@ fn turn_all<R: Net + Clock, W: Write>(
     registries: &[Registry],
 ) -> Result<(), SocketsFault>
     requires { Each (λ r. r.book ≡ all_laws) registries.now }
+    ensures { Goes living.old.sockets.port.node.node living.new.sockets.port.node.node }
 {
     let rt = eye.rt;
     let start = Instant::now(rt)?;
@@ -153,9 +158,9 @@ fn turn_all<R: Net + Clock, W: Write>(
             watch,
             ..
         } = living;
-        look(watch, eye.alloc, sockets.node().node.core(), moment)?;
+        look(watch, eye.alloc, sockets.port.node.node.core(), moment)?;
         let moved = stir(
-            &mut sockets.node_mut().node,
+            &mut sockets.port.node.node,
             &mut timers,
             desks,
             registries,
@@ -167,7 +172,7 @@ fn turn_all<R: Net + Clock, W: Write>(
             eye,
             &start,
             watch,
-            sockets.node().node.core(),
+            sockets.port.node.node.core(),
             moment,
             is_last,
         )?;
@@ -183,15 +188,22 @@ fn turn_all<R: Net + Clock, W: Write>(
         watch,
         ..
     } = living;
-    look(watch, eye.alloc, sockets.node().node.core(), moment)?;
+    look(watch, eye.alloc, sockets.port.node.node.core(), moment)?;
     stir(
-        &mut sockets.node_mut().node,
+        &mut sockets.port.node.node,
         &mut timers,
         desks,
         registries,
         moment / SECOND,
     )?;
-    tell(eye, &start, watch, sockets.node().node.core(), moment, true)?;
+    tell(
+        eye,
+        &start,
+        watch,
+        sockets.port.node.node.core(),
+        moment,
+        true,
+    )?;
     Ok(())
 }
 
@@ -212,7 +224,10 @@ pub struct Lived {
 }
 
 /// What became of a node that lived in one thread.
-fn outcome(living: Living, fault: Option<LifeFault>) -> Lived {
+fn outcome(living: Living, fault: Option<LifeFault>) -> Lived
+    ensures core { result.core ≡ living.sockets.port.node.node }
+    ensures fault { result.fault ≡ fault }
+{
     let (port, bare) = living.sockets.apart();
     let (core, _peers) = port.into_node().into_parts();
     Lived { core, fault, bare }
@@ -223,7 +238,7 @@ impl<R: Net + Clock, W: Write + Drop> WithCalls for Life<'_, R, W> {
 
     ghost fits = { λ _ laws. Each (λ l. l ≡ all_laws) laws };
 
-    ghost answers = { λ _ _ _. Unit {0} };
+    ghost answers = { λ life _ lived. Goes life.living.sockets.port.node.node lived.core };
 
     fn run(self, registries: Vec<Registry>) -> Result<Lived, AllocError> {
         let Life {
@@ -238,18 +253,22 @@ impl<R: Net + Clock, W: Write + Drop> WithCalls for Life<'_, R, W> {
 }
 
 /// How many registries a bench of so many shards wants.
-pub fn registry_count(shards: u64) -> usize {
+pub fn registry_count(shards: u64) -> usize
+    ensures { result ≡ min shards MAX_SHARDS }
+{
     shards.min(MAX_SHARDS as u64) as usize
 }
 
 /// Makes the turns of a node in one thread, with callbacks of its own; where it is watched, its lines are written to
-/// `terminal`.
+/// `terminal`. Its world is then what steps of its bench made of it, and nothing else did.
 pub fn live_in_turns<R: Net + Clock, W: Write + Drop>(
     rt: &R,
     alloc: Global,
     terminal: W,
     living: Living,
-) -> Result<Lived, AllocError> {
+) -> Result<Lived, AllocError>
+    ensures { IfOk result (λ lived. Goes living.sockets.port.node.node lived.core) }
+{
     let count = registry_count(living.shards);
     let eye = Eye {
         rt,

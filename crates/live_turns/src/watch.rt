@@ -1,8 +1,12 @@
 //! What an operator is told each second of a node that lives.
-ghost use Rattle.std.specs.Prelude.{◌≡◌, ◌++◌, ◌<◌, ◌^◌, IfOk, OnOk, drop, length};
+ghost use Rattle.std.specs.Prelude.{◌≡◌, ◌++◌, ◌<◌, ◌/◌, ◌^◌, IfOk, OnOk, codes, drop, length, nat_lt};
+ghost use Rattle.bench_item.specs.declared.key.Role.TheVariants.{Peer};
+ghost use Rattle.bench_spec.specs.Settings.{table_of};
 ghost use Rattle.live_turns.specs.Watched.{debited_at, debited_on, reserved_at, reserved_on, sums_of, sums_over};
+ghost use Rattle.live_turns.specs.declared.watch.TheConstants.{SECOND};
 ghost use Rattle.live_stats.specs.Lines.{line_text};
-ghost use Rattle.live_stats.specs.Tallies.{next_second, noted_all};
+ghost use Rattle.live_stats.specs.Tallies.{began_with, next_second, noted_all};
+ghost use Rattle.step_text.specs.Names.{shown};
 
 use acct_totals::Totals;
 use bench_core::Core;
@@ -91,7 +95,12 @@ fn sums_of(core: &Core) -> Sums
 
 impl Watch {
     /// Nothing counted of a node, whose peers all stand in their first state.
-    pub fn new(alloc: Global, host: &[u8], core: &Core, peers: usize) -> Result<Watch, AllocError> {
+    pub fn new(alloc: Global, host: &[u8], core: &Core, peers: usize) -> Result<Watch, AllocError>
+        ensures title { IfOk result (λ watch. watch.title.items ≡ codes "stats " ++ shown host.now ++ codes " ") }
+        ensures stats { IfOk result (λ watch. watch.stats
+            ≡ began_with (table_of core.now.settings Peer).states peers 0) }
+        ensures none { IfOk result (λ watch. (watch.seen ≡ 0) × (watch.second ≡ 0)) }
+    {
         let mut title = Vec::from_slice(alloc, b"stats ")?;
         put_host(&mut title, host)?;
         title.extend_from_slice(b" ")?;
@@ -116,7 +125,9 @@ impl Watch {
     }
 
     /// Whether the second of a moment is a later one than that of the last line.
-    pub(crate) fn is_due(&self, moment: u64) -> bool {
+    pub(crate) fn is_due(&self, moment: u64) -> bool
+        ensures { result ≡ nat_lt self.now.second (moment / SECOND) }
+    {
         moment / SECOND > self.second
     }
 
@@ -138,7 +149,10 @@ impl Watch {
         core: &Core,
         moment: u64,
         terminal: &mut W,
-    ) -> Result<(), AllocError> {
+    ) -> Result<(), AllocError>
+        ensures next { OnOk result (self.new.stats ≡ next_second self.old.stats moment) }
+        ensures second { OnOk result (self.new.second ≡ moment / SECOND) }
+    {
         let text = self.line(alloc, core, moment)?;
         let _told = terminal.write_all(&text);
         self.second = moment / SECOND;

@@ -25,17 +25,23 @@ pub trait Node {
     /// All that a line sent, where that is known.
     ghost sent: { Self → ℕ → Option (List ℕ) };
 
+    /// What it may become where it is asked what is to be dialled, and told that connections are accepted or dialled.
+    ghost moves: { Self → Self → Type 0 };
+
     /// Whether the loop is to end.
     fn is_over(&self) -> bool;
 
     /// A connection was accepted. Answers its line's number; none where it isn't wanted.
-    fn joined(&mut self) -> Option<u64>;
+    fn joined(&mut self) -> Option<u64>
+        ensures { moves self.old self.new };
 
     /// The dial that is to be made next, if one is. It is told once.
-    fn next_dial(&mut self) -> Option<Dial>;
+    fn next_dial(&mut self) -> Option<Dial>
+        ensures { moves self.old self.new };
 
     /// The dial of a line was acknowledged.
-    fn dialled(&mut self, line: u64) -> Result<(), Refusal>;
+    fn dialled(&mut self, line: u64) -> Result<(), Refusal>
+        ensures { moves self.old self.new };
 
     /// Whether a line is closed: once all that it sent is out, its socket closes.
     fn is_closed(&self, line: u64) -> bool;

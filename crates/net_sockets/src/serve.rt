@@ -1,4 +1,7 @@
 //! What is done for one socket in a turn.
+#![tactic(auto, using(crate::proofs::TurnLemmas::turning))]
+
+ghost use Rattle.net_sockets.specs.Turns.{Turned};
 
 use crate::node::{Node, OnLine};
 use crate::socket::{Socket, Stand};
@@ -26,7 +29,9 @@ fn has_unsent<N: Node>(port: &OnLine<N>, pipe: &Pipe) -> bool {
 }
 
 // A dial: acknowledged, refused, or neither yet.
-fn answer_dial<N: Node>(port: &mut OnLine<N>, pipe: &mut Pipe, stream: &TcpStream) -> Fate {
+fn answer_dial<N: Node>(port: &mut OnLine<N>, pipe: &mut Pipe, stream: &TcpStream) -> Fate
+    ensures { Turned N.takes N.moves port.old.node port.new.node }
+{
     let is_refused = !matches!(stream.take_error(), Ok(None));
     if is_refused {
         lose(port, pipe);
@@ -61,11 +66,9 @@ fn fate_of(outcome: Result<(), PumpCode>) -> Fate {
 }
 
 // Reads and writes.
-fn carry<N: Node>(
-    port: &mut OnLine<N>,
-    pipe: &mut Pipe,
-    stream: &TcpStream,
-) -> Result<(), PumpCode> {
+fn carry<N: Node>(port: &mut OnLine<N>, pipe: &mut Pipe, stream: &TcpStream) -> Result<(), PumpCode>
+    ensures { Turned N.takes N.moves port.old.node port.new.node }
+{
     let mut source = Counting::new(stream);
     let mut sink = Counting::new(stream);
     match pump(port, pipe, &mut source, &mut sink) {
@@ -80,7 +83,9 @@ fn is_done<N: Node>(port: &OnLine<N>, pipe: &Pipe) -> bool {
 }
 
 // Reads and writes an open socket.
-fn carry_open<N: Node>(port: &mut OnLine<N>, socket: &mut Socket) -> Fate {
+fn carry_open<N: Node>(port: &mut OnLine<N>, socket: &mut Socket) -> Fate
+    ensures { Turned N.takes N.moves port.old.node port.new.node }
+{
     let outcome = match &socket.stand {
         Stand::Open(stream) => carry(port, &mut socket.pipe, stream),
         Stand::Dialling(_) | Stand::Gone => Ok(()),
@@ -91,7 +96,9 @@ fn carry_open<N: Node>(port: &mut OnLine<N>, socket: &mut Socket) -> Fate {
 }
 
 // A socket that is open: it is read and written where that may come to something, and closes once its line is done.
-fn serve_open<N: Node>(port: &mut OnLine<N>, socket: &mut Socket) -> Fate {
+fn serve_open<N: Node>(port: &mut OnLine<N>, socket: &mut Socket) -> Fate
+    ensures { Turned N.takes N.moves port.old.node port.new.node }
+{
     let fate = if is_due(port, socket) {
         carry_open(port, socket)
     } else {
@@ -104,7 +111,9 @@ fn serve_open<N: Node>(port: &mut OnLine<N>, socket: &mut Socket) -> Fate {
 }
 
 // What is done for a socket, as it stands.
-fn serve_once<N: Node>(port: &mut OnLine<N>, socket: &mut Socket) -> Fate {
+fn serve_once<N: Node>(port: &mut OnLine<N>, socket: &mut Socket) -> Fate
+    ensures { Turned N.takes N.moves port.old.node port.new.node }
+{
     match &socket.stand {
         Stand::Gone => {
             lose(port, &mut socket.pipe);
@@ -116,7 +125,9 @@ fn serve_once<N: Node>(port: &mut OnLine<N>, socket: &mut Socket) -> Fate {
 }
 
 /// Serves a socket, and says whether it is kept.
-pub(crate) fn serve<N: Node>(port: &mut OnLine<N>, socket: &mut Socket) -> bool {
+pub(crate) fn serve<N: Node>(port: &mut OnLine<N>, socket: &mut Socket) -> bool
+    ensures { Turned N.takes N.moves port.old.node port.new.node }
+{
     port.line = socket.line;
     match serve_once(port, socket) {
         Fate::Stays => true,

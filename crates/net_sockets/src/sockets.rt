@@ -1,7 +1,9 @@
 //! All sockets of a bench, and their event loop.
+#![tactic(auto, using(crate::proofs::TurnLemmas::turning))]
 
 ghost use Rattle.std.specs.Prelude.{◌≡◌, IfOk};
 ghost use Rattle.net_sockets.specs.declared.sockets.SocketsFault.TheVariants.{NoMemory, Refused};
+ghost use Rattle.net_sockets.specs.Turns.{Turned};
 ghost use Rattle.slab.specs.Slab.{HasRoomFor};
 
 use crate::node::{Node, OnLine};
@@ -58,7 +60,8 @@ impl From<io::Error> for SocketsFault {
 /// All sockets of a bench. Each has a line; the bench answers for the lines.
 #[derive(Drop)]
 pub struct Sockets<N> {
-    port: OnLine<N>,
+    /// The bench, and the line that was served last.
+    pub port: OnLine<N>,
     poll: Poll,
     events: Events,
     listener: Option<TcpListener>,
@@ -166,11 +169,6 @@ impl<N: Node> Sockets<N> {
         &self.port.node
     }
 
-    /// The bench behind the sockets, to change it.
-    pub fn node_mut(&mut self) -> &mut N {
-        &mut self.port.node
-    }
-
     /// Where it listens, if it does.
     pub fn address(&self) -> Option<SocketAddr> {
         match &self.listener {
@@ -186,7 +184,9 @@ impl<N: Node> Sockets<N> {
 
     /// Makes turns until the bench says that it is over, at most so many, and says how many were made. A turn waits at
     /// most so long.
-    pub fn run<R: Net>(&mut self, rt: &R, turns: u64, wait: Duration) -> Result<u64, SocketsFault> {
+    pub fn run<R: Net>(&mut self, rt: &R, turns: u64, wait: Duration) -> Result<u64, SocketsFault>
+        ensures { Turned N.takes N.moves self.old.port.node self.new.port.node }
+    {
         for turn in 0..turns {
             if self.port.node.is_over() {
                 return Ok(turn);
@@ -198,7 +198,9 @@ impl<N: Node> Sockets<N> {
 
     /// Makes one turn: dials what is to be dialled, waits at most so long for something to happen, accepts, and serves
     /// each socket.
-    pub fn turn<R: Net>(&mut self, rt: &R, wait: Duration) -> Result<(), SocketsFault> {
+    pub fn turn<R: Net>(&mut self, rt: &R, wait: Duration) -> Result<(), SocketsFault>
+        ensures { Turned N.takes N.moves self.old.port.node self.new.port.node }
+    {
         self.dial_all(rt);
         self.poll.poll(&mut self.events, Some(wait))?;
         if wake_all(&self.events, &mut self.sockets) {
@@ -210,7 +212,9 @@ impl<N: Node> Sockets<N> {
     }
 
     // Begins each dial that is to be made, as long as there is memory. One that can't begin is lost.
-    fn dial_all<R: Net>(&mut self, rt: &R) {
+    fn dial_all<R: Net>(&mut self, rt: &R)
+        ensures { Turned N.takes N.moves self.old.port.node self.new.port.node }
+    {
         for _ in 0..OPENINGS {
             if self.sockets.reserve(1).is_err() {
                 return;
@@ -226,29 +230,47 @@ impl<N: Node> Sockets<N> {
         }
     }
 
-    // Accepts the connections that wait, as long as there is memory. One that the bench doesn't want closes.
-    fn accept_all(&mut self) {
+    // Accepts a connection that waits, if one does, and there is memory. One that the bench doesn't want closes. Says
+    // whether another may wait.
+    fn accept(&mut self) -> bool
+        ensures { Turned N.takes N.moves self.old.port.node self.new.port.node }
+    {
+        if !self.is_accepting || self.sockets.reserve(1).is_err() {
+            return false;
+        }
         let Some(listener) = &self.listener else {
-            return;
+            return false;
         };
-        for _ in 0..OPENINGS {
-            if !self.is_accepting || self.sockets.reserve(1).is_err() {
-                return;
-            }
-            match listener.accept() {
-                Ok((stream, _)) => {
-                    if let Some(line) = self.port.node.joined() {
-                        let socket = Socket::new(line, Stand::Open(stream));
-                        add(&self.poll, &mut self.sockets, socket);
-                    }
+        match listener.accept() {
+            Ok((stream, _)) => {
+                if let Some(line) = self.port.node.joined() {
+                    let socket = Socket::new(line, Stand::Open(stream));
+                    add(&self.poll, &mut self.sockets, socket);
                 }
-                Err(error) => self.is_accepting = error.kind() != ErrorKind::WouldBlock,
+                true
+            }
+            Err(error) => {
+                self.is_accepting = error.kind() != ErrorKind::WouldBlock;
+                self.is_accepting
+            }
+        }
+    }
+
+    // Accepts the connections that wait, as long as there is memory.
+    fn accept_all(&mut self)
+        ensures { Turned N.takes N.moves self.old.port.node self.new.port.node }
+    {
+        for _ in 0..OPENINGS {
+            if !self.accept() {
+                return;
             }
         }
     }
 
     // Serves each socket, and takes those away that are done with.
-    fn serve_all(&mut self) {
+    fn serve_all(&mut self)
+        ensures { Turned N.takes N.moves self.old.port.node self.new.port.node }
+    {
         for key in 0..self.sockets.capacity() {
             let is_kept = match self.sockets.get_mut(key) {
                 Some(socket) => serve(&mut self.port, socket),

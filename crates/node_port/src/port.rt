@@ -1,8 +1,9 @@
 //! A live node as its sockets see it.
-#![tactic(auto, using(crate::proofs::SentLemmas::on_lines))]
+#![tactic(auto, using(crate::proofs::SentLemmas::on_lines, bench_node::proofs::GoingLemmas::goes_none, bench_node::proofs::GoingLemmas::goes_one, bench_node::proofs::GoingLemmas::goes_by))]
 
 ghost use Rattle.std.specs.Prelude.{◌≡◌, IfErr, IfOk, false, true};
 ghost use Rattle.bench_net.specs.declared.refusal.Refusal.TheVariants.{Unknown};
+ghost use Rattle.bench_node.specs.Going.{Goes};
 ghost use Rattle.node_port.specs.Happened.{RefusesOn, TakesOn, is_number, refusal_of, sent_on};
 
 use bench_item::StepFault;
@@ -69,6 +70,8 @@ impl Node for NodePort {
     ghost refuses = { λ s line event why. RefusesOn s.node line event why };
 
     ghost sent = { λ s line. sent_on s.node line };
+
+    ghost moves = { λ s t. Goes s.node t.node };
 
     fn is_over(&self) -> bool {
         self.node.core().log().is_full()

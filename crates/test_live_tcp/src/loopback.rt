@@ -1,4 +1,6 @@
 //! Two nodes of a CONFIG over loopback, at a port that the system chooses. They end after their turns.
+ghost use Rattle.std.specs.Prelude.{IfOk, Ok};
+ghost use Rattle.live_turns.specs.Together.{AreTogether};
 
 use base_device::{Counting, Inputs, Status};
 use bench_setup::{Setup, read_nodes};
@@ -74,7 +76,9 @@ fn told<'a, F: Fn(Vec<Living>) -> Result<Vec<Option<Lived>>, AllocError>>(
     folder: &'a str,
     together: &F,
 ) -> Result<Vec<u8>, Fail>
-    requires { F.IsAlwaysCallable together.now }
+    requires callable { F.IsAlwaysCallable together.now }
+    requires together { (livings : _) (lived : _) → F.post together.now livings (Ok lived)
+        → AreTogether livings.items lived.items }
 {
     let mut source = Counting::new(Inputs::new(rt, rt.stdin()));
     let mut sink = Counting::new(Vec::new(rt.alloc()));
@@ -100,7 +104,9 @@ fn charges<F: Fn(Vec<Living>) -> Result<Vec<Option<Lived>>, AllocError>>(
     shards: u64,
     together: &F,
 ) -> Result<(), Fail>
-    requires { F.IsAlwaysCallable together.now }
+    requires callable { F.IsAlwaysCallable together.now }
+    requires together { (livings : _) (lived : _) → F.post together.now livings (Ok lived)
+        → AreTogether livings.items lived.items }
 {
     let alloc = rt.alloc();
     let text = config(alloc, free_port(rt)?, shards)?;
@@ -127,20 +133,28 @@ fn charges<F: Fn(Vec<Living>) -> Result<Vec<Option<Lived>>, AllocError>>(
 
 #[test]
 fn a_session_is_charged_over_loopback(rt: HostRuntime) -> Result<(), Fail> {
-    let together = |livings| thread::map_vec(
-        &rt,
-        livings,
-        &|living| live_one(&rt, rt.alloc(), rt.stderr(), living),
-    );
+    let together = |livings|
+        ensures { IfOk result (λ lived. AreTogether livings.items lived.items) }
+    {
+        thread::map_vec(
+            &rt,
+            livings,
+            &|living| live_one(&rt, rt.alloc(), rt.stderr(), living),
+        )
+    };
     charges(&rt, "loopback.json", "loopback", 1, &together)
 }
 
 #[test]
 fn a_session_is_charged_by_a_server_in_threads(rt: HostRuntime) -> Result<(), Fail> {
-    let together = |livings| thread::map_vec(
-        &rt,
-        livings,
-        &|living| live_one(&rt, rt.alloc(), rt.stderr(), living),
-    );
+    let together = |livings|
+        ensures { IfOk result (λ lived. AreTogether livings.items lived.items) }
+    {
+        thread::map_vec(
+            &rt,
+            livings,
+            &|living| live_one(&rt, rt.alloc(), rt.stderr(), living),
+        )
+    };
     charges(&rt, "threads.json", "threads", 2, &together)
 }

@@ -72,6 +72,8 @@ impl Node for Flow {
 
     ghost sent = { λ _ _. None };
 
+    ghost moves = { λ _ _. Unit {0} };
+
     fn is_over(&self) -> bool {
         self.lost > 0
     }

@@ -40,7 +40,7 @@ fn octets_come_back(rt: HostRuntime) -> Result<(), Fail> {
         }
         client.turn(&rt, Duration::from_millis(0))?;
         server.turn(&rt, Duration::from_millis(1))?;
-        let far = server.node_mut();
+        let far = &mut server.port.node;
         was_full = was_full || far.pieces == far.room;
         far.room = far.pieces.saturating_add(100);
     }

@@ -1,4 +1,6 @@
 pub mod TextLemmas
 pub mod GoingLemmas
+pub mod DoingLemmas
+pub mod MovingLemmas
 pub mod TellLemmas
 pub mod EndLemmas

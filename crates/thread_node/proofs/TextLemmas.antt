@@ -1,8 +1,9 @@
 -- Texts only grow.
-use Rattle.std.proofs.Common.{◌≡◌, ◌∙◌, ◌++◌, ◌∷◌, ℕ, Bool, false, true, List, [], Some, ap, append-nil, get_or, if◌then◌else◌, map, refl, set, subst, suc, sym, zero}
-use Rattle.std.proofs.lemmas.List.{append_assoc, map-append}
+use Rattle.std.proofs.Common.{◌≡◌, ◌<◌, ◌+◌, ◌∙◌, ◌++◌, ◌∷◌, ℕ, Bool, false, true, List, [], Some, ap, append-nil, arith, get_or, if◌then◌else◌, length, map, refl, set, subst, suc, sym, zero}
+use Rattle.std.proofs.lemmas.List.{append_assoc, length-append, map-append}
+use Rattle.std.proofs.lemmas.List.Sums.{sum_by-cons, sum_by_push}
 use Rattle.bench_net.specs.Texts.{Grows}
-use Rattle.thread_node.specs.Nodes.{AllGrow}
+use Rattle.thread_node.specs.Nodes.{AllGrow, drawn_in}
 
 -- a text that is as it was
 pub grows_same : (text : List ℕ) → Grows (Some text) (Some text)
@@ -49,5 +50,23 @@ all_set f (x ∷ xs) (suc place) v d grow = (grows_same (f x), all_set f xs plac
 pub grows_if : (b : Bool) (old more new : List ℕ) → new ≡ (if b then old ++ more else old) → Grows (Some old) (Some new)
 grows_if true old more new is = (more, is)
 grows_if false old more new is = ([], is ∙ sym (append-nil old))
+
+-- no octet is drawn where an empty text is put behind them
+pub drawn_push : {V : Type 0} (f : V → List ℕ) (xs xs' : List V) (v : V) → xs' ≡ xs ++ v ∷ [] → f v ≡ []
+    → drawn_in (map f xs') ≡ drawn_in (map f xs)
+drawn_push f xs xs' v is empty =
+    ap (λ ys. drawn_in (map f ys)) is ∙ ap drawn_in (map-append f xs (v ∷ []))
+    ∙ sum_by_push length (map f xs) (f v) ∙ ap (λ text. drawn_in (map f xs) + length text) empty ∙ omega arith
+
+-- so many are where so many are put behind a text
+pub drawn_set : {V : Type 0} (f : V → List ℕ) (xs : List V) (place : ℕ) (v d : V) (more : List ℕ) → place < length xs
+    → f v ≡ f (get_or xs place d) ++ more → drawn_in (map f (set xs place v)) ≡ drawn_in (map f xs) + length more
+drawn_set f [] place v d more there is = absurd (omega (arith, there))
+drawn_set f (x ∷ xs) zero v d more there is =
+    let longer = ap length is ∙ length-append (f x) more in
+    omega (arith, sum_by-cons length (f v) (map f xs), sum_by-cons length (f x) (map f xs), longer)
+drawn_set f (x ∷ xs) (suc place) v d more there is =
+    let rest = drawn_set f xs place v d more (omega (arith, there)) is in
+    omega (arith, sum_by-cons length (f x) (map f (set xs place v)), sum_by-cons length (f x) (map f xs), rest)
 
 pub ruleset growing = (grows_same, all_same)

@@ -1,6 +1,6 @@
 -- A node whose shards run in threads, as a contract sees it, and what becomes of it.
-use Rattle.std.specs.Prelude.{◌≡◌, ◌-◌, ◌==◌, ◌++◌, ◌∷◌, ℕ, Bool, false, true, List, [], Option, None, Some}
-use Rattle.std.specs.Prelude.{if◌then◌else◌, map, slice_index_or}
+use Rattle.std.specs.Prelude.{◌≡◌, ◌≤◌, ◌+◌, ◌-◌, ◌==◌, ◌++◌, ◌∷◌, ℕ, Bool, false, true, List, [], Option, None, Some}
+use Rattle.std.specs.Prelude.{if◌then◌else◌, length, map, nat_lt, slice_index_or, sum_by}
 use Rattle.std.specs.List.{list_all}
 use Rattle.bench_item.specs.declared.source.Source.TheVariants as sources
 use Rattle.bench_item.specs.declared.step.Step.{Step}
@@ -13,11 +13,12 @@ use Rattle.bench_spec.specs.Taken.{Run}
 use Rattle.node_port.specs.Happened.{is_number, step_on}
 
 -- the world, which stands at its opening until the parts of its bench were gathered; whether the bench was started and
--- has not ended; the steps that were fed to it and taken, in order; and what each connection sent, as far as it was
--- drawn, from connection 1 on
+-- has not ended; how many texts its desks passed; the steps that were fed to it and taken, in order; and what each
+-- connection sent, as far as it was drawn, from connection 1 on
 pub record NodeView : Type 0 where
   pub run : Run
   pub started : Bool
+  pub told : ℕ
   pub fed : List Step
   pub sent : List (List ℕ)
 
@@ -58,6 +59,11 @@ is_carry step = false
 abbrev pub Feeds : NodeView → Step → NodeView → Type 0
 Feeds old step new = (old.started ≡ true) × (new ≡ record old { fed = old.fed ++ step ∷ [] })
 
+-- steps were fed, and nothing else changed
+pub record Moves (old new : NodeView) : Type 0 where
+  pub steps : List Step
+  pub fed : new ≡ record old { fed = old.fed ++ steps }
+
 -- what a connection takes is fed
 abbrev pub TakesOn : NodeView → ℕ → Event → NodeView → Type 0
 TakesOn old line event new = (is_number line ≡ true) × Feeds old (step_on line event) new
@@ -67,11 +73,25 @@ abbrev pub RefusesOn : NodeView → ℕ → Event → Refusal → Type 0
 RefusesOn node line event why =
     (is_number line ≡ false → why ≡ Unknown) × (node.started ≡ false → why ≡ Unknown)
 
--- items of connections were carried, and more was drawn of what they sent: nothing else was fed
+-- desks passed texts, items of connections were carried, and more was drawn of what they sent: nothing else was fed
 pub record Goes (old new : NodeView) : Type 0 where
   pub same : new.run ≡ old.run
   pub started : new.started ≡ old.started
+  pub told : old.told ≤ new.told
   pub steps : List Step
   pub carried : list_all is_carry steps ≡ true
   pub fed : new.fed ≡ old.fed ++ steps
   pub sent : AllGrow old.sent new.sent
+
+-- how many octets were drawn
+abbrev pub drawn_in : List (List ℕ) → ℕ
+drawn_in sent = sum_by length sent
+
+-- how much was done in a node: texts passed, steps fed, octets drawn
+abbrev pub done_in : NodeView → ℕ
+done_in node = node.told + length node.fed + drawn_in node.sent
+
+-- it went on so, and says whether something was done
+pub record Does (old new : NodeView) (done : Bool) : Type 0 where
+  pub goes : Goes old new
+  pub more : done ≡ nat_lt (done_in old) (done_in new)

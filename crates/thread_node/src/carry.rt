@@ -1,8 +1,8 @@
 //! What connections put out is carried.
-#![tactic(auto, using(crate::proofs::GoingLemmas::going))]
+#![tactic(auto, using(crate::proofs::DoingLemmas::doing))]
 
-ghost use Rattle.std.specs.Prelude.{◌≡◌, true};
-ghost use Rattle.thread_node.specs.Nodes.{Goes, is_carry};
+ghost use Rattle.std.specs.Prelude.{◌≡◌, is_ok, true};
+ghost use Rattle.thread_node.specs.Nodes.{Does, is_carry};
 
 use crate::node::ThreadNode;
 use bench_item::{MAX_LINES, Source, Step, StepFault};
@@ -12,6 +12,7 @@ use bench_live::InThreads;
 const MAX_CARRIES: usize = 4_096;
 
 /// What is left at a connection.
+#[derive(Clone, Copy)]
 enum Left {
     Nothing,
     More,
@@ -25,73 +26,73 @@ fn is_done(fault: StepFault) -> bool {
     matches!(fault, StepFault::Nothing | StepFault::Unknown)
 }
 
+/// What is left at a connection, by why a lift was refused there.
+fn left_by(fault: StepFault) -> Left {
+    if is_done(fault) {
+        Left::Nothing
+    } else {
+        Left::Stuck
+    }
+}
+
 impl<R: Copy, B: InThreads<R>> ThreadNode<R, B> {
     // Lifts or drops an item of a connection.
     fn carry(&mut self, step: Step) -> Result<(), StepFault>
         requires { is_carry step ≡ true }
-        ensures { Goes self.old self.new }
+        ensures { Does self.old self.new (is_ok result) }
     {
         self.feed(step)
     }
 
-    // Drops what a connection lifted, and lifts what waits there; keeps in mind whether it did either.
-    fn carry_both(&mut self, line: u32, carried: &mut bool) -> Left
-        ensures { Goes self.old self.new }
+    // Drops what a connection lifted, and lifts what waits there. Says what is left, and whether it did either.
+    fn carry_both(&mut self, line: u32) -> (Left, bool)
+        ensures { Does self.old self.new result.1 }
     {
-        match self.carry(Step::Drop(Source::Line(line))) {
-            Ok(()) => *carried = true,
+        let dropped = match self.carry(Step::Drop(Source::Line(line))) {
+            Ok(()) => true,
             Err(fault) => {
                 if !is_done(fault) {
-                    return Left::Stuck;
+                    return (Left::Stuck, false);
                 }
+                false
             }
-        }
+        };
         match self.carry(Step::Lift(Source::Line(line))) {
-            Ok(()) => {
-                *carried = true;
-                Left::More
-            }
-            Err(fault) => {
-                if is_done(fault) {
-                    Left::Nothing
-                } else {
-                    Left::Stuck
-                }
-            }
+            Ok(()) => (Left::More, true),
+            Err(fault) => (left_by(fault), dropped),
         }
     }
 
-    // Carries what a connection put out, as far as it can be; keeps in mind whether something was. Says whether
-    // something is left.
-    fn carry_line(&mut self, line: u32, carried: &mut bool) -> bool
-        ensures { Goes self.old self.new }
+    // Carries what a connection put out, as far as it can be. Says what is left, and whether something was carried.
+    fn carry_line(&mut self, line: u32) -> (Left, bool)
+        ensures { Does self.old self.new result.1 }
     {
+        let mut carried = false;
         'items: for _ in 0..MAX_CARRIES {
-            match self.carry_both(line, carried) {
-                Left::More => {}
-                Left::Nothing => return false,
-                Left::Stuck => return true,
+            let (left, some) = self.carry_both(line);
+            carried |= some;
+            if !matches!(left, Left::More) {
+                return (left, carried);
             }
         }
-        true
+        (Left::More, carried)
     }
 
-    // The same of one on which something happened, until nothing is left there.
+    // The same of one on which something happened, until nothing is left there. Says whether something was carried.
     fn carry_touched(&mut self, line: u32) -> bool
-        ensures { Goes self.old self.new }
+        ensures { Does self.old self.new result }
     {
         if !matches!(self.touched.get(line as usize), Some(true)) {
             return false;
         }
-        let mut carried = false;
-        let is_left = self.carry_line(line, &mut carried);
-        self.set_touched(u64::from(line), is_left);
+        let (left, carried) = self.carry_line(line);
+        self.set_touched(u64::from(line), !matches!(left, Left::Nothing));
         carried
     }
 
     // The same of each of so many connections on which something happened.
     fn carry_each(&mut self, count: u32) -> bool
-        ensures { Goes self.old self.new }
+        ensures { Does self.old self.new result }
     {
         let mut carried = false;
         'lines: for line in 1..count.min(MAX_LINES as u32) + 1 {
@@ -112,13 +113,13 @@ impl<R: Copy, B: InThreads<R>> ThreadNode<R, B> {
     /// Carries what connections put out on which something happened, first what is for no shard that is at work. Says
     /// whether something was.
     pub(crate) fn carry_lines(&mut self) -> bool
-        ensures { Goes self.old self.new }
+        ensures { Does self.old self.new result }
     {
         let count = self.count().min(MAX_LINES) as u32;
         self.set_patient(false);
         let at_once = self.carry_each(count);
         self.set_patient(true);
         let later = self.carry_each(count);
-        at_once || later
+        at_once | later
     }
 }

@@ -1,8 +1,8 @@
 //! What connections sent is drawn.
-#![tactic(auto, using(crate::proofs::GoingLemmas::going))]
+#![tactic(auto, using(crate::proofs::GoingLemmas::going, crate::proofs::DoingLemmas::doing))]
 
-ghost use Rattle.std.specs.Prelude.{◌≡◌, ◌≤◌, length};
-ghost use Rattle.thread_node.specs.Nodes.{Goes};
+ghost use Rattle.std.specs.Prelude.{◌≡◌, ◌≤◌, IfOk, false, length, nat_lt};
+ghost use Rattle.thread_node.specs.Nodes.{Does, Goes};
 
 use crate::node::ThreadNode;
 use crate::texts::{length_of, put_behind, reach};
@@ -44,18 +44,19 @@ impl<R: Copy, B: InThreads<R>> ThreadNode<R, B> {
 
     // Draws a piece more of what a connection sent. Says how long it is.
     fn draw_piece(&mut self, line: u64) -> Result<usize, AllocError>
-        ensures { Goes self.old self.new }
+        ensures goes { Goes self.old self.new }
+        ensures done { IfOk result (λ count. Does self.old self.new (nat_lt 0 count)) }
     {
         let mut piece = [0u8; PIECE];
         let from = length_of(&self.sent, line);
         let count = self.peek(line, from, &mut piece);
-        put_behind(&mut self.sent, line, &piece[..count])?;
-        Ok(count)
+        put_behind(&mut self.sent, line, &piece[..count])
     }
 
     // Draws all that a connection sent. Says whether there was something.
     fn draw(&mut self, line: u64) -> Result<bool, AllocError>
-        ensures { Goes self.old self.new }
+        ensures goes { Goes self.old self.new }
+        ensures done { IfOk result (λ done. Does self.old self.new done) }
     {
         let mut drawn = false;
         'pieces: for _ in 0..MAX_PIECES {
@@ -70,7 +71,8 @@ impl<R: Copy, B: InThreads<R>> ThreadNode<R, B> {
 
     // The same of one that isn't known to be closed. What was closed before sends nothing more.
     fn draw_open(&mut self, line: u32) -> Result<bool, AllocError>
-        ensures { Goes self.old self.new }
+        ensures goes { Goes self.old self.new }
+        ensures done { IfOk result (λ done. Does self.old self.new done) }
     {
         if !matches!(self.closed.get(line as usize), Some(false)) {
             return Ok(false);
@@ -100,14 +102,15 @@ impl<R: Copy, B: InThreads<R>> ThreadNode<R, B> {
 
     // Room for what so many connections sent.
     fn reach(&mut self, count: usize) -> Result<(), AllocError>
-        ensures { Goes self.old self.new }
+        ensures { Does self.old self.new false }
     {
         reach(self.alloc, &mut self.sent, count)
     }
 
     // Draws what a connection sent, if it was marked.
     fn draw_marked(&mut self, line: u32) -> Result<bool, AllocError>
-        ensures { Goes self.old self.new }
+        ensures goes { Goes self.old self.new }
+        ensures done { IfOk result (λ done. Does self.old self.new done) }
     {
         match self.marks.get((line as usize).saturating_sub(1)) {
             Some(true) => self.draw_open(line),
@@ -117,7 +120,8 @@ impl<R: Copy, B: InThreads<R>> ThreadNode<R, B> {
 
     // Draws what so many connections sent that are not closed. Says whether something was.
     fn draw_lines(&mut self, count: u32) -> Result<bool, AllocError>
-        ensures { Goes self.old self.new }
+        ensures goes { Goes self.old self.new }
+        ensures done { IfOk result (λ done. Does self.old self.new done) }
     {
         let mut drawn = false;
         'lines: for line in 1..count.min(MAX_LINES as u32) + 1 {
@@ -138,7 +142,8 @@ impl<R: Copy, B: InThreads<R>> ThreadNode<R, B> {
 
     /// Draws what connections sent that are not closed. Says whether something was.
     pub(crate) fn draw_all(&mut self) -> Result<bool, AllocError>
-        ensures { Goes self.old self.new }
+        ensures goes { Goes self.old self.new }
+        ensures done { IfOk result (λ done. Does self.old self.new done) }
     {
         let count = self.survey().min(MAX_LINES);
         self.reach(count)?;

@@ -1,5 +1,6 @@
 //! A step is fed to the bench of a node.
 ghost use Rattle.std.specs.Prelude.{◌≡◌, Err, OnErr, OnOk, false};
+ghost use Rattle.bench_item.specs.declared.step.Step.TheVariants.{Joined};
 ghost use Rattle.thread_node.specs.Nodes.{Feeds};
 
 use crate::node::ThreadNode;
@@ -17,6 +18,19 @@ impl<R: Copy, B: InThreads<R>> ThreadNode<R, B> {
         match &mut self.bench {
             None => Err(StepFault::Unknown),
             Some(bench) => bench.feed(&rt, step),
+        }
+    }
+
+    /// A connection is accepted by its bench, if it is started. Answers its number.
+    pub(crate) fn join(&mut self) -> Result<u64, StepFault>
+        ensures ok { OnOk result (Feeds self.old Joined self.new) }
+        ensures none { self.old.started ≡ false → result ≡ Err StepFault.Unknown }
+        ensures err { OnErr result (self.new ≡ self.old) }
+    {
+        let rt = self.rt;
+        match &mut self.bench {
+            None => Err(StepFault::Unknown),
+            Some(bench) => bench.joined(&rt),
         }
     }
 

@@ -17,8 +17,8 @@ pub(crate) struct Teller<D> {
 }
 
 /// A node whose shards run in threads, once it is started. A contract sees its world, which stands at its opening until
-/// its parts were gathered, the steps that were fed to its bench, and what its connections sent, as far as it was
-/// drawn.
+/// its parts were gathered, how many texts its desks passed, the steps that were fed to its bench, and what its
+/// connections sent, as far as it was drawn.
 ///
 /// In: `start`, those of `net_sockets::Node`, `turn`, `end`. Looks: `core`.
 pub struct ThreadNode<R, B: InThreads<R>> {
@@ -27,7 +27,7 @@ pub struct ThreadNode<R, B: InThreads<R>> {
     pub(crate) core: Core,
     pub(crate) bench: Option<B>,
     pub(crate) tellers: Vec<Teller<B::Desk>>,
-    // How many events desks told: each is three entries of its desk's part.
+    // How many texts desks passed: each that was told is three entries of its desk's part.
     pub(crate) told: usize,
     pub(crate) peers: Vec<PeerAddress>,
     // Of each connection, from 1 on, what it sent, as far as it was drawn.
@@ -71,6 +71,7 @@ impl<R, B: InThreads<R>> Model for ThreadNode<R, B> {
     ghost view = { λ n. record {
       run = n.core;
       started = is_started n.bench;
+      told = n.told;
       fed = fed_of B.fed n.bench;
       sent = map (λ text. text.items) n.sent.items;
     } };
@@ -87,7 +88,8 @@ impl<R: Copy, B: InThreads<R>> ThreadNode<R, B> {
         core: Core,
         peers: Vec<PeerAddress>,
     ) -> Result<ThreadNode<R, B>, AllocError>
-        ensures { IfOk result (λ node. node ≡ record { run = core; started = false; fed = []; sent = [] }) }
+        ensures { IfOk result (λ node. node
+            ≡ record { run = core; started = false; told = 0; fed = []; sent = [] }) }
     {
         Ok(ThreadNode {
             rt: *rt,

@@ -1,10 +1,10 @@
 //! What its sockets ask of a node.
-#![tactic(auto, using(crate::proofs::TextLemmas::growing))]
+#![tactic(auto, using(crate::proofs::TextLemmas::growing, crate::proofs::MovingLemmas::moving))]
 
 ghost use Rattle.std.specs.Prelude.{◌≡◌, ◌^◌, IfErr, IfOk, OnErr, OnOk, false, true};
 ghost use Rattle.bench_net.specs.declared.refusal.Refusal.TheVariants.{Unknown};
 ghost use Rattle.node_port.specs.Happened.{is_number, refusal_of};
-ghost use Rattle.thread_node.specs.Nodes.{Feeds, RefusesOn, TakesOn, sent_on};
+ghost use Rattle.thread_node.specs.Nodes.{Feeds, Moves, RefusesOn, TakesOn, sent_on};
 
 use crate::node::ThreadNode;
 use crate::texts::copy_from;
@@ -42,7 +42,9 @@ impl<R: Copy, B: InThreads<R>> ThreadNode<R, B> {
     }
 
     // The dial of a connection, if one is wanted there and can be made; one that can be made nowhere is lost.
-    fn dial_of(&mut self, line: u64) -> Option<Dial> {
+    fn dial_of(&mut self, line: u64) -> Option<Dial>
+        ensures { Moves self.old self.new }
+    {
         let Some(LineState::Dialling { peer }) = self.state(line) else {
             return None;
         };
@@ -63,15 +65,16 @@ impl<R: Copy, B: InThreads<R>> Node for ThreadNode<R, B> {
 
     ghost sent = { λ s line. sent_on s line };
 
+    ghost moves = { λ s t. Moves s t };
+
     fn is_over(&self) -> bool {
         self.bench.is_none() || self.is_past(MAX_ENTRIES - KEPT_FREE / 2)
     }
 
     fn joined(&mut self) -> Option<u64> {
-        let rt = self.rt;
-        match &mut self.bench {
-            None => None,
-            Some(bench) => bench.joined(&rt).ok(),
+        match self.join() {
+            Ok(line) => Some(line),
+            Err(_) => None,
         }
     }
 

@@ -1,8 +1,8 @@
 //! Desks tell.
-#![tactic(auto, using(crate::proofs::GoingLemmas::going, crate::proofs::TellLemmas::staying))]
+#![tactic(auto, using(crate::proofs::GoingLemmas::going, crate::proofs::DoingLemmas::doing, crate::proofs::TellLemmas::staying))]
 
 ghost use Rattle.std.specs.Prelude.{◌≡◌, IfOk, IfSome};
-ghost use Rattle.thread_node.specs.Nodes.{Goes};
+ghost use Rattle.thread_node.specs.Nodes.{Does, Goes};
 ghost use Rattle.thread_node.specs.Told.{Tells};
 
 use crate::board::Board;
@@ -84,16 +84,21 @@ impl<R: Copy, B: InThreads<R>> ThreadNode<R, B> {
         }
     }
 
-    // The desk at a place tells its next text, where its time has come. Says whether it went on.
+    // The desk at a place tells its next text, where its time has come. Says whether it went on. No log holds more than
+    // so many.
     fn tell_at(&mut self, place: usize) -> Result<bool, AllocError>
-        ensures { self.new ≡ self.old }
+        ensures goes { Goes self.old self.new }
+        ensures done { IfOk result (λ done. Does self.old self.new done) }
     {
+        if self.told >= MAX_ENTRIES {
+            return Ok(false);
+        }
         let (Some(bench), Some(teller)) = (&self.bench, self.tellers.get_mut(place)) else {
             return Ok(false);
         };
         let told = tell(&self.rt, self.alloc, &self.core, bench, teller)?;
         if told {
-            self.told = self.told.saturating_add(1);
+            self.told += 1;
         }
         Ok(told)
     }
@@ -101,7 +106,8 @@ impl<R: Copy, B: InThreads<R>> ThreadNode<R, B> {
     /// Each desk tells its next text, where its time has come; none where the parts are nearly full. Says whether one
     /// did.
     pub(crate) fn tell_all(&mut self) -> Result<bool, AllocError>
-        ensures { self.new ≡ self.old }
+        ensures goes { Goes self.old self.new }
+        ensures done { IfOk result (λ done. Does self.old self.new done) }
     {
         if self.tellers.is_empty() || self.is_past(MAX_ENTRIES - KEPT_FREE) {
             return Ok(false);

@@ -1,16 +1,18 @@
 //! What connections sent, as far as it was drawn: texts, from connection 1 on.
 #![tactic(auto, using(crate::proofs::TextLemmas::growing))]
 
-ghost use Rattle.std.specs.Prelude.{◌≡◌, ◌≤◌, ◌<◌, ◌+◌, ◌^◌, [], Some, length, map};
+ghost use Rattle.std.specs.Prelude.{◌≡◌, ◌≤◌, ◌<◌, ◌+◌, ◌^◌, [], IfOk, Some, length, map};
 ghost use Rattle.std.specs.Option.{option_map_or};
 ghost use Rattle.bench_net.specs.Texts.{Copies};
-ghost use Rattle.thread_node.specs.Nodes.{AllGrow, text_at};
+ghost use Rattle.thread_node.specs.Nodes.{AllGrow, drawn_in, text_at};
 
 use std::alloc::{AllocError, Global};
 
 /// Makes empty texts until there are so many.
 pub(crate) fn reach(alloc: Global, texts: &mut Vec<Vec<u8>>, count: usize) -> Result<(), AllocError>
-    ensures { AllGrow (map (λ text. text.items) texts.old.items) (map (λ text. text.items) texts.new.items) }
+    ensures grow { AllGrow (map (λ text. text.items) texts.old.items) (map (λ text. text.items) texts.new.items) }
+    ensures same { drawn_in (map (λ text. text.items) texts.new.items)
+        ≡ drawn_in (map (λ text. text.items) texts.old.items) }
 {
     let missing = count.saturating_sub(texts.len());
     'missing: for _ in 0..missing {
@@ -29,20 +31,25 @@ fn text_of(texts: &[Vec<u8>], line: u64) -> Option<&Vec<u8>>
     texts.get((line - 1) as usize)
 }
 
-/// Puts octets behind the text of a connection, if it was reached.
+/// Puts octets behind the text of a connection, if it was reached. Says how many were put there.
 pub(crate) fn put_behind(
     texts: &mut Vec<Vec<u8>>,
     line: u64,
     octets: &[u8],
-) -> Result<(), AllocError>
-    ensures { AllGrow (map (λ text. text.items) texts.old.items) (map (λ text. text.items) texts.new.items) }
+) -> Result<usize, AllocError>
+    ensures grow { AllGrow (map (λ text. text.items) texts.old.items) (map (λ text. text.items) texts.new.items) }
+    ensures more { IfOk result (λ count. drawn_in (map (λ text. text.items) texts.new.items)
+        ≡ drawn_in (map (λ text. text.items) texts.old.items) + count) }
 {
     if line == 0 {
-        return Ok(());
+        return Ok(0);
     }
     match texts.get_mut((line - 1) as usize) {
-        None => Ok(()),
-        Some(text) => text.extend_from_slice(octets),
+        None => Ok(0),
+        Some(text) => {
+            text.extend_from_slice(octets)?;
+            Ok(octets.len())
+        }
     }
 }
 

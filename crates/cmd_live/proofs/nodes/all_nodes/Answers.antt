@@ -1,9 +1,11 @@
-use Rattle.std.proofs.Common.{◌≡◌, ◌<◌, ◌+◌, ◌++◌, ◌∷◌, ◌∙◌, List, ap, append_assoc, arith, length, sym}
+use Rattle.std.proofs.Common.{◌≡◌, ◌<◌, ◌+◌, ◌++◌, ◌∷◌, ◌∙◌, List, ap, append_assoc, arith, length, map, sym}
 use Rattle.std.proofs.lemmas.Result.{err_from_is_err_and}
 use Rattle.std.specs.Prelude.{option_map}
 use Rattle.bench_setup.specs.declared.setups.Setup.{Setup}
 use Rattle.config_text.specs.declared.node.NodeConfig.{NodeConfig}
-use Rattle.cmd_live.specs.Nodes.{nodes_of, wanted_node}
+use Rattle.bench_spec.specs.Settings.{Settings}
+use Rattle.cmd_live.specs.Nodes.{benches_of, nodes_of, wanted_node, wanted_settings}
+use Rattle.live_turns.specs.Together.{opened_with}
 use Rattle.cmd_live.proofs.RefusalLemmas.{at_place, refused_err}
 use Rattle.cmd_live.proofs.nodes.all_nodes.Goals as goal
 
@@ -22,6 +24,11 @@ setups-preserved g c =
       left = (at_place c.into_iter-left.result.rest.items rest c.setups.place c.in-Some.setup within (c.setups.invariant.left ∙ left)).1;
       all = omega (arith, c.setups.invariant.all, shorter);
       count = omega (arith, c.in_ok-add_wanted.ensures.few, c.setups.invariant.count);
+      opened =
+          ap (λ (s : List Settings). s ++ benches_of host rest) c.in_ok-add_wanted.ensures.opened
+          ∙ append_assoc (map opened_with c.setups.nodes.livings.items) (wanted_settings host c.in-Some.setup) (benches_of host rest)
+          ∙ ap (λ (s : List Setup). map opened_with c.setups.nodes.livings.items ++ benches_of host s) (sym left) ∙ c.setups.invariant.opened;
+      both = c.in_ok-add_wanted.ensures.both c.setups.invariant.both;
     }
 
 -- the node at a place is refused

@@ -1,10 +1,15 @@
 use Rattle.live_turns.proofs.LawLemmas.{laws_there}
-use Rattle.cmd_live.proofs.RefusalLemmas.{not_opened}
+use Rattle.cmd_live.proofs.RefusalLemmas.{not_opened, opened_by}
 use Rattle.cmd_live.proofs.opening.BenchWithCalls.run.Goals as goal
 
 -- the callbacks that are handed in have the laws of all roles
 pub open_bench-requires : goal.open_bench-requires
 open_bench-requires g c = laws_there _ c.args.registries.items c.deref-2.result.now _ c.deref-2.ensures.value c.requires
+
+-- it is opened
+pub returns-in-Ok : goal.returns-in-Ok
+returns-in-Ok g c =
+    opened_by _ c.args.registries.items c.deref-2.result.now c.args.self.config c.in-Ok.core c.deref-2.ensures.value c.in-Ok.ensures.laws c.in-Ok.ensures.ok.1
 
 -- why it is not opened
 pub returns : goal.returns

@@ -1,6 +1,6 @@
-use Rattle.thread_node.specs.Nodes.{Goes}
+use Rattle.thread_node.specs.Nodes.{Does}
 use Rattle.thread_node.proofs.node.ThreadNode.draw_lines.Given as goal
 
 -- items were carried and texts drawn so far, and nothing else
 abbrev pub invariant-lines : goal.invariant-lines
-invariant-lines g l = Goes l.initial.self l.self
+invariant-lines g l = Does l.initial.self l.self l.drawn

@@ -1,0 +1,8 @@
+use Rattle.std.proofs.Common.{rules}
+use Rattle.live_threads.proofs.TogetherLemmas.{ok_together}
+use Rattle.dbench.proofs.fn.main.together.Goals as goal
+
+-- each is a world of its bench
+pub returns : goal.returns
+returns g c =
+    ok_together (λ v. v.items) _ _ c.args.livings.items c.map_vec.result (λ living r says. search rules) c.map_vec.ensures.each

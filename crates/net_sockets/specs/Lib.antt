@@ -1,0 +1,2 @@
+-- The definitions that the contracts of net_sockets speak of.
+pub mod Turns

@@ -1,0 +1,8 @@
+use Rattle.std.proofs.Common.{rules}
+use Rattle.live_threads.proofs.TogetherLemmas.{ok_together}
+use Rattle.test_live_tcp.proofs.loopback.fn.a_session_is_charged_by_a_server_in_threads.together.Goals as goal
+
+-- each is a world of its bench
+pub returns : goal.returns
+returns g c =
+    ok_together (λ v. v.items) _ _ c.args.livings.items c.map_vec.result (λ living r says. search rules) c.map_vec.ensures.each
