@@ -1,5 +1,5 @@
 //! What comes to a shard's part: items, tells, looks.
-ghost use Rattle.std.specs.Prelude.{◌≡◌, ◌∷◌, ◌&&◌, [], None, true, IfErr, IfOk, IsTrue, OnErr, OnOk, slice_index};
+ghost use Rattle.std.specs.Prelude.{◌≡◌, ◌∷◌, ◌&&◌, ◌||◌, [], None, true, IfErr, IfOk, IsTrue, OnErr, OnOk, slice_index};
 ghost use Rattle.std.specs.Prelude.{unwrap_or};
 ghost use Rattle.bench_desk.specs.Desks.{look_at, seen_as, with_kept};
 ghost use Rattle.bench_desk.specs.Parts.{is_full, node_in, with_arrival};
@@ -34,7 +34,9 @@ impl Slot {
     /// room, that is kept in mind.
     pub fn arrive(&mut self, source: Source, item: &KeptMachineItem, stamp: u64) -> Turn
         ensures came { HasArrived result self.old.part self.new.part source stamp item.now }
-        ensures wanted { IsTrue (is_for self.old.part item.now && is_full self.old.part) → self.new.wanted ≡ true }
+        ensures wanted { self.new.wanted
+            ≡ (self.old.wanted || (is_for self.old.part item.now && is_full self.old.part)) }
+        ensures said { (self.new.called ≡ self.old.called) × (self.new.ending ≡ self.old.ending) }
     {
         let shards = self.part.shard().peers().shards();
         if !is_home_of(&self.part, shards, item.key()) {
@@ -72,6 +74,8 @@ impl Slot {
             → IfErr result (λ f. f
             ≡ unwrap_or (tell_refusal_at settings self.old.part desk.old key.now event.now.kind) DeskFault.NoMemory) }
         ensures err { OnErr result ((desk.new ≡ desk.old) × (self.new.part ≡ self.old.part)) }
+        ensures said { (self.new.wanted ≡ self.old.wanted) × (self.new.called ≡ self.old.called)
+            × (self.new.ending ≡ self.old.ending) }
     {
         if !is_home_of(&self.part, desk.shards(), key) {
             return Err(DeskFault::Unknown);

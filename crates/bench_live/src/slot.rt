@@ -61,7 +61,8 @@ impl Slot {
     /// A shard's part and its callbacks, which are of its laws.
     pub fn new(alloc: Global, part: ShardPart, registry: Registry, room: Box<Stepped>) -> Slot
         requires { registry.book ≡ part.tables.laws }
-        ensures { result.part ≡ part }
+        ensures part { result.part ≡ part }
+        ensures quiet { (result.wanted ≡ false) × (result.called ≡ false) × (result.ending ≡ false) }
     {
         Slot {
             alloc,
@@ -115,6 +116,8 @@ impl Slot {
         // A refused call changes nothing.
         ensures err { OnErr result (self.new.part ≡ self.old.part) }
         ensures page { OnErr result (Holds page.old page.new page.old.book) }
+        ensures said { (self.new.wanted ≡ self.old.wanted) × (self.new.called ≡ self.old.called)
+            × (self.new.ending ≡ self.old.ending) }
     {
         self.part
             .work(&self.registry, page, task, stamp, &mut self.room)?;
@@ -171,6 +174,8 @@ impl Slot {
         ensures fault { IfErr result (λ f. f ≡ unwrap_or (lift_refusal self.old.part) CarryFault.NoMemory) }
         // A refused call changes nothing.
         ensures err { OnErr result (self.new.part ≡ self.old.part) }
+        ensures said { (self.new.wanted ≡ self.old.wanted) × (self.new.called ≡ self.old.called)
+            × (self.new.ending ≡ self.old.ending) }
     {
         let item = self.part.lift(stamp)?;
         Ok(Hand {
@@ -182,7 +187,9 @@ impl Slot {
 
     /// Stops, or goes on. Nothing else changes.
     pub fn set_paused(&mut self, paused: bool)
-        ensures { self.new.part ≡ paused_part self.old.part paused }
+        ensures part { self.new.part ≡ paused_part self.old.part paused }
+        ensures said { (self.new.wanted ≡ self.old.wanted) × (self.new.called ≡ self.old.called)
+            × (self.new.ending ≡ self.old.ending) }
     {
         if paused {
             self.part.pause();
@@ -196,6 +203,7 @@ impl Slot {
         ensures part { self.new.part ≡ self.old.part }
         ensures called { self.new.called ≡ true }
         ensures ending { self.new.ending ≡ (self.old.ending || ending) }
+        ensures wanted { self.new.wanted ≡ self.old.wanted }
     {
         self.called = true;
         self.ending = self.ending || ending;
@@ -206,6 +214,7 @@ impl Slot {
         ensures part { self.new.part ≡ self.old.part }
         ensures called { self.new.called ≡ false }
         ensures ending { self.new.ending ≡ self.old.ending }
+        ensures wanted { self.new.wanted ≡ self.old.wanted }
     {
         self.called = false;
     }
@@ -215,6 +224,7 @@ impl Slot {
         ensures wanted { result ≡ self.old.wanted }
         ensures part { self.new.part ≡ self.old.part }
         ensures taken { self.new.wanted ≡ false }
+        ensures said { (self.new.called ≡ self.old.called) × (self.new.ending ≡ self.old.ending) }
     {
         let wanted = self.wanted;
         self.wanted = false;

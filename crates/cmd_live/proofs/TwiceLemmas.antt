@@ -1,5 +1,5 @@
 -- The first host that two nodes have.
-use Rattle.std.proofs.Common.{◌≡◌, ◌∙◌, ◌<◌, ◌+◌, ◌-◌, ◌∷◌, ℕ, List, Some, ap, arith, drop, false, get_or, length, refl, take, true}
+use Rattle.std.proofs.Common.{◌≡◌, ◌∙◌, ◌<◌, ◌+◌, ◌-◌, ℕ, List, Some, ap, arith, drop, false, get_or, length, refl, take, true}
 use Rattle.std.proofs.lemmas.List.{drop_more, length-drop, take_all}
 use Rattle.config_text.specs.declared.node.NodeConfig.{NodeConfig}
 use Rattle.cmd_live.specs.Nodes.{first_twice, has_host}

@@ -1,5 +1,5 @@
 -- A node keeps what its bench was opened with.
-use Rattle.std.proofs.Common.{◌≡◌, ◌∙◌, Result, Ok, Err, ap, inl, inr}
+use Rattle.std.proofs.Common.{◌≡◌, Result, Ok, Err, ap, inl, inr}
 use Rattle.bench_gather.specs.Gathered.{Gathers}
 use Rattle.bench_gather.specs.Given.{Handed}
 use Rattle.bench_gather.specs.declared.fault.GatherFault.{GatherFault}

@@ -1,5 +1,5 @@
 -- What threads answer that each had a node live.
-use Rattle.std.proofs.Common.{◌≡◌, ◌∙◌, ◌<◌, ℕ, List, Option, None, Some, Result, Ok, Err, ap, get_or, length, subst, sym}
+use Rattle.std.proofs.Common.{◌≡◌, ◌∙◌, ◌<◌, List, Option, None, Some, Result, Ok, Err, ap, length, subst, sym}
 use Rattle.std.specs.Prelude.{IfOk, IfSome, slice_index_or}
 use Rattle.std.specs.Fork.{GivesJobs}
 use Rattle.std.specs.Fn.{FnReturns}

@@ -1,5 +1,5 @@
 -- How a node lives whose shards run in threads, and why it does not.
-use Rattle.std.specs.Prelude.{◌==◌, ◌&&◌, ℕ, List, Option, None, Some, if◌then◌else◌, length, min}
+use Rattle.std.specs.Prelude.{◌==◌, ◌&&◌, ℕ, Option, None, Some, if◌then◌else◌, length, min}
 use Rattle.bench_gather.specs.declared.fault.GatherFault.{GatherFault}
 use Rattle.bench_gather.specs.declared.fault.GatherFault.TheVariants as gathering
 use Rattle.bench_item.specs.declared.limit.TheConstants.{MAX_SHARDS}

@@ -1,12 +1,12 @@
 -- Whether something was done.
-use Rattle.std.proofs.Common.{◌≡◌, ◌≤◌, ◌<◌, ◌+◌, ◌∙◌, ◌++◌, ◌∷◌, ◌||◌, ℕ, zero, suc, Bool, false, true, List, [], Result, Ok, Err, OnErr, OnOk, ap, arith, length, lt-ltb, le-ltb, inl, inr, nat_lt, refl, subst, sum_by, sym}
+use Rattle.std.proofs.Common.{◌≡◌, ◌≤◌, ◌<◌, ◌+◌, ◌∙◌, ◌∷◌, ◌||◌, ℕ, zero, suc, Bool, false, true, List, [], Result, Ok, Err, OnErr, OnOk, ap, arith, length, lt-ltb, le-ltb, inl, inr, nat_lt, refl, subst, sym}
 use Rattle.std.specs.Prelude.{is_ok}
 use Rattle.std.proofs.lemmas.Bool.{cases_lt}
 use Rattle.std.proofs.lemmas.List.{length-append}
 use Rattle.std.proofs.lemmas.List.Sums.{sum_by-cons}
 use Rattle.bench_item.specs.declared.step.Step.{Step}
 use Rattle.thread_node.specs.Nodes.{AllGrow, Does, Feeds, Goes, NodeView, done_in, drawn_in, is_carry}
-use Rattle.thread_node.proofs.GoingLemmas.{goes_drawn, goes_none, goes_on, goes_one, goes_refl, goes_told}
+use Rattle.thread_node.proofs.GoingLemmas.{goes_drawn, goes_on, goes_one, goes_refl, goes_told}
 
 -- what was drawn only grows
 drawn_le : (old new : List (List ℕ)) → AllGrow old new → drawn_in old ≤ drawn_in new

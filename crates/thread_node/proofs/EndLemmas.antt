@@ -1,10 +1,10 @@
 -- What was logged is gathered.
-use Rattle.std.proofs.Common.{◌≡◌, Result, Ok, Err, inl, inr, refl}
+use Rattle.std.proofs.Common.{◌≡◌, Result, Ok, Err, inl, inr}
 use Rattle.bench_gather.specs.declared.fault.GatherFault.{GatherFault}
 use Rattle.bench_gather.specs.declared.fault.GatherFault.TheVariants.{Disagree, Full, NoMemory}
 use Rattle.bench_live.specs.declared.parts.Logged.{Logged}
 use Rattle.bench_spec.specs.Taken.{Run}
-use Rattle.thread_node.specs.Ended.{Ends, HasGatheredOn, handed_by}
+use Rattle.thread_node.specs.Ended.{Ends, HasGatheredOn}
 use Rattle.thread_node.specs.Nodes.{NodeView}
 
 -- with all that was fed

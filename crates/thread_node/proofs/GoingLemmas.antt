@@ -1,6 +1,5 @@
 -- Desks tell, items are carried and texts are drawn, one after the other.
-use Rattle.std.proofs.Common.{◌≡◌, ◌≤◌, ◌∙◌, ◌++◌, ◌∷◌, ◌&&◌, List, [], Result, Ok, Err, OnErr, OnOk, ap, append-nil, arith, refl, subst, sym, true}
-use Rattle.std.specs.List.{list_all}
+use Rattle.std.proofs.Common.{◌≡◌, ◌≤◌, ◌∙◌, ◌++◌, ◌∷◌, List, [], Result, Ok, Err, OnErr, OnOk, ap, append-nil, arith, refl, subst, sym, true}
 use Rattle.std.proofs.lemmas.List.{append_assoc}
 use Rattle.std.proofs.lemmas.List.Folds.{list_all-append}
 use Rattle.bench_item.specs.declared.step.Step.{Step}

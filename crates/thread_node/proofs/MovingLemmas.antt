@@ -1,8 +1,7 @@
 -- Steps are fed, one after the other.
-use Rattle.std.proofs.Common.{◌≡◌, ◌∙◌, ◌++◌, ◌∷◌, ℕ, List, [], Result, Ok, Err, OnErr, OnOk, ap, append-nil, refl, sym}
+use Rattle.std.proofs.Common.{◌≡◌, ◌∙◌, ◌++◌, ◌∷◌, List, [], Result, Ok, Err, OnErr, OnOk, ap, append-nil, refl, sym}
 use Rattle.std.proofs.lemmas.List.{append_assoc}
 use Rattle.bench_item.specs.declared.step.Step.{Step}
-use Rattle.bench_net.specs.Events.{Event}
 use Rattle.net_sockets.specs.Turns.{Turned, moved, still, took}
 use Rattle.node_port.specs.Happened.{step_on}
 use Rattle.thread_node.specs.Nodes.{Feeds, Moves, NodeView, TakesOn}

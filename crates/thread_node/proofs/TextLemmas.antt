@@ -1,5 +1,5 @@
 -- Texts only grow.
-use Rattle.std.proofs.Common.{◌≡◌, ◌<◌, ◌+◌, ◌∙◌, ◌++◌, ◌∷◌, ℕ, Bool, false, true, List, [], Some, ap, append-nil, arith, get_or, if◌then◌else◌, length, map, refl, set, subst, suc, sym, zero}
+use Rattle.std.proofs.Common.{◌≡◌, ◌<◌, ◌+◌, ◌∙◌, ◌++◌, ◌∷◌, ℕ, Bool, false, true, List, [], Some, ap, append-nil, arith, get_or, if◌then◌else◌, length, map, set, subst, suc, sym, zero}
 use Rattle.std.proofs.lemmas.List.{append_assoc, length-append, map-append}
 use Rattle.std.proofs.lemmas.List.Sums.{sum_by-cons, sum_by_push}
 use Rattle.bench_net.specs.Texts.{Grows}

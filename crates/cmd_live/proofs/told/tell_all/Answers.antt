@@ -1,4 +1,4 @@
-use Rattle.std.proofs.Common.{◌≡◌, ◌<◌, List, [], ℕ, arith, length, rules, subst, sym, take}
+use Rattle.std.proofs.Common.{◌<◌, List, [], ℕ, arith, length, rules, subst, sym, take}
 use Rattle.std.proofs.lemmas.List.{take_all}
 use Rattle.base_device.specs.declared.status.Status.TheVariants as statuses
 use Rattle.bench_spec.specs.Settings.{Settings}

@@ -1,4 +1,4 @@
-use Rattle.std.proofs.Common.{◌≡◌, ◌∙◌, ◌<◌, ◌+◌, Some, ap, drop, length, rules, sym}
+use Rattle.std.proofs.Common.{◌∙◌, ◌<◌, ◌+◌, Some, ap, drop, length, rules, sym}
 use Rattle.cmd_live.specs.Nodes.{has_host}
 use Rattle.cmd_live.proofs.TwiceLemmas.{all_behind, twice_here, twice_next}
 use Rattle.cmd_live.proofs.twice.first_twice.Goals as goal

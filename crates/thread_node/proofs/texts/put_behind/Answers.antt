@@ -1,4 +1,4 @@
-use Rattle.std.proofs.Common.{◌≡◌, ◌-◌, ◌∙◌, ◌++◌, List, [], Some, ap, append-nil, length, ltb-true, subst, sym}
+use Rattle.std.proofs.Common.{◌-◌, ◌∙◌, ◌++◌, [], Some, ap, append-nil, length, ltb-true, subst, sym}
 use Rattle.bench_net.specs.Texts.{Grows}
 use Rattle.thread_node.proofs.TextLemmas.{all_set, drawn_set}
 use Rattle.thread_node.proofs.texts.put_behind.Goals as goal

@@ -1,4 +1,4 @@
-use Rattle.std.proofs.Common.{◌≡◌, ◌∙◌, Option, Some, ap, subst, sym}
+use Rattle.std.proofs.Common.{◌∙◌, ap, subst, sym}
 use Rattle.bench_spec.specs.Taken.{Run}
 use Rattle.thread_node.specs.Ended.{HasGatheredOn}
 use Rattle.thread_node.specs.Nodes.{NodeView, fed_of}
