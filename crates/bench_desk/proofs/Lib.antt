@@ -1,3 +1,4 @@
+pub mod MachineLemmas
 pub mod PartLemmas
 pub mod WorkLemmas
 pub mod CountLemmas

@@ -16,7 +16,10 @@ use Rattle.bench_shard.specs.View.{ShardView, with_inbox}
 use Rattle.bench_spec.specs.Items.{arrived, is_drop, worked}
 use Rattle.bench_spec.specs.Machines.{is_for, is_work, machine_item}
 use Rattle.bench_spec.specs.Merged.{Stamped, arrivals, arrivals_in}
+use Rattle.bench_shard.specs.Stands.{HasMachines}
+use Rattle.bench_views.proofs.Handled.{moves-none}
 use Rattle.bench_desk.specs.Parts.{IsKept, drop_entry}
+use Rattle.bench_desk.proofs.MachineLemmas.{machines-still, runs-still}
 use Rattle.bench_parts.specs.Views.{stamped_of}
 
 -- the one item, where it passes
@@ -57,7 +60,11 @@ pub IsKept-drop : (tables : Tables) (v : ShardView) (sources : List Source) (log
     → IsKept tables (with_inbox v (put_in v.inbox (item ∷ []))) (sources ++ source ∷ []) (log ++ drop_entry source item ∷ [])
 IsKept-drop tables v sources log source item k here =
     let node = node_of tables.laws v.peers in
+    let e = drop_entry source item in
+    let machines : HasMachines node (log ++ e ∷ []) v = machines-still node log e v (λ shard. refl) (λ key. moves-none key e refl) k.machines in
     record {
+      machines = record { names = machines.names; states = machines.states };
+      runs = runs-still tables v.peers log e (λ shard. refl) (λ key. moves-none key e refl) k.runs;
       inbox =
           ap (λ (b : InboxView). put_in b (item ∷ [])) k.inbox
           ∙ ap (λ xs. inbox_of xs (length (worked log v.number))) (sym (arrived-drop node log v.number source item here))

@@ -6,8 +6,8 @@ use Rattle.std.proofs.lemmas.Bool.Decides.{nat_tests}
 use Rattle.std.proofs.lemmas.Grind.{flat_map-append}
 use Rattle.std.proofs.lemmas.List.{append-nil, length-append}
 use Rattle.std.specs.declared.alloc.AllocError.{AllocError}
-use Rattle.acct_book.specs.Book.{Paged}
-use Rattle.bench_item.specs.Keys.{Node, node_of}
+use Rattle.acct_book.specs.Book.{Book, Paged}
+use Rattle.bench_item.specs.Keys.{Node, home, node_of}
 use Rattle.bench_item.specs.declared.entry.Entry.{Entry}
 use Rattle.bench_item.specs.declared.entry.Handled.{Handled}
 use Rattle.bench_item.specs.declared.item.Item.{Item}
@@ -17,8 +17,10 @@ use Rattle.bench_move.specs.Tables.{Tables}
 use Rattle.bench_queue.specs.Inbox.{InboxView, items_in, next_in, worked_one}
 use Rattle.bench_queue.specs.Outbox.{OutboxView, items_out, next_out}
 use Rattle.bench_shard.specs.Refusal.{first_of, lacks_work_room}
-use Rattle.bench_shard.specs.View.{ShardView, with_outbox}
-use Rattle.bench_shard.specs.Works.{after_work}
+use Rattle.bench_shard.specs.Stands.{HasMachines}
+use Rattle.bench_shard.specs.View.{ShardView, with_outbox, with_paused}
+use Rattle.bench_shard.specs.Works.{BecomesIn, after_work}
+use Rattle.bench_shard.proofs.ViewLemmas.{item-of}
 use Rattle.bench_shard.specs.declared.fault.WorkFault.{WorkFault}
 use Rattle.bench_shard.specs.declared.fault.WorkFault.TheVariants as faults
 use Rattle.bench_spec.specs.Items.{arrived, is_drop, worked}
@@ -28,6 +30,8 @@ use Rattle.bench_spec.specs.Refusal.{is_empty, is_log_full}
 use Rattle.bench_desk.specs.Parts.{IsKept, PartView, entries_in}
 use Rattle.bench_parts.specs.Views.{stamped_of}
 use Rattle.bench_desk.specs.Working.{IsDone, IsLifted, IsUnwritten, IsWorked, lift_entry, or_full, taken_out, with_lift, work_entry, work_refusal}
+use Rattle.bench_views.proofs.Handled.{moves-none}
+use Rattle.bench_desk.proofs.MachineLemmas.{machines-still, machines-work, runs-still, runs-work}
 use Rattle.bench_desk.proofs.PartLemmas.{stamped_of-snoc}
 
 -- neither brings anything
@@ -89,11 +93,13 @@ worked_one-next : (items : List MachineItem) (n : ℕ) (item : MachineItem) → 
 worked_one-next items n item next = rw (within items n item next) refl
 
 -- what is kept beside the shard is what the longer log says, where its oldest item was handled,
-pub IsKept-work : (tables : Tables) (v : ShardView) (sources : List Source) (log : List Entry) (item : MachineItem) (handled : Handled)
-    (posts : List Item) → IsKept tables v sources log → next_in v.inbox ≡ Some item
+pub IsKept-work : (tables : Tables) (book : Book) (v : ShardView) (sources : List Source) (log : List Entry) (item : MachineItem) (handled : Handled)
+    (posts : List Item) → IsKept tables v sources log → next_in v.inbox ≡ Some item → BecomesIn tables book v item handled
     → IsKept tables (after_work v item handled posts) sources (log ++ work_entry v.number item handled ∷ [])
-IsKept-work tables v sources log item handled posts k next =
+IsKept-work tables book v sources log item handled posts k next becomes =
     let node = node_of tables.laws v.peers in
+    let here : home node.shards item.key.name ≡ v.number = item-of node log v.number v.inbox item (ap (λ (b : InboxView). b.items) k.inbox) next in
+    let machines : HasMachines node (log ++ work_entry v.number item handled ∷ []) (after_work v item handled posts) = machines-work node log v item handled posts here k.machines in
     let came : List MachineItem = arrived node log v.number in
     let at : slice_get came (length (worked log v.number)) ≡ Some item = sym (ap next_in k.inbox) ∙ next in
     record {
@@ -103,6 +109,8 @@ IsKept-work tables v sources log item handled posts k next =
           ∙ ap (inbox_of came) (sym (ap length (worked-work log v.number item handled) ∙ length-append (worked log v.number) (item ∷ [])))
           ∙ ap (λ xs. inbox_of xs (length (worked (log ++ work_entry v.number item handled ∷ []) v.number)))
           (sym (arrived-work node log v.number v.number item handled));
+      machines = record { names = machines.names; states = machines.states };
+      runs = runs-work tables book log v item handled here k.machines becomes k.runs;
       sources_are =
           k.sources_are
           ∙ ap (map (λ (p : Source × MachineItem). p.0)) (sym (arrivals-work node log v.number v.number item handled));
@@ -113,7 +121,11 @@ pub IsKept-lift : (tables : Tables) (v : ShardView) (sources : List Source) (log
     → IsKept tables v sources log → IsKept tables (with_outbox v outbox) sources (log ++ lift_entry v.number item ∷ [])
 IsKept-lift tables v sources log item outbox k =
     let node = node_of tables.laws v.peers in
+    let e = lift_entry v.number item in
+    let machines : HasMachines node (log ++ e ∷ []) v = machines-still node log e v (λ shard. refl) (λ key. moves-none key e refl) k.machines in
     record {
+      machines = record { names = machines.names; states = machines.states };
+      runs = runs-still tables v.peers log e (λ shard. refl) (λ key. moves-none key e refl) k.runs;
       inbox =
           k.inbox
           ∙ ap (inbox_of (arrived node log v.number)) (ap length (sym (worked-lift log v.number v.number item)))
@@ -122,6 +134,16 @@ IsKept-lift tables v sources log item outbox k =
       sources_are =
           k.sources_are ∙ ap (map (λ (p : Source × MachineItem). p.0)) (sym (arrivals-lift node log v.number v.number item));
     }
+
+-- and so it is where the shard is paused, or goes on
+pub IsKept-paused : (tables : Tables) (v : ShardView) (sources : List Source) (log : List Entry) (paused : Bool) → IsKept tables v sources log
+    → IsKept tables (with_paused v paused) sources log
+IsKept-paused tables v sources log paused k = record {
+  inbox = k.inbox;
+  machines = record { names = k.machines.names; states = k.machines.states };
+  runs = k.runs;
+  sources_are = k.sources_are;
+}
 
 -- a waiting item is there
 none≢some : {X : Type 0} (x : X) → Some x ≡ None → ⊥
@@ -156,17 +178,18 @@ work_waits v h = waits v.shard.paused (is_empty (items_in v.shard.inbox)) (lacks
 abbrev IsTied : Tables → List Source → ShardView → List Entry → List ℕ → Type 0
 IsTied tables sources v log stamps = IsKept tables v sources log × (length stamps ≡ length log)
 
-one-more : {X Y : Type 0} (xs : List X) (ys : List Y) (x : X) (y : Y) → length xs ≡ length ys → length (xs ++ x ∷ []) ≡ length (ys ++ y ∷ [])
+pub one-more : {X Y : Type 0} (xs : List X) (ys : List Y) (x : X) (y : Y) → length xs ≡ length ys → length (xs ++ x ∷ []) ≡ length (ys ++ y ∷ [])
 one-more xs ys x y same = length-append xs (x ∷ []) ∙ ap (λ n. n + 1) same ∙ sym (length-append ys (y ∷ []))
 
 pub tied-done : (tables decided : Tables) (sources : List Source) (stamp : ℕ) (v w : ShardView) (p q : Paged) (log logged : List Entry) (stamps drawn : List ℕ)
-    → IsTied tables sources v log stamps → IsDone decided stamp v w p q log logged stamps drawn → IsTied tables sources w logged drawn
-tied-done tables decided sources stamp v w p q log logged stamps drawn t d =
+    → decided ≡ tables → IsTied tables sources v log stamps → IsDone decided stamp v w p q log logged stamps drawn → IsTied tables sources w logged drawn
+tied-done tables decided sources stamp v w p q log logged stamps drawn is t d =
     let item = d.work.item in
     let handled = d.work.handled in
     let posts = d.work.effects.posts.items in
+    let becomes : BecomesIn tables p.book v item handled = subst (λ (tabs : Tables). BecomesIn tabs p.book v item handled) is d.decided.becomes in
     rw (d.written.shard_is, d.written.log_is, d.written.stamps_are) (
-      IsKept-work tables v sources log item handled posts t.0 d.decided.fits.item_is,
+      IsKept-work tables p.book v sources log item handled posts t.0 d.decided.fits.item_is becomes,
       one-more stamps log stamp (work_entry v.number item handled) t.1,
     )
 
@@ -175,12 +198,12 @@ pub tied-undone : (tables : Tables) (sources : List Source) (v w : ShardView) (p
 tied-undone tables sources v w p q log logged stamps drawn t u = rw (u.shard_is, u.log_is, u.stamps_are) t
 
 pub tied-either : (tables decided : Tables) (sources : List Source) (stamp : ℕ) (v w : ShardView) (p q : Paged) (log logged : List Entry) (stamps drawn : List ℕ)
-    (result : Result (Unit {0}) AllocError) → IsTied tables sources v log stamps
+    (result : Result (Unit {0}) AllocError) → decided ≡ tables → IsTied tables sources v log stamps
     → OnOk result (IsDone decided stamp v w p q log logged stamps drawn) → OnErr result (IsUnwritten v w p q log logged stamps drawn)
     → IsTied tables sources w logged drawn
-tied-either tables decided sources stamp v w p q log logged stamps drawn (Ok x) t ok err =
-    tied-done tables decided sources stamp v w p q log logged stamps drawn t ok
-tied-either tables decided sources stamp v w p q log logged stamps drawn (Err e) t ok err =
+tied-either tables decided sources stamp v w p q log logged stamps drawn (Ok x) is t ok err =
+    tied-done tables decided sources stamp v w p q log logged stamps drawn is t ok
+tied-either tables decided sources stamp v w p q log logged stamps drawn (Err e) is t ok err =
     tied-undone tables sources v w p q log logged stamps drawn t err
 
 -- the part with that entry

@@ -10,8 +10,10 @@ use Rattle.bench_item.specs.declared.source.Source.{Source}
 use Rattle.bench_item.specs.declared.source.Source.TheVariants.{Desk}
 use Rattle.bench_item.specs.declared.step.Step.TheVariants.{Drop}
 use Rattle.bench_move.specs.Tables.{Tables}
-use Rattle.bench_queue.specs.Inbox.{items_in, put_in}
+use Rattle.bench_queue.specs.Inbox.{InboxView, items_in, put_in}
+use Rattle.bench_shard.specs.Stands.{HasMachines}
 use Rattle.bench_shard.specs.View.{ShardView, with_inbox}
+use Rattle.bench_desk.specs.Runs.{AreRuns}
 use Rattle.bench_shard.specs.declared.fault.PutError.{PutError}
 use Rattle.bench_shard.specs.declared.fault.PutError.TheVariants.{Full, NoMemory}
 use Rattle.bench_spec.specs.Items.{arrived, worked}
@@ -32,16 +34,25 @@ entries_in v = map (λ s. s.entry) v.entries
 abbrev pub node_in : PartView → Node
 node_in v = node_of v.tables.laws v.shard.peers
 
--- what is kept beside a shard is what its part of the log says: what came and how much of it was worked, and who put it
--- there
+-- a shard is what its part of the log says: what came and how much of it was worked; its machines, each where its last
+-- move left it, and of each the moves are a run of its role's table; and what is kept beside it, who put each item there
 pub record IsKept (tables : Tables) (v : ShardView) (sources : List Source) (log : List Entry) : Type 0 where
   pub inbox : v.inbox
       ≡ record { items = arrived (node_of tables.laws v.peers) log v.number; worked = length (worked log v.number) }
+  pub machines : HasMachines (node_of tables.laws v.peers) log v
+  pub runs : AreRuns tables v.peers log
   pub sources_are : sources ≡ map (λ p. p.0) (arrivals (node_of tables.laws v.peers) log v.number)
 
 -- the entry of an item that a source drops at a shard
 abbrev pub drop_entry : Source → MachineItem → Entry
 drop_entry source item = record { step = Drop source; item = Some (ToMachine item); handled = None }
+
+-- what came to the shard, and how much of it was worked
+abbrev pub inbox_by : PartView → InboxView
+inbox_by v = record {
+  items = arrived (node_in v) (entries_in v) v.shard.number;
+  worked = length (worked (entries_in v) v.shard.number);
+}
 
 -- an item came from a source
 abbrev pub with_arrival : PartView → Source → ℕ → MachineItem → PartView

@@ -2,13 +2,15 @@
 ghost use Rattle.std.specs.Prelude.{◌≡◌, ◌<◌, ◌+◌, ◌^◌, [], IfOk, IfErr, OnOk, OnErr, count_by};
 ghost use Rattle.std.specs.Prelude.{length, nat_lt, vec_len, vec_capacity};
 ghost use Rattle.std.specs.Arc.{arc_value};
-ghost use Rattle.bench_item.specs.Keys.{home};
+ghost use Rattle.bench_item.specs.Keys.{home, node_of};
 ghost use Rattle.bench_item.specs.Steps.{is_same_source};
 ghost use Rattle.bench_item.specs.declared.source.Source.TheVariants.{Desk};
 ghost use Rattle.bench_queue.specs.Inbox.{nothing_in};
 ghost use Rattle.bench_queue.specs.Inbox.{items_in};
+ghost use Rattle.bench_shard.specs.Stands.{HasMachines};
 ghost use Rattle.bench_spec.specs.Refusal.{is_crowded, is_log_full};
-ghost use Rattle.bench_desk.specs.Parts.{arrive_error, drop_entry, entries_in, handled_from};
+ghost use Rattle.bench_desk.specs.Parts.{arrive_error, drop_entry, entries_in, handled_from, inbox_by, node_in};
+ghost use Rattle.bench_desk.specs.Runs.{AreRuns};
 ghost use Rattle.bench_desk.specs.Parts.{is_full, waiting_from, with_arrival};
 
 use bench_item::{MAX_ENTRIES, MAX_WAITING, Source};
@@ -23,7 +25,7 @@ use std::sync::Arc;
 /// what was dropped at it. Each entry has the stamp that was drawn for it. A contract sees the tables, the
 /// shard and the stamped entries.
 ///
-/// In: `arrive`. Looks: `shard`, `roles`, `counts`, `has_waiting`, `is_full`, `len`, `stamp`, `entry`.
+/// In: `arrive`. Looks: `known`, `shard`, `roles`, `counts`, `has_waiting`, `is_full`, `len`, `stamp`, `entry`.
 pub struct ShardPart {
     pub(crate) alloc: Global,
     pub(crate) roles: Arc<Roles, Global>,
@@ -118,7 +120,8 @@ fn count_of(sources: &[Source], desk: u32) -> usize
 impl ShardPart {
     /// The part of a shard to which nothing came yet. Takes no memory.
     pub fn new(alloc: Global, roles: Arc<Roles, Global>, shard: ShardState) -> ShardPart
-        requires { shard.inbox ≡ nothing_in }
+        requires inbox { shard.inbox ≡ nothing_in }
+        requires machines { HasMachines (node_of (arc_value roles).laws shard.peers) [] shard }
         ensures { result ≡ record { tables = arc_value roles; shard = shard; entries = [] } }
     {
         ShardPart {
@@ -129,6 +132,17 @@ impl ShardPart {
             log: Log::new(alloc),
             stamps: Vec::new(alloc),
         }
+    }
+
+    /// What it is, whatever was done with it: what its part of the log says. What came and how much of it was handled;
+    /// its machines, each where its last move left it; and of each that its moves are a run of its role's table from
+    /// its start, by the first row that takes an event (RFC 6733 section 5.6, RFC 8506 section 7).
+    pub fn known(&self)
+        ensures inbox { self.now.shard.inbox ≡ inbox_by self.now }
+        ensures machines { HasMachines (node_in self.now) (entries_in self.now) self.now.shard }
+        ensures runs { AreRuns self.now.tables self.now.shard.peers (entries_in self.now) }
+    {
+        let _entries = self.log.len();
     }
 
     /// The shard.

@@ -10,7 +10,7 @@ use Rattle.sess_dir.specs.Names.{NoNameTwice}
 use Rattle.tab_step.specs.declared.machine.MachineState.{MachineState}
 use Rattle.bench_item.specs.declared.key.Key.{Key}
 use Rattle.bench_item.specs.declared.key.Role.TheVariants.{Peer}
-use Rattle.bench_item.specs.Keys.{Configured, home, in_shard, is_same_key, key_of, number_at}
+use Rattle.bench_item.specs.Keys.{Configured, Node, home, in_shard, is_same_key, key_of, node_of, number_at, peers_of}
 use Rattle.bench_item.specs.Past.{distinct}
 use Rattle.bench_spec.specs.Machines.{directory, start, state_at}
 use Rattle.bench_spec.specs.Settings.{Settings}
@@ -18,8 +18,9 @@ use Rattle.bench_shard.proofs.KeyLemmas.{key-itself, same-key}
 use Rattle.bench_shard.proofs.OpenLemmas.{length-starts}
 use Rattle.bench_shard.proofs.ViewLemmas.{Each, each-filter, each-get}
 use Rattle.bench_shard.specs.Names.{key_octets}
-use Rattle.bench_shard.specs.Stands.{Stands}
-use Rattle.bench_shard.specs.View.{opened, peer_names, starts}
+use Rattle.bench_shard.specs.Stands.{HasMachines, Stands}
+use Rattle.bench_shard.specs.View.{ShardView, opened, peer_names, starts}
+use Rattle.tab_law.specs.Books.{Laws}
 
 -- the machines of the peers in a shard
 abbrev keys_of : ℕ → ℕ → List (List ℕ) → List Key
@@ -81,19 +82,19 @@ home-at shards number hosts i d within =
     (each-key shards number (in_shard shards number hosts) (each-filter (λ (host : List ℕ). home shards host == number) hosts)) (slice_get-get_or (keys_of shards number hosts) i d within))
 
 -- the machines of a shard are those of its peers
-directory-new : (settings : Settings) (number : ℕ) → NoNameTwice (map key_octets (keys_of settings.node.shards number settings.node.peers))
-    → directory settings.node number [] ≡ keys_of settings.node.shards number settings.node.peers
-directory-new settings number once =
-    ap (distinct is_same_key) (append-nil (keys_of settings.node.shards number settings.node.peers)) ∙ distinct-once (keys_of settings.node.shards number settings.node.peers) once
+directory-new : (node : Node) (number : ℕ) → NoNameTwice (map key_octets (keys_of node.shards number node.peers))
+    → directory node number [] ≡ keys_of node.shards number node.peers
+directory-new node number once =
+    ap (distinct is_same_key) (append-nil (keys_of node.shards number node.peers)) ∙ distinct-once (keys_of node.shards number node.peers) once
 
 -- each stands at its start
-start-at : (settings : Settings) (number i : ℕ) (d : Key) → NoNameTwice (map key_octets (keys_of settings.node.shards number settings.node.peers)) → i < length (keys_of settings.node.shards number settings.node.peers)
-    → state_at settings.node [] (get_or (keys_of settings.node.shards number settings.node.peers) i d) ≡ start (number_at number i)
-start-at settings number i d once within =
-    let keys : List Key = keys_of settings.node.shards number settings.node.peers in
+start-at : (node : Node) (number i : ℕ) (d : Key) → NoNameTwice (map key_octets (keys_of node.shards number node.peers)) → i < length (keys_of node.shards number node.peers)
+    → state_at node [] (get_or (keys_of node.shards number node.peers) i d) ≡ start (number_at number i)
+start-at node number i d once within =
+    let keys : List Key = keys_of node.shards number node.peers in
     let key : Key = get_or keys i d in
-    ap (λ (n : ℕ). start (number_at n (position_or_len (λ (k : Key). is_same_key k key) (directory settings.node n [])))) (home-at settings.node.shards number settings.node.peers i d within)
-    ∙ ap (λ (ks : List Key). start (number_at number (position_or_len (λ (k : Key). is_same_key k key) ks))) (directory-new settings number once)
+    ap (λ (n : ℕ). start (number_at n (position_or_len (λ (k : Key). is_same_key k key) (directory node n [])))) (home-at node.shards number node.peers i d within)
+    ∙ ap (λ (ks : List Key). start (number_at number (position_or_len (λ (k : Key). is_same_key k key) ks))) (directory-new node number once)
     ∙ ap (λ (n : ℕ). start (number_at number n)) (first-at keys once i d within)
 
 get-starts : (number count i : ℕ) (d : MachineState) → i < count → get_or (starts number count) i d ≡ start (number_at number i)
@@ -106,32 +107,40 @@ get-starts number (suc count) i d within = elim (cases_lt i count) [
       get_or_push (starts number count) (start (number_at number count)) d i (length-starts number count ∙ sym is) ∙ ap (λ (n : ℕ). start (number_at number n)) (sym is)
 ]
 
-states-new : (settings : Settings) (number : ℕ) → NoNameTwice (map key_octets (keys_of settings.node.shards number settings.node.peers))
-    → starts number (length (keys_of settings.node.shards number settings.node.peers)) ≡ map (state_at settings.node []) (keys_of settings.node.shards number settings.node.peers)
-states-new settings number once =
-    let keys : List Key = keys_of settings.node.shards number settings.node.peers in
-    let state : Key → MachineState = state_at settings.node [] in
+states-new : (node : Node) (number : ℕ) → NoNameTwice (map key_octets (keys_of node.shards number node.peers))
+    → starts number (length (keys_of node.shards number node.peers)) ≡ map (state_at node []) (keys_of node.shards number node.peers)
+states-new node number once =
+    let keys : List Key = keys_of node.shards number node.peers in
+    let state : Key → MachineState = state_at node [] in
     let long : length (starts number (length keys)) ≡ length keys = length-starts number (length keys) in
     same_lists (starts number (length keys)) (map state keys) (long ∙ sym (length-map keys state))
     (λ i d within.
     let inside : i < length keys = omega (arith, within, long) in
     let own : slice_get (map state keys) i ≡ Some (start (number_at number i)) =
-    slice_get-map state keys i ∙ ap (option_map state) (slice_get-get_or keys i (key_of Peer []) inside) ∙ ap Some (start-at settings number i (key_of Peer []) once inside) in
+    slice_get-map state keys i ∙ ap (option_map state) (slice_get-get_or keys i (key_of Peer []) inside) ∙ ap Some (start-at node number i (key_of Peer []) once inside) in
     get-starts number (length keys) i d inside ∙ sym (get_or_from_slice_get (map state keys) i (start (number_at number i)) d own))
 
-opened-stands : (settings : Settings) (number : ℕ) → number < settings.node.shards → NoNameTwice (peer_names settings.node.shards number settings.node.peers)
-    → Stands settings [] (opened number (record { hosts = settings.node.peers; shards = settings.node.shards }))
-opened-stands settings number here once =
-    let keys : List Key = keys_of settings.node.shards number settings.node.peers in
-    let names : peer_names settings.node.shards number settings.node.peers ≡ map key_octets keys = names-keys (in_shard settings.node.shards number settings.node.peers) in
+opened-machines : (node : Node) (number : ℕ) → NoNameTwice (peer_names node.shards number node.peers) → HasMachines node [] (opened number (peers_of node))
+opened-machines node number once =
+    let keys : List Key = keys_of node.shards number node.peers in
+    let names : peer_names node.shards number node.peers ≡ map key_octets keys = names-keys (in_shard node.shards number node.peers) in
     let each : NoNameTwice (map key_octets keys) = subst NoNameTwice names once in
-    let count : length (peer_names settings.node.shards number settings.node.peers) ≡ length keys = ap length names ∙ length-map keys key_octets in
-    let all : directory settings.node number [] ≡ keys = directory-new settings number each in
+    let count : length (peer_names node.shards number node.peers) ≡ length keys = ap length names ∙ length-map keys key_octets in
+    let all : directory node number [] ≡ keys = directory-new node number each in
+    record {
+      names = names ∙ ap (map key_octets) (sym all);
+      states = ap (starts number) count ∙ states-new node number each ∙ ap (map (state_at node [])) (sym all);
+    }
+
+opened-stands : (settings : Settings) (number : ℕ) → number < settings.node.shards → NoNameTwice (peer_names settings.node.shards number settings.node.peers)
+    → Stands settings [] (opened number (peers_of settings.node))
+opened-stands settings number here once =
+    let machines : HasMachines settings.node [] (opened number (peers_of settings.node)) = opened-machines settings.node number once in
     record {
       here = here;
       peers = refl;
-      names = names ∙ ap (map key_octets) (sym all);
-      states = ap (starts number) count ∙ states-new settings number each ∙ ap (map (state_at settings.node [])) (sym all);
+      names = machines.names;
+      states = machines.states;
       inbox = refl;
       outbox = refl;
     }
@@ -143,3 +152,9 @@ new-stands settings number peers here once is =
     let own : number < settings.node.shards = subst (λ (p : Configured). number < p.shards) is here in
     let each : NoNameTwice (peer_names settings.node.shards number settings.node.peers) = subst (λ (p : Configured). NoNameTwice (peer_names p.shards number p.hosts)) is once in
     subst (λ (p : Configured). Stands settings [] (opened number p)) (sym is) (opened-stands settings number own each)
+
+-- and so has its machines where it is of no settings
+pub new-machines : (laws : Laws) (number : ℕ) (peers : Configured) (shard : ShardView) → NoNameTwice (peer_names peers.shards number peers.hosts)
+    → shard ≡ opened number peers → HasMachines (node_of laws shard.peers) [] shard
+new-machines laws number peers shard once is =
+    subst (λ (v : ShardView). HasMachines (node_of laws v.peers) [] v) (sym is) (opened-machines (node_of laws peers) number once)

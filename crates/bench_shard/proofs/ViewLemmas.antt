@@ -21,25 +21,35 @@ use Rattle.bench_spec.specs.Settings.{Settings}
 use Rattle.bench_shard.proofs.AbsentLemmas.{absent-moves, first-or_len}
 use Rattle.bench_shard.proofs.KeyLemmas.{place-octets, same-key}
 use Rattle.bench_shard.specs.Names.{key_octets}
-use Rattle.bench_shard.specs.Stands.{Stands}
+use Rattle.bench_shard.specs.Stands.{HasMachines, Stands}
 use Rattle.bench_shard.specs.View.{ShardView, lacks_room, number_for, place_for, place_in, state_for}
 
+-- the machines of a shard that is what a log says
+pub machines-of : (settings : Settings) (log : List Entry) (v : ShardView) → Stands settings log v → HasMachines settings.node log v
+machines-of settings log v S = record { names = S.names; states = S.states }
+
 -- the place of a machine of the shard
-pub found : (settings : Settings) (log : List Entry) (v : ShardView) (key : Key) → Stands settings log v → place_in v key ≡ position (λ k. is_same_key k key) (logged.directory settings.node v.number log)
-found settings log v key S =
-    ap (λ (names : List (List ℕ)). place_of names (key_octets key)) S.names ∙ place-octets (logged.directory settings.node v.number log) key
+found : (node : Node) (log : List Entry) (v : ShardView) (key : Key) → HasMachines node log v → place_in v key ≡ position (λ k. is_same_key k key) (logged.directory node v.number log)
+found node log v key M =
+    ap (λ (names : List (List ℕ)). place_of names (key_octets key)) M.names ∙ place-octets (logged.directory node v.number log) key
+
+place-of : (node : Node) (log : List Entry) (v : ShardView) (key : Key) → HasMachines node log v → home node.shards key.name ≡ v.number → place_in v key ≡ logged.place_in node log key
+place-of node log v key M here =
+    found node log v key M ∙ ap (λ (n : ℕ). position (λ (k : Key). is_same_key k key) (logged.directory node n log)) (sym here)
 
 pub place-in : (settings : Settings) (log : List Entry) (v : ShardView) (key : Key) → Stands settings log v → home settings.node.shards key.name ≡ v.number → place_in v key ≡ logged.place_in settings.node log key
-place-in settings log v key S here =
-    found settings log v key S ∙ ap (λ (n : ℕ). position (λ (k : Key). is_same_key k key) (logged.directory settings.node n log)) (sym here)
+place-in settings log v key S here = place-of settings.node log v key (machines-of settings log v S) here
 
 -- how many machines there are
-pub count : (settings : Settings) (log : List Entry) (v : ShardView) → Stands settings log v → length v.names ≡ length (logged.directory settings.node v.number log)
-count settings log v S = ap length S.names ∙ length-map (logged.directory settings.node v.number log) key_octets
+count-of : (node : Node) (log : List Entry) (v : ShardView) → HasMachines node log v → length v.names ≡ length (logged.directory node v.number log)
+count-of node log v M = ap length M.names ∙ length-map (logged.directory node v.number log) key_octets
 
-count-home : (settings : Settings) (log : List Entry) (v : ShardView) (key : Key) → Stands settings log v → home settings.node.shards key.name ≡ v.number
-    → length v.names ≡ length (logged.directory settings.node (home settings.node.shards key.name) log)
-count-home settings log v key S here = count settings log v S ∙ ap (λ (n : ℕ). length (logged.directory settings.node n log)) (sym here)
+pub count : (settings : Settings) (log : List Entry) (v : ShardView) → Stands settings log v → length v.names ≡ length (logged.directory settings.node v.number log)
+count settings log v S = count-of settings.node log v (machines-of settings log v S)
+
+count-home : (node : Node) (log : List Entry) (v : ShardView) (key : Key) → HasMachines node log v → home node.shards key.name ≡ v.number
+    → length v.names ≡ length (logged.directory node (home node.shards key.name) log)
+count-home node log v key M here = count-of node log v M ∙ ap (λ (n : ℕ). length (logged.directory node n log)) (sym here)
 
 is_none-map : {X Y : Type 0} (f : X → Y) (o : Option X) → is_none (option_map f o) ≡ is_none o
 is_none-map f None = refl
@@ -51,17 +61,20 @@ no-room settings log v key S here =
     let all : ℕ = length (logged.directory settings.node (home settings.node.shards key.name) log) in
     ap (λ (b : Bool). b && nat_le MAX_MACHINES all) (is_none-map (number_at (home settings.node.shards key.name)) (logged.place_in settings.node log key))
     ∙ ap (λ (o : Option ℕ). is_none o && nat_le MAX_MACHINES all) (sym (place-in settings log v key S here))
-    ∙ ap (λ (n : ℕ). is_none (place_in v key) && nat_le MAX_MACHINES n) (sym (count-home settings log v key S here))
+    ∙ ap (λ (n : ℕ). is_none (place_in v key) && nat_le MAX_MACHINES n) (sym (count-home settings.node log v key (machines-of settings log v S) here))
 
 -- its number
-pub number-for : (settings : Settings) (log : List Entry) (v : ShardView) (key : Key) → Stands settings log v → home settings.node.shards key.name ≡ v.number → logged.number_for settings.node log key ≡ number_for v key
-number-for settings log v key S here =
-    let shard : ℕ = home settings.node.shards key.name in
-    let all : List Key = logged.directory settings.node shard log in
+number-of : (node : Node) (log : List Entry) (v : ShardView) (key : Key) → HasMachines node log v → home node.shards key.name ≡ v.number → logged.number_for node log key ≡ number_for v key
+number-of node log v key M here =
+    let shard : ℕ = home node.shards key.name in
+    let all : List Key = logged.directory node shard log in
     ap (number_at shard) (sym (first-or_len (λ (k : Key). is_same_key k key) all))
-    ∙ ap (λ (o : Option ℕ). number_at shard (unwrap_or o (length all))) (sym (place-in settings log v key S here))
-    ∙ ap (λ (n : ℕ). number_at shard (unwrap_or (place_in v key) n)) (sym (count-home settings log v key S here))
+    ∙ ap (λ (o : Option ℕ). number_at shard (unwrap_or o (length all))) (sym (place-of node log v key M here))
+    ∙ ap (λ (n : ℕ). number_at shard (unwrap_or (place_in v key) n)) (sym (count-home node log v key M here))
     ∙ ap (λ (n : ℕ). number_at n (place_for v key)) here
+
+pub number-for : (settings : Settings) (log : List Entry) (v : ShardView) (key : Key) → Stands settings log v → home settings.node.shards key.name ≡ v.number → logged.number_for settings.node log key ≡ number_for v key
+number-for settings log v key S here = number-of settings.node log v key (machines-of settings log v S) here
 
 slice_get-past : {X : Type 0} (xs : List X) (k : ℕ) → length xs ≤ k → slice_get xs k ≡ None
 slice_get-past [] k past = refl
@@ -69,35 +82,38 @@ slice_get-past (x ∷ xs) zero past = absurd (omega (arith, past))
 slice_get-past (x ∷ xs) (suc k) past = slice_get-past xs k (omega (arith, past))
 
 -- where a machine stands that is not there, and one that is
-absent-state : (settings : Settings) (log : List Entry) (v : ShardView) (key : Key) → Stands settings log v → home settings.node.shards key.name ≡ v.number → place_in v key ≡ None → logged.state_at settings.node log key ≡ state_for v key
-absent-state settings log v key S here none =
-    let still : logged.moves_of log key ≡ [] = absent-moves settings.node v.number key log here (sym (found settings log v key S) ∙ none) in
+absent-state : (node : Node) (log : List Entry) (v : ShardView) (key : Key) → HasMachines node log v → home node.shards key.name ≡ v.number → place_in v key ≡ None → logged.state_at node log key ≡ state_for v key
+absent-state node log v key M here none =
+    let still : logged.moves_of log key ≡ [] = absent-moves node v.number key log here (sym (found node log v key M) ∙ none) in
     let behind : place_for v key ≡ length v.names = ap (λ (o : Option ℕ). unwrap_or o (length v.names)) none in
-    let states : length v.states ≡ length v.names = ap length S.states ∙ length-map (logged.directory settings.node v.number log) (logged.state_at settings.node log) ∙ sym (count settings log v S) in
+    let states : length v.states ≡ length v.names = ap length M.states ∙ length-map (logged.directory node v.number log) (logged.state_at node log) ∙ sym (count-of node log v M) in
     let past : slice_get v.states (place_for v key) ≡ None = slice_get-past v.states (place_for v key) (omega (arith, behind, states)) in
-    ap (logged.state_after (logged.start (logged.number_for settings.node log key))) still
-    ∙ ap logged.start (number-for settings log v key S here)
+    ap (logged.state_after (logged.start (logged.number_for node log key))) still
+    ∙ ap logged.start (number-of node log v key M here)
     ∙ sym (ap (λ (o : Option MachineState). unwrap_or o (logged.start (number_for v key))) past)
 
-known-state : (settings : Settings) (log : List Entry) (v : ShardView) (key : Key) (i : ℕ) → Stands settings log v → place_in v key ≡ Some i → logged.state_at settings.node log key ≡ state_for v key
-known-state settings log v key i S known =
-    let all : List Key = logged.directory settings.node v.number log in
-    let state : Key → MachineState = logged.state_at settings.node log in
-    let at = position-Some (λ (k : Key). is_same_key k key) all i key (sym (found settings log v key S) ∙ known) in
+known-state : (node : Node) (log : List Entry) (v : ShardView) (key : Key) (i : ℕ) → HasMachines node log v → place_in v key ≡ Some i → logged.state_at node log key ≡ state_for v key
+known-state node log v key i M known =
+    let all : List Key = logged.directory node v.number log in
+    let state : Key → MachineState = logged.state_at node log in
+    let at = position-Some (λ (k : Key). is_same_key k key) all i key (sym (found node log v key M) ∙ known) in
     let within : i < length (map state all) = omega (arith, at.0, length-map all state) in
     let here : place_for v key ≡ i = ap (λ (o : Option ℕ). unwrap_or o (length v.names)) known in
     let stands : slice_get v.states (place_for v key) ≡ Some (state key) =
-    ap (slice_get v.states) here ∙ ap (λ (xs : List MachineState). slice_get xs i) S.states ∙ slice_get-get_or (map state all) i (state key) within
+    ap (slice_get v.states) here ∙ ap (λ (xs : List MachineState). slice_get xs i) M.states ∙ slice_get-get_or (map state all) i (state key) within
     ∙ ap Some (get_or-map state all i key ∙ ap state (same-key (get_or all i key) key at.1)) in
     sym (ap (λ (o : Option MachineState). unwrap_or o (logged.start (number_for v key))) stands)
 
 -- where a machine stands
-pub state-for : (settings : Settings) (log : List Entry) (v : ShardView) (key : Key) → Stands settings log v → home settings.node.shards key.name ≡ v.number → logged.state_at settings.node log key ≡ state_for v key
-state-for settings log v key S here = by (place_in v key) refl
+pub state-of : (node : Node) (log : List Entry) (v : ShardView) (key : Key) → HasMachines node log v → home node.shards key.name ≡ v.number → logged.state_at node log key ≡ state_for v key
+state-of node log v key M here = by (place_in v key) refl
   where
-    by : (o : Option ℕ) → place_in v key ≡ o → logged.state_at settings.node log key ≡ state_for v key
-    by None e = absent-state settings log v key S here e
-    by (Some i) e = known-state settings log v key i S e
+    by : (o : Option ℕ) → place_in v key ≡ o → logged.state_at node log key ≡ state_for v key
+    by None e = absent-state node log v key M here e
+    by (Some i) e = known-state node log v key i M e
+
+pub state-for : (settings : Settings) (log : List Entry) (v : ShardView) (key : Key) → Stands settings log v → home settings.node.shards key.name ≡ v.number → logged.state_at settings.node log key ≡ state_for v key
+state-for settings log v key S here = state-of settings.node log v key (machines-of settings log v S) here
 
 -- all elements pass
 abbrev pub Each : {X : Type 0} → (X → Bool) → List X → Type 0
@@ -132,8 +148,11 @@ each-arrived node shard (e ∷ es) =
     by false = tt
 
 -- the oldest item is for a machine of the shard
+pub item-of : (node : Node) (log : List Entry) (number : ℕ) (inbox : InboxView) (item : MachineItem) → inbox.items ≡ arrived node log number → next_in inbox ≡ Some item → home node.shards item.key.name ≡ number
+item-of node log number inbox item came next =
+    let at : slice_get (arrived node log number) inbox.worked ≡ Some item = sym (ap (λ (xs : List MachineItem). slice_get xs inbox.worked) came) ∙ next in
+    eqb-true _ _ (each-get (logged.is_for node number) (arrived node log number) inbox.worked item (each-arrived node number log) at)
+
 pub own-item : (settings : Settings) (log : List Entry) (v : ShardView) (item : MachineItem) → Stands settings log v → next_in v.inbox ≡ Some item → home settings.node.shards item.key.name ≡ v.number
 own-item settings log v item S next =
-    let came : v.inbox.items ≡ arrived settings.node log v.number = ap (λ (b : InboxView). b.items) S.inbox in
-    let at : slice_get (arrived settings.node log v.number) v.inbox.worked ≡ Some item = sym (ap (λ (xs : List MachineItem). slice_get xs v.inbox.worked) came) ∙ next in
-    eqb-true _ _ (each-get (logged.is_for settings.node v.number) (arrived settings.node log v.number) v.inbox.worked item (each-arrived settings.node v.number log) at)
+    item-of settings.node log v.number v.inbox item (ap (λ (b : InboxView). b.items) S.inbox) next

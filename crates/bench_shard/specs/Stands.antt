@@ -8,7 +8,7 @@ use Rattle.bench_item.specs.declared.entry.Entry.{Entry}
 use Rattle.bench_item.specs.declared.entry.Handled.{Handled}
 use Rattle.bench_item.specs.declared.item.MachineItem.{MachineItem}
 use Rattle.bench_item.specs.declared.source.Source.TheVariants.{Shard}
-use Rattle.bench_item.specs.Keys.{node_of}
+use Rattle.bench_item.specs.Keys.{Node, node_of}
 use Rattle.bench_move.specs.Tables.{Tables}
 use Rattle.bench_queue.specs.Inbox.{next_in}
 use Rattle.bench_spec.specs.Booked.{book_at, event_with_quote, outcomes_for}
@@ -20,6 +20,11 @@ use Rattle.bench_shard.specs.Names.{key_octets}
 use Rattle.bench_shard.specs.Tasks.{wanted}
 use Rattle.bench_shard.specs.View.{ShardView}
 use Rattle.bench_shard.specs.Works.{BecomesIn}
+
+-- its machines are those of the directory, each stands as its moves left it
+pub record HasMachines (node : Node) (log : List Entry) (v : ShardView) : Type 0 where
+  pub names : v.names ≡ map key_octets (directory node v.number log)
+  pub states : v.states ≡ map (state_at node log) (directory node v.number log)
 
 -- the shard of that number after these entries, whether it is paused or not: its machines are those of the directory,
 -- each stands as its moves left it, what came and was handled, was put out, lifted and dropped is what the entries say

@@ -1,12 +1,13 @@
 //! A shard is made, with the machines of its peers.
 ghost use Rattle.std.specs.Prelude.{◌≡◌, ◌≤◌, ◌<◌, ◌++◌, ◌∷◌, [], None, IfOk, OnOk, length, replicate};
 ghost use Rattle.sess_dir.specs.Names.{place_of};
-ghost use Rattle.bench_item.specs.Keys.{key_of, number_at};
+ghost use Rattle.bench_item.specs.Keys.{key_of, node_of, number_at};
 ghost use Rattle.bench_item.specs.declared.key.Role.TheVariants.{Peer};
 ghost use Rattle.bench_item.specs.declared.limit.TheConstants.{MAX_MACHINES, MAX_SHARDS};
 ghost use Rattle.bench_spec.specs.Machines.{start};
 ghost use Rattle.bench_spec.specs.Settings.{Settings};
-ghost use Rattle.bench_shard.specs.Stands.{Stands};
+ghost use Rattle.bench_shard.specs.Stands.{HasMachines, Stands};
+ghost use Rattle.tab_law.specs.Books.{Laws};
 ghost use Rattle.bench_shard.specs.Names.{key_octets};
 ghost use Rattle.bench_shard.specs.View.{opened, peer_names, starts};
 
@@ -121,6 +122,7 @@ impl ShardState {
         ensures stands { IfOk result (λ shard. (settings : Settings)
             → peers ≡ record { hosts = settings.node.peers; shards = settings.node.shards }
             → Stands settings [] shard) }
+        ensures machines { IfOk result (λ shard. (laws : Laws) → HasMachines (node_of laws shard.peers) [] shard) }
     {
         let mut names = Directory::new(alloc);
         let mut states = Vec::new(alloc);

@@ -15,7 +15,7 @@ use Rattle.bench_item.specs.declared.item.MachineItem.{MachineItem}
 use Rattle.bench_item.specs.declared.key.Key.{Key}
 use Rattle.bench_item.specs.declared.source.Source.{Source}
 use Rattle.bench_item.specs.declared.source.Source.TheVariants.{Shard}
-use Rattle.bench_item.specs.Keys.{home, is_same_key}
+use Rattle.bench_item.specs.Keys.{Node, home, is_same_key}
 use Rattle.bench_queue.specs.Inbox.{InboxView, next_in, worked_one}
 use Rattle.bench_queue.specs.Outbox.{OutboxView, put_out}
 use Rattle.bench_shard.proofs.KeyLemmas.{place-octets}
@@ -48,7 +48,7 @@ next_place : (n m : ℕ) → nat_lt n m ≡ true → nat_lt (suc n) (suc m) ≡ 
 next_place n m is = grind (arith, nat_tests, is)
 
 -- an item is there where its first place is in the list
-place-there : {X : Type 0} (p : X → Bool) (xs : List X) → nat_lt (position_or_len p xs) (length xs) ≡ list_any p xs
+pub place-there : {X : Type 0} (p : X → Bool) (xs : List X) → nat_lt (position_or_len p xs) (length xs) ≡ list_any p xs
 place-there p [] = refl
 place-there p (x ∷ xs) = by (place-there p xs) (p x) refl
   where
@@ -89,34 +89,34 @@ settled_states-put keys states key state same = by (nat_lt n (length keys)) refl
         rw place (sym (put_for-place is_same_key key state keys states same ∙ rw within refl))
 
 -- the names and the states of a shard that handled an item
-abbrev LeavesNames : Settings → List Entry → ShardView → MachineItem → Handled → Type 0
-LeavesNames settings log v item handled =
-    names_left (map key_octets (directory settings.node v.number log)) item.key (state_left v item handled)
-    ≡ map key_octets (directory settings.node v.number (log ++ work_entry v.number item handled ∷ []))
+abbrev pub LeavesNames : Node → List Entry → ShardView → MachineItem → Handled → Type 0
+LeavesNames node log v item handled =
+    names_left (map key_octets (directory node v.number log)) item.key (state_left v item handled)
+    ≡ map key_octets (directory node v.number (log ++ work_entry v.number item handled ∷ []))
 
-names-after : (settings : Settings) (log : List Entry) (v : ShardView) (item : MachineItem) (handled : Handled) → home settings.node.shards item.key.name ≡ v.number → LeavesNames settings log v item handled
-names-after settings log v item TooBusy here = ap (map key_octets) (sym (directory-same settings.node v.number log (work_entry v.number item TooBusy) refl))
-names-after settings log v item (Stale state) here =
-    settled_names-new (directory settings.node v.number log) item.key
-    ∙ ap (map key_octets) (sym (directory-new settings.node v.number log (work_entry v.number item (Stale state)) item.key (keys-stale settings.node v.number v.number item state here)))
-names-after settings log v item (Move moved) here =
-    settled_names-new (directory settings.node v.number log) item.key
-    ∙ ap (map key_octets) (sym (directory-new settings.node v.number log (work_entry v.number item (Move moved)) item.key (keys-moved settings.node v.number v.number item moved here)))
+pub names-after : (node : Node) (log : List Entry) (v : ShardView) (item : MachineItem) (handled : Handled) → home node.shards item.key.name ≡ v.number → LeavesNames node log v item handled
+names-after node log v item TooBusy here = ap (map key_octets) (sym (directory-same node v.number log (work_entry v.number item TooBusy) refl))
+names-after node log v item (Stale state) here =
+    settled_names-new (directory node v.number log) item.key
+    ∙ ap (map key_octets) (sym (directory-new node v.number log (work_entry v.number item (Stale state)) item.key (keys-stale node v.number v.number item state here)))
+names-after node log v item (Move moved) here =
+    settled_names-new (directory node v.number log) item.key
+    ∙ ap (map key_octets) (sym (directory-new node v.number log (work_entry v.number item (Move moved)) item.key (keys-moved node v.number v.number item moved here)))
 
-abbrev LeavesStates : Settings → List Entry → ShardView → MachineItem → Handled → Type 0
-LeavesStates settings log v item handled =
-    states_left (map key_octets (directory settings.node v.number log)) (states_of settings.node v.number log) item.key (state_left v item handled)
-    ≡ states_of settings.node v.number (log ++ work_entry v.number item handled ∷ [])
+abbrev pub LeavesStates : Node → List Entry → ShardView → MachineItem → Handled → Type 0
+LeavesStates node log v item handled =
+    states_left (map key_octets (directory node v.number log)) (states_of node v.number log) item.key (state_left v item handled)
+    ≡ states_of node v.number (log ++ work_entry v.number item handled ∷ [])
 
-states-after : (settings : Settings) (log : List Entry) (v : ShardView) (item : MachineItem) (handled : Handled) → home settings.node.shards item.key.name ≡ v.number → state_for v item.key ≡ state_at settings.node log item.key → LeavesStates settings log v item handled
-states-after settings log v item TooBusy here before = sym (states-busy settings.node v.number v.number log item)
-states-after settings log v item (Stale state) here before =
-    ap (settled_states (map key_octets (directory settings.node v.number log)) (states_of settings.node v.number log) item.key) before
-    ∙ settled_states-put (directory settings.node v.number log) (states_of settings.node v.number log) item.key (state_at settings.node log item.key) (sym (length-map (directory settings.node v.number log) (state_at settings.node log)))
-    ∙ sym (states-stale settings.node v.number log item state here)
-states-after settings log v item (Move moved) here before =
-    settled_states-put (directory settings.node v.number log) (states_of settings.node v.number log) item.key moved.after (sym (length-map (directory settings.node v.number log) (state_at settings.node log)))
-    ∙ sym (states-moved settings.node v.number log item moved here)
+pub states-after : (node : Node) (log : List Entry) (v : ShardView) (item : MachineItem) (handled : Handled) → home node.shards item.key.name ≡ v.number → state_for v item.key ≡ state_at node log item.key → LeavesStates node log v item handled
+states-after node log v item TooBusy here before = sym (states-busy node v.number v.number log item)
+states-after node log v item (Stale state) here before =
+    ap (settled_states (map key_octets (directory node v.number log)) (states_of node v.number log) item.key) before
+    ∙ settled_states-put (directory node v.number log) (states_of node v.number log) item.key (state_at node log item.key) (sym (length-map (directory node v.number log) (state_at node log)))
+    ∙ sym (states-stale node v.number log item state here)
+states-after node log v item (Move moved) here before =
+    settled_states-put (directory node v.number log) (states_of node v.number log) item.key moved.after (sym (length-map (directory node v.number log) (state_at node log)))
+    ∙ sym (states-moved node v.number log item moved here)
 
 itself : (n : ℕ) → (n == n) ≡ true
 itself n = grind (arith, nat_tests)
@@ -199,11 +199,11 @@ pub stands-worked : (settings : Settings) (log : List Entry) (v : ShardView) (it
 stands-worked settings log v item handled own here next before posts_are s = record {
   here = s.here;
   peers = s.peers;
-  names = ap (λ ns. names_left ns item.key (state_left v item handled)) s.names ∙ names-after settings log v item handled here;
+  names = ap (λ ns. names_left ns item.key (state_left v item handled)) s.names ∙ names-after settings.node log v item handled here;
   states =
       ap (λ ns. states_left ns v.states item.key (state_left v item handled)) s.names
       ∙ ap (λ ss. states_left (map key_octets (directory settings.node v.number log)) ss item.key (state_left v item handled)) s.states
-      ∙ states-after settings log v item handled here before;
+      ∙ states-after settings.node log v item handled here before;
   inbox = ap worked_one s.inbox ∙ inbox-worked settings log v.number item handled (sym (ap next_in s.inbox) ∙ next);
   outbox = ap (λ o. put_out o own) s.outbox ∙ ap (put_out (outbox_at settings log (Shard v.number))) posts_are ∙ outbox-worked settings log v.number item handled;
 }

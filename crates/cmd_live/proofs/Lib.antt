@@ -2,4 +2,4 @@ pub mod LawLemmas
 pub mod RefusalLemmas
 pub mod ToldLemmas
 pub mod TwiceLemmas
-pub mod TogetherLemmas
+pub mod LivesLemmas

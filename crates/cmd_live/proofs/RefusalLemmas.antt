@@ -12,8 +12,8 @@ use Rattle.bench_setup.specs.declared.setups.Setup.{Setup}
 use Rattle.bench_spec.specs.Opening.{settings_of}
 use Rattle.bench_spec.specs.Taken.{Run, opened}
 use Rattle.bench_spec.specs.declared.opening.OpeningError.{OpeningError}
-use Rattle.cmd_live.specs.Nodes.{is_wanted, nodes_of}
-use Rattle.cmd_live.specs.Refusals.{HasOpened, IsNotOpened, IsRefusal, IsRefusedIfWanted, IsRefusedIn, IsRefusedNode, IsTwice}
+use Rattle.cmd_live.specs.Nodes.{is_wanted, nodes_of, settings_at}
+use Rattle.cmd_live.specs.Refusals.{HasBadDesk, HasBadDeskIn, HasOpened, IsNotOpened, IsRefusal, IsRefusedIfWanted, IsRefusedIn, IsRefusedNode, IsTwice, IsUnready}
 use Rattle.cmd_live.specs.Stops.{IsStop}
 use Rattle.cmd_live.specs.declared.stop.Stop.{Stop}
 use Rattle.cmd_live.specs.declared.stop.Stop.TheVariants as stops
@@ -77,7 +77,15 @@ no_memory place setup = inr tt
 pub opened_by : {R : Type 0} (book : R → Laws) (rs rs_open : List R) (config : Config) (run : Run) → rs_open ≡ rs → run.settings.node.laws ≡ all_laws
     → run ≡ opened (settings_of (config_of config (map book rs_open))) → HasOpened config (map book rs) (Ok run)
 opened_by {R} book rs rs_open config run same laws is =
-    (laws, subst (λ (qs : List R). run.settings ≡ settings_of (config_of config (map book qs))) same (ap (λ (r : Run). r.settings) is))
+    (laws, subst (λ (qs : List R). run ≡ opened (settings_of (config_of config (map book qs)))) same is)
+
+-- a desk can't tell a text of the bench that was just opened
+pub unready_err : {T : Type 0} (place : ℕ) (node : NodeConfig) (bench : Config) (run : Run) (r : Result T Refused) → run ≡ opened (settings_at bench)
+    → IfErr r (HasBadDeskIn place node run) → IfErr r (IsUnready place node bench)
+unready_err place node bench run (Ok x) same bad = tt
+unready_err place node bench run (Err (Told text)) same bad = inr (subst (λ (q : Run). HasBadDesk place node q (Told text)) same bad)
+unready_err place node bench run (Err (Failed text)) same bad = absurd bad
+unready_err place node bench run (Err NoMemory) same bad = tt
 
 -- two nodes would have one log
 twice_refusal : (host log : Option (List ℕ)) (setups : List Setup) (nodes : List NodeConfig) (why : Refused) → nodes ≡ nodes_of host setups

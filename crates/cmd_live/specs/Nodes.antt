@@ -10,6 +10,7 @@ use Rattle.bench_spec.specs.Opening.{settings_of}
 use Rattle.bench_spec.specs.Settings.{Settings}
 use Rattle.role_tables.specs.Roles.{all_laws}
 use Rattle.config_text.specs.declared.node.NodeConfig.{NodeConfig}
+use Rattle.tab_law.specs.Books.{Laws}
 
 -- whether a node is to live: all are, or the one of a host
 abbrev pub is_wanted : Option (List ℕ) → Setup → Bool
@@ -24,17 +25,13 @@ wanted_node host setup = if is_wanted host setup then setup.node ∷ [] else []
 abbrev pub nodes_of : Option (List ℕ) → List Setup → List NodeConfig
 nodes_of host setups = flat_map (wanted_node host) setups
 
--- what a bench is opened with, by the laws of all roles, a registry for each shard
+-- the laws of the registries that a bench is opened with: those of all roles, for each shard
+abbrev pub laws_for : Config → List Laws
+laws_for config = replicate (min config.shards MAX_SHARDS) all_laws
+
+-- what it is opened with by these
 unfoldable pub settings_at : Config → Settings
-settings_at config = settings_of (config_of config (replicate (min config.shards MAX_SHARDS) all_laws))
-
--- that of a node, if it is to live
-abbrev pub wanted_settings : Option (List ℕ) → Setup → List Settings
-wanted_settings host setup = if is_wanted host setup then settings_at setup.bench ∷ [] else []
-
--- those of the nodes that are to live, in the same order
-abbrev pub benches_of : Option (List ℕ) → List Setup → List Settings
-benches_of host setups = flat_map (wanted_settings host) setups
+settings_at config = settings_of (config_of config (laws_for config))
 
 -- whether a node of that host is among nodes
 abbrev pub has_host : List ℕ → List NodeConfig → Bool

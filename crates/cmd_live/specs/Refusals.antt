@@ -8,9 +8,9 @@ use Rattle.bench_open.specs.declared.config.Config.{Config}
 use Rattle.bench_setup.specs.Opening.{opening_text_at, unbound_at}
 use Rattle.bench_setup.specs.declared.setups.Setup.{Setup}
 use Rattle.bench_spec.specs.Opening.{laws_of, settings_of}
-use Rattle.bench_spec.specs.Taken.{Run}
+use Rattle.bench_spec.specs.Taken.{Run, opened}
 use Rattle.bench_spec.specs.declared.opening.OpeningError.{OpeningError}
-use Rattle.cmd_live.specs.Nodes.{first_twice, is_wanted, nodes_of}
+use Rattle.cmd_live.specs.Nodes.{first_twice, is_wanted, laws_for, nodes_of, settings_at}
 use Rattle.cmd_live.specs.declared.opening.Refused.{Refused}
 use Rattle.cmd_live.specs.declared.opening.Refused.TheVariants.{Failed, NoMemory, Told}
 use Rattle.config_text.specs.declared.node.DeskConfig.{DeskConfig}
@@ -77,19 +77,19 @@ pub record IsNotOpened (config : Config) (laws : List Laws) (text : List ℕ) : 
 -- a bench is opened as its configuration says, with the laws of all roles; or what stands in its way is told
 abbrev pub HasOpened : Config → List Laws → Result Run (Vec ℕ Global) → Type 0
 HasOpened config laws (Ok run) =
-    (run.settings.node.laws ≡ all_laws) × (run.settings ≡ settings_of (config_of config laws))
+    (run.settings.node.laws ≡ all_laws) × (run ≡ opened (settings_of (config_of config laws)))
 HasOpened config laws (Err text) = IsNotOpened config laws text.items
 
 -- the bench of a node is not opened
 abbrev pub IsUnopened : Config → Refused → Type 0
-IsUnopened config (Told text) = (laws : List Laws) × IsNotOpened config laws text.items
+IsUnopened config (Told text) = IsNotOpened config (laws_for config) text.items
 IsUnopened config (Failed text) = ⊥
 IsUnopened config NoMemory = Unit {0}
 
 -- the bench of a node is not opened, or a desk can't tell a text
 abbrev pub IsUnready : (place : ℕ) → NodeConfig → Config → Refused → Type 0
 IsUnready place node config (Told text) =
-    ((laws : List Laws) × IsNotOpened config laws text.items) ⊎ ((run : Run) × HasBadDesk place node run (Told text))
+    IsNotOpened config (laws_for config) text.items ⊎ HasBadDesk place node (opened (settings_at config)) (Told text)
 IsUnready place node config (Failed text) = ⊥
 IsUnready place node config NoMemory = Unit {0}
 

@@ -1,7 +1,8 @@
 //! The nodes of a CONFIG that are to live, opened, and where they listen.
-ghost use Rattle.std.specs.Prelude.{◌≡◌, ◌<◌, ◌≤◌, ◌+◌, ◌++◌, IfErr, IfOk, OnOk, length, map, option_map};
-ghost use Rattle.cmd_live.specs.Nodes.{benches_of, is_wanted, nodes_of, settings_at, wanted_node, wanted_settings};
-ghost use Rattle.live_turns.specs.Together.{opened_with};
+ghost use Rattle.std.specs.Prelude.{◌≡◌, ◌<◌, ◌≤◌, ◌+◌, ◌++◌, ◌∷◌, ◌&&◌, [], IfErr, IfOk, List, OnOk, length, nat_lt, not, option_map};
+ghost use Rattle.bench_setup.specs.declared.setups.Setup.{Setup};
+ghost use Rattle.cmd_live.specs.Lives.{AreLivings, IsCopyWhere, IsLivingOf, IsWatchWhere};
+ghost use Rattle.cmd_live.specs.Nodes.{is_wanted, nodes_of, wanted_node};
 ghost use Rattle.cmd_live.specs.Refusals.{IsRefusedIfWanted, IsRefusedIn, IsRefusedNode, IsRefusedOrNone};
 ghost use Rattle.cmd_live.specs.Refusals.{IsWithoutSockets, no_address_text, no_node_text, no_socket_text};
 
@@ -86,13 +87,26 @@ fn watch_of(
     node: &NodeConfig,
     live: &LiveNode,
     stats: bool,
-) -> Result<Option<Watch>, AllocError> {
+) -> Result<Option<Watch>, AllocError>
+    ensures { IfOk result (IsWatchWhere stats node.now live.now) }
+{
     if !stats {
         return Ok(None);
     }
     let host = node.identity.host.as_slice();
     let peers = node.peers.as_slice().len();
     Ok(Some(Watch::new(alloc, host, live.core(), peers)?))
+}
+
+/// A copy of what a bench is opened with, where its shards run in threads. Who looks each second looks at one log.
+fn copy_where(alloc: Global, bench: &Config, stats: bool) -> Result<Option<Config>, AllocError>
+    ensures { IfOk result (IsCopyWhere (nat_lt 1 bench.now.shards && not stats) bench.now) }
+{
+    if bench.shards > 1 && !stats {
+        copy_config(alloc, bench)
+    } else {
+        Ok(None)
+    }
 }
 
 /// Opens a node at its place in CONFIG, and its sockets.
@@ -106,17 +120,12 @@ fn living_of<R: Net>(
     seconds: u64,
     stats: bool,
 ) -> Result<Living, Refused>
-    ensures opened { IfOk result (λ living. opened_with living ≡ settings_at bench) }
+    ensures living { IfOk result (IsLivingOf seconds stats (record { node = node.now; bench = bench })) }
     ensures refused { IfErr result (IsRefusedNode place (record { node = node.now; bench = bench })) }
 {
     let dialled = addresses_of(rt, alloc, node.peers.as_slice())?;
     let shards = bench.shards;
-    // Who looks each second looks at one log.
-    let config = if shards > 1 && !stats {
-        copy_config(alloc, &bench)?
-    } else {
-        None
-    };
+    let config = copy_where(alloc, &bench, stats)?;
     let Opened { node: live, desks } = open(alloc, place, node, bench, &dialled)?;
     let watch = watch_of(alloc, node, &live, stats)?;
     Ok(Living {
@@ -160,9 +169,10 @@ fn add_wanted<R: Net>(
     ensures nodes { OnOk result (nodes.new.nodes.items
         ≡ nodes.old.nodes.items ++ wanted_node (option_map (λ host. host.now) words.entry.node) setup) }
     ensures few { OnOk result (length nodes.new.nodes.items ≤ length nodes.old.nodes.items + 1) }
-    ensures opened { OnOk result (map opened_with nodes.new.livings.items
-        ≡ map opened_with nodes.old.livings.items
-        ++ wanted_settings (option_map (λ host. host.now) words.entry.node) setup) }
+    ensures livings { OnOk result ((setups : List Setup)
+        → AreLivings (option_map (λ host. host.now) words.entry.node) seconds words.entry.stats setups nodes.old.livings.items
+        → AreLivings (option_map (λ host. host.now) words.entry.node) seconds words.entry.stats (setups ++ setup ∷ [])
+        nodes.new.livings.items) }
     ensures both { OnOk result (length nodes.old.livings.items ≡ length nodes.old.nodes.items
         → length nodes.new.livings.items ≡ length nodes.new.nodes.items) }
     ensures refused { IfErr result (IsRefusedIfWanted (option_map (λ host. host.now) words.entry.node) place setup) }
@@ -187,8 +197,8 @@ fn all_nodes<R: Net>(
     ensures nodes { IfOk result (λ nodes. nodes.nodes.items
         ≡ nodes_of (option_map (λ host. host.now) words.entry.node) setups.items) }
     ensures few { IfOk result (λ nodes. length nodes.nodes.items ≤ MAX_NODES) }
-    ensures opened { IfOk result (λ nodes. map opened_with nodes.livings.items
-        ≡ benches_of (option_map (λ host. host.now) words.entry.node) setups.items) }
+    ensures livings { IfOk result (λ nodes. AreLivings (option_map (λ host. host.now) words.entry.node) seconds
+        words.entry.stats setups.items nodes.livings.items) }
     ensures both { IfOk result (λ nodes. length nodes.livings.items ≡ length nodes.nodes.items) }
     ensures refused { IfErr result (IsRefusedIn (option_map (λ host. host.now) words.entry.node) setups.items) }
 {
@@ -217,8 +227,8 @@ pub(crate) fn nodes_of<R: Net>(
     ensures nodes { IfOk result (λ nodes. nodes.nodes.items
         ≡ nodes_of (option_map (λ host. host.now) words.entry.node) setups.items) }
     ensures few { IfOk result (λ nodes. length nodes.nodes.items ≤ MAX_NODES) }
-    ensures opened { IfOk result (λ nodes. map opened_with nodes.livings.items
-        ≡ benches_of (option_map (λ host. host.now) words.entry.node) setups.items) }
+    ensures livings { IfOk result (λ nodes. AreLivings (option_map (λ host. host.now) words.entry.node) seconds
+        words.entry.stats setups.items nodes.livings.items) }
     ensures both { IfOk result (λ nodes. length nodes.livings.items ≡ length nodes.nodes.items) }
     ensures some { IfOk result (λ nodes. 0 < length nodes.nodes.items) }
     ensures refused { IfErr result (IsRefusedOrNone (option_map (λ host. host.now) words.entry.node) setups.items) }

@@ -3,6 +3,8 @@
 
 ghost use Rattle.std.specs.Prelude.{◌≡◌, IfErr, IfOk};
 ghost use Rattle.std.specs.List.{AllByRecursion as Each};
+ghost use Rattle.bench_spec.specs.Taken.{opened};
+ghost use Rattle.cmd_live.specs.Lives.{AreDesksFrom, IsDeskOf};
 ghost use Rattle.cmd_live.specs.Nodes.{settings_at};
 ghost use Rattle.cmd_live.specs.Refusals.{HasBadDeskIn, HasOpened, IsBadDesk, IsUnopened, IsUnready};
 ghost use Rattle.cmd_live.specs.Refusals.{bad_text};
@@ -92,7 +94,8 @@ fn desk_of(
     config: &DeskConfig,
     turns: u64,
 ) -> Result<Desk, Refused>
-    ensures { IfErr result (IsBadDesk place number config.now core.now) }
+    ensures desk { IfOk result (IsDeskOf turns number config.now) }
+    ensures refused { IfErr result (IsBadDesk place number config.now core.now) }
 {
     let DeskConfig { lines, repeat } = config;
     let shown = number.min(u32::MAX as usize) as u32;
@@ -103,14 +106,15 @@ fn desk_of(
     }
 }
 
-/// The desks of a bench.
+/// The desks of a bench, in their order.
 fn desks_of(
     alloc: Global,
     core: &Core,
     place: usize,
     node: &NodeConfig,
 ) -> Result<Vec<Desk>, Refused>
-    ensures { IfErr result (HasBadDeskIn place node.now core.now) }
+    ensures desks { IfOk result (λ desks. AreDesksFrom node.now.turns 0 node.now.desks desks.items) }
+    ensures refused { IfErr result (HasBadDeskIn place node.now core.now) }
 {
     let mut desks = Vec::new(alloc);
     let configs = node.desks.as_slice();
@@ -148,7 +152,7 @@ impl WithCalls for Bench {
 #[tactic(auto, using(crate::proofs::LawLemmas::same_laws), unfolding(crate::specs::Nodes::settings_at))]
 fn core_of(alloc: Global, config: Config) -> Result<Core, Refused>
     ensures laws { IfOk result (λ core. core.settings.node.laws ≡ all_laws) }
-    ensures opened { IfOk result (λ core. core.settings ≡ settings_at config) }
+    ensures opened { IfOk result (λ core. core ≡ opened (settings_at config)) }
     ensures refused { IfErr result (IsUnopened config) }
 {
     let count = registry_count(config.shards);
@@ -175,7 +179,8 @@ fn node_of(
     dialled: &[Option<SocketAddr>],
 ) -> Result<Opened, Refused>
     requires { core.settings.node.laws ≡ all_laws }
-    ensures opened { IfOk result (λ opened. opened.node ≡ core) }
+    ensures bench { IfOk result (λ ready. ready.node ≡ core) }
+    ensures desks { IfOk result (λ ready. AreDesksFrom node.now.turns 0 node.now.desks ready.desks.items) }
     ensures refused { IfErr result (HasBadDeskIn place node.now core) }
 {
     let peers = addresses_of(alloc, &core, node.peers.as_slice(), dialled)?;
@@ -194,7 +199,8 @@ pub(crate) fn open(
     bench: Config,
     dialled: &[Option<SocketAddr>],
 ) -> Result<Opened, Refused>
-    ensures opened { IfOk result (λ opened. opened.node.settings ≡ settings_at bench) }
+    ensures bench { IfOk result (λ ready. ready.node ≡ opened (settings_at bench)) }
+    ensures desks { IfOk result (λ ready. AreDesksFrom node.now.turns 0 node.now.desks ready.desks.items) }
     ensures refused { IfErr result (IsUnready place node.now bench) }
 {
     let core = core_of(alloc, bench)?;

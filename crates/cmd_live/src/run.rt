@@ -1,12 +1,11 @@
 //! `live`, from what its words ask for to a status.
 ghost use Rattle.std.specs.Prelude.{◌≡◌, ◌<◌, ◌≤◌, ◌+◌, ◌-◌, ◌*◌, ◌^◌, IfErr, IfOk, None, Ok, OnOk, is_some, length, max};
-ghost use Rattle.std.specs.Prelude.{map, option_map};
-ghost use Rattle.cmd_live.specs.Met.{AreCopiedWhere, HaveLived, IsLiveMet};
-ghost use Rattle.cmd_live.specs.Nodes.{benches_of, nodes_of};
-ghost use Rattle.live_turns.specs.Together.{AreTogether, opened_with};
+ghost use Rattle.std.specs.Prelude.{option_map};
+ghost use Rattle.cmd_live.specs.Met.{AreCopiedWhere, HaveEnded, HaveLived, IsLiveMet};
+ghost use Rattle.live_turns.specs.Together.{AreTogether};
 ghost use Rattle.cmd_live.specs.Refusals.{IsNoFolder, no_folder_text};
 ghost use Rattle.cmd_live.specs.Stops.{IsStop};
-ghost use Rattle.cmd_live.specs.Told.{AreTold, seconds_of};
+ghost use Rattle.cmd_live.specs.Told.{seconds_of};
 ghost use Rattle.live_report.specs.Copies.{IsCopyError};
 
 use crate::nodes::{Nodes, nodes_of};
@@ -89,8 +88,9 @@ fn live_all<F: Fn(Vec<Living>) -> Result<Vec<Option<Lived>>, AllocError>, W: Fil
     requires both { length nodes.livings.items ≡ length nodes.nodes.items }
     requires together { (livings : _) (lived : _) → F.post together.now livings (Ok lived)
         → AreTogether livings.items lived.items }
-    ensures { IfOk result (λ told. AreTold is_logged (W.files files.old) (W.failed files.old) nodes.nodes.items
-        (map opened_with nodes.livings.items) told.text.items told.status (W.files files.new) (W.failed files.new)) }
+    ensures { IfOk result (λ told. HaveEnded (λ livings lived. F.post together.now livings (Ok lived)) is_logged
+        nodes.nodes.items nodes.livings (W.files files.old) (W.failed files.old) told.text.items told.status
+        (W.files files.new) (W.failed files.new)) }
 {
     let Nodes { nodes, livings } = nodes;
     let lived = together(livings)?;
@@ -132,8 +132,9 @@ fn live_setups<
     requires failures { I.failures source.old < 2 ^ 64 - 1 }
     ensures reads { I.reads source.new ≤ I.reads source.old + 256 * MAX_READS }
     ensures lived { IfOk result (λ told. HaveLived I.remaining I.reads I.failures W.files W.failed
-        (is_some (option_map (λ folder. folder.now) words.entry.log)) (nodes_of (option_map (λ host. host.now) words.entry.node) setups.items)
-        (benches_of (option_map (λ host. host.now) words.entry.node) setups.items) source.old source.new files.old files.new told.text.items told.status) }
+        (λ livings lived. F.post together.now livings (Ok lived)) (option_map (λ host. host.now) words.entry.node) seconds
+        (is_some (option_map (λ folder. folder.now) words.entry.log)) words.entry.stats setups.items source.old source.new
+        files.old files.new told.text.items told.status) }
     ensures stopped { IfErr result (IsStop I.remaining I.reads I.failures
         (option_map (λ host. host.now) words.entry.node) (option_map (λ folder. folder.now) words.entry.log)
         setups.items source.old source.new (W.failed files.new)) }
@@ -173,11 +174,12 @@ pub fn live<
     ensures row { O.most_idle sink.new ≤ max (O.most_idle sink.old) MAX_IDLE_WRITES }
 
     // Seconds that are no number are told before anything is read; then what is wrong with an input; then what stands
-    // in the way of nodes; else each node is told of that is to live, and where logs are wanted, its files are written,
-    // or it is told that they are not.
+    // in the way of nodes; else those that are to live were handed to `together`, each as it was read, and are told of
+    // as it answered, and where logs are wanted, the files of each are written, or it is told that they are not.
     ensures as_asked { IsLiveMet I.remaining I.reads I.failures O.contents O.failures O.idle W.files W.failed
+        (λ livings lived. F.post together.now livings (Ok lived))
         (option_map (λ host. host.now) words.entry.node) (option_map (λ text. text.now) words.entry.seconds)
-        (option_map (λ folder. folder.now) words.entry.log) source.old source.new sink.old sink.new
+        (option_map (λ folder. folder.now) words.entry.log) words.entry.stats source.old source.new sink.old sink.new
         files.old files.new result }
 
     // Words are refused only where the seconds are no number, and then nothing is read.

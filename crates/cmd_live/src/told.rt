@@ -1,7 +1,5 @@
 //! What is told of all nodes that lived, and their files.
-ghost use Rattle.std.specs.Prelude.{◌≡◌, ◌++◌, IfOk, IfSome, List, OnOk, Some, length, slice_get};
-ghost use Rattle.bench_spec.specs.Settings.{Settings};
-ghost use Rattle.cmd_live.specs.Together.{AreOf};
+ghost use Rattle.std.specs.Prelude.{◌≡◌, ◌++◌, IfOk, IfSome, OnOk, Some, length, slice_get};
 ghost use Rattle.cmd_live.specs.Told.{AreTold, AreWrittenWhere, TellsOf, disagreed, failed, worse};
 ghost use Rattle.live_report.specs.Reports.{node_text};
 
@@ -98,7 +96,7 @@ fn tell_node<W: FileSink>(
     lived: &Lived,
     files: &mut W,
 ) -> Result<(), AllocError>
-    ensures { OnOk result (TellsOf is_logged node.now lived.now.core.settings told.old.text.items told.new.text.items
+    ensures { OnOk result (TellsOf is_logged node.now lived.now told.old.text.items told.new.text.items
         told.old.status told.new.status (W.files files.old) (W.files files.new)
         (W.failed files.old) (W.failed files.new)) }
 {
@@ -118,8 +116,7 @@ fn lived_at(lived: &[Option<Lived>], place: usize) -> Option<&Lived>
     }
 }
 
-/// Tells of all nodes, in their order, and writes the files of each where that is wanted. Where the worlds are those of
-/// benches, those are told.
+/// Tells of all nodes, in their order, each as it came out, and writes the files of each where that is wanted.
 pub(crate) fn tell_all<W: FileSink>(
     alloc: Global,
     is_logged: bool,
@@ -127,8 +124,8 @@ pub(crate) fn tell_all<W: FileSink>(
     lived: &[Option<Lived>],
     files: &mut W,
 ) -> Result<Ended, AllocError>
-    ensures { IfOk result (λ told. (opened : List Settings) → length opened ≡ length nodes.now → AreOf opened lived.now
-        → AreTold is_logged (W.files files.old) (W.failed files.old) nodes.now opened
+    requires { length lived.now ≡ length nodes.now }
+    ensures { IfOk result (λ told. AreTold is_logged (W.files files.old) (W.failed files.old) nodes.now lived.now
         told.text.items told.status (W.files files.new) (W.failed files.new)) }
 {
     let mut told = Ended {

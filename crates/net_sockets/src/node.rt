@@ -1,5 +1,5 @@
 //! Who answers for the connections behind the sockets.
-ghost use Rattle.std.specs.Prelude.{◌≡◌, ◌<◌, ◌≤◌, ◌+◌, ◌^◌, ℕ, List, Option, length, OnOk, OnErr, IfErr};
+ghost use Rattle.std.specs.Prelude.{◌≡◌, ◌<◌, ◌≤◌, ◌+◌, ◌^◌, ℕ, List, None, Option, length, OnOk, OnErr, IfErr, IfSome};
 ghost use Rattle.bench_net.specs.Events.{Event, Came, Lost};
 ghost use Rattle.bench_net.specs.Texts.{Copies, Grows};
 ghost use Rattle.bench_net.specs.declared.refusal.Refusal.{Refusal};
@@ -22,6 +22,18 @@ pub trait Node {
     /// When it refuses a piece or the loss of a line, and why.
     ghost refuses: { Self → ℕ → Event → Refusal → Type 0 };
 
+    /// What it is once it has accepted a connection, by the number of its line.
+    ghost joins: { Self → ℕ → Self → Type 0 };
+
+    /// What it is once it has told that a line is to be dialled.
+    ghost dials: { Self → ℕ → Self → Type 0 };
+
+    /// What it is once it has taken that the dial of a line was acknowledged.
+    ghost opens: { Self → ℕ → Self → Type 0 };
+
+    /// When it refuses that, and why.
+    ghost refuses_opening: { Self → ℕ → Refusal → Type 0 };
+
     /// All that a line sent, where that is known.
     ghost sent: { Self → ℕ → Option (List ℕ) };
 
@@ -33,15 +45,21 @@ pub trait Node {
 
     /// A connection was accepted. Answers its line's number; none where it isn't wanted.
     fn joined(&mut self) -> Option<u64>
-        ensures { moves self.old self.new };
+        ensures taken { IfSome result (λ line. joins self.old line self.new) }
+        ensures none { result ≡ None → self.new ≡ self.old }
+        ensures moved { moves self.old self.new };
 
     /// The dial that is to be made next, if one is. It is told once.
     fn next_dial(&mut self) -> Option<Dial>
-        ensures { moves self.old self.new };
+        ensures told { IfSome result (λ dial. dials self.old dial.line self.new) }
+        ensures moved { moves self.old self.new };
 
     /// The dial of a line was acknowledged.
     fn dialled(&mut self, line: u64) -> Result<(), Refusal>
-        ensures { moves self.old self.new };
+        ensures taken { OnOk result (opens self.old line self.new) }
+        ensures refused { IfErr result (λ why. refuses_opening self.old line why) }
+        ensures err { OnErr result (self.new ≡ self.old) }
+        ensures moved { moves self.old self.new };
 
     /// Whether a line is closed: once all that it sent is out, its socket closes.
     fn is_closed(&self, line: u64) -> bool;

@@ -1,5 +1,5 @@
 -- What happens on a connection is a step of the bench, or refused as that step is.
-use Rattle.std.specs.Prelude.{◌≡◌, ◌^◌, ℕ, Bool, List, [], Option, Some, if◌then◌else◌, nat_lt}
+use Rattle.std.specs.Prelude.{◌≡◌, ◌^◌, ℕ, Bool, List, [], Option, Some, if◌then◌else◌, length, nat_lt}
 use Rattle.bench_item.specs.declared.step.Step.{Step}
 use Rattle.bench_item.specs.declared.step.Step.TheVariants as steps
 use Rattle.bench_item.specs.declared.step.StepFault.{StepFault}
@@ -7,6 +7,7 @@ use Rattle.bench_item.specs.declared.step.StepFault.TheVariants as faults
 use Rattle.bench_net.specs.Events.{Event, Came, Lost}
 use Rattle.bench_net.specs.declared.refusal.Refusal.{Refusal}
 use Rattle.bench_net.specs.declared.refusal.Refusal.TheVariants.{Unknown, Closed, Full, NoMemory}
+use Rattle.bench_spec.specs.Lines.{openings}
 use Rattle.bench_spec.specs.Taken.{Run, Takes, fault_of, shown}
 
 -- the step of what happens on a line
@@ -34,6 +35,14 @@ is_number line = nat_lt line (2 ^ 32)
 -- why nothing is taken: the first reason of the step, and want of memory only where there is none
 abbrev pub refusal_on : Run → ℕ → Event → Refusal
 refusal_on run line event = if is_number line then refusal_of (fault_of run (step_on line event)) else Unknown
+
+-- a connection is accepted, and its line is the last
+abbrev pub JoinsAs : Run → (line : ℕ) → Run → Type 0
+JoinsAs old line new = Takes old new steps.Joined × (line ≡ length (openings new.log))
+
+-- why it is not taken that the dial of a line was acknowledged
+abbrev pub opening_refusal : Run → ℕ → Refusal
+opening_refusal run line = if is_number line then refusal_of (fault_of run (steps.Dialled line)) else Unknown
 
 -- what a line refuses, and why
 abbrev pub RefusesOn : Run → ℕ → Event → Refusal → Type 0

@@ -3,8 +3,10 @@
 
 ghost use Rattle.std.specs.Prelude.{◌≡◌, IfErr, IfOk, false, true};
 ghost use Rattle.bench_net.specs.declared.refusal.Refusal.TheVariants.{Unknown};
-ghost use Rattle.bench_node.specs.Going.{Goes};
-ghost use Rattle.node_port.specs.Happened.{RefusesOn, TakesOn, is_number, refusal_of, sent_on};
+ghost use Rattle.bench_item.specs.declared.step.Step.TheVariants as steps;
+ghost use Rattle.bench_node.specs.Going.{Goes, is_dialling};
+ghost use Rattle.bench_spec.specs.Taken.{Takes, shown};
+ghost use Rattle.node_port.specs.Happened.{JoinsAs, RefusesOn, TakesOn, is_number, opening_refusal, refusal_of, sent_on};
 
 use bench_item::StepFault;
 use bench_net::Refusal;
@@ -56,18 +58,18 @@ pub fn number_of(line: u64) -> Result<u32, Refusal>
     }
 }
 
-/// An answer as the sockets take it.
-fn answer_of(answer: Result<(), StepFault>) -> Result<(), Refusal> {
-    match answer {
-        Ok(()) => Ok(()),
-        Err(fault) => Err(refusal_of(fault)),
-    }
-}
-
 impl Node for NodePort {
     ghost takes = { λ s line event t. TakesOn s.node line event t.node };
 
     ghost refuses = { λ s line event why. RefusesOn s.node line event why };
+
+    ghost joins = { λ s line t. JoinsAs s.node line t.node };
+
+    ghost dials = { λ _ line t. is_dialling ((shown t.node).line_of line) ≡ true };
+
+    ghost opens = { λ s line t. Takes s.node t.node (steps.Dialled line) };
+
+    ghost refuses_opening = { λ s line why. why ≡ opening_refusal s.node line };
 
     ghost sent = { λ s line. sent_on s.node line };
 
@@ -88,7 +90,13 @@ impl Node for NodePort {
     }
 
     fn dialled(&mut self, line: u64) -> Result<(), Refusal> {
-        answer_of(self.node.dialled(number_of(line)?))
+        match number_of(line) {
+            Ok(number) => match self.node.dialled(number) {
+                Ok(()) => Ok(()),
+                Err(fault) => Err(refusal_of(fault)),
+            },
+            Err(why) => Err(why),
+        }
     }
 
     fn is_closed(&self, line: u64) -> bool {

@@ -70,6 +70,14 @@ impl Node for Flow {
 
     ghost refuses = { λ _ _ _ _. Unit {0} };
 
+    ghost joins = { λ _ _ _. Unit {0} };
+
+    ghost dials = { λ _ _ _. Unit {0} };
+
+    ghost opens = { λ _ _ _. Unit {0} };
+
+    ghost refuses_opening = { λ _ _ _. Unit {0} };
+
     ghost sent = { λ _ _. None };
 
     ghost moves = { λ _ _. Unit {0} };

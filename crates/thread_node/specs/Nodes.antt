@@ -1,7 +1,8 @@
 -- A node whose shards run in threads, as a contract sees it, and what becomes of it.
-use Rattle.std.specs.Prelude.{◌≡◌, ◌≤◌, ◌+◌, ◌-◌, ◌==◌, ◌++◌, ◌∷◌, ℕ, Bool, false, true, List, [], Option, None, Some}
+use Rattle.std.specs.Prelude.{◌≡◌, ◌<◌, ◌≤◌, ◌+◌, ◌-◌, ◌==◌, ◌++◌, ◌∷◌, ℕ, Bool, false, true, List, [], Option, None, Some}
 use Rattle.std.specs.Prelude.{if◌then◌else◌, length, nat_lt, slice_index_or, sum_by}
 use Rattle.std.specs.List.{list_all}
+use Rattle.bench_item.specs.declared.limit.TheConstants.{MAX_LINES}
 use Rattle.bench_item.specs.declared.source.Source.TheVariants as sources
 use Rattle.bench_item.specs.declared.step.Step.{Step}
 use Rattle.bench_item.specs.declared.step.Step.TheVariants as steps
@@ -68,10 +69,16 @@ pub record Moves (old new : NodeView) : Type 0 where
 abbrev pub TakesOn : NodeView → ℕ → Event → NodeView → Type 0
 TakesOn old line event new = (is_number line ≡ true) × Feeds old (step_on line event) new
 
+-- a connection is accepted, and its line has one of the numbers
+abbrev pub JoinsAs : NodeView → (line : ℕ) → NodeView → Type 0
+JoinsAs old line new = Feeds old steps.Joined new × (0 < line) × (line ≤ MAX_LINES)
+
 -- a connection without a number, and one of a node that is not started, is Unknown
+abbrev pub RefusesLine : NodeView → ℕ → Refusal → Type 0
+RefusesLine node line why = (is_number line ≡ false → why ≡ Unknown) × (node.started ≡ false → why ≡ Unknown)
+
 abbrev pub RefusesOn : NodeView → ℕ → Event → Refusal → Type 0
-RefusesOn node line event why =
-    (is_number line ≡ false → why ≡ Unknown) × (node.started ≡ false → why ≡ Unknown)
+RefusesOn node line event why = RefusesLine node line why
 
 -- desks passed texts, items of connections were carried, and more was drawn of what they sent: nothing else was fed
 pub record Goes (old new : NodeView) : Type 0 where

@@ -1,5 +1,6 @@
 //! A step is fed to the bench of a node.
-ghost use Rattle.std.specs.Prelude.{◌≡◌, Err, OnErr, OnOk, false};
+ghost use Rattle.std.specs.Prelude.{◌≡◌, ◌<◌, ◌≤◌, Err, IfOk, OnErr, OnOk, false};
+ghost use Rattle.bench_item.specs.declared.limit.TheConstants.{MAX_LINES};
 ghost use Rattle.bench_item.specs.declared.step.Step.TheVariants.{Joined};
 ghost use Rattle.thread_node.specs.Nodes.{Feeds};
 
@@ -24,6 +25,7 @@ impl<R: Copy, B: InThreads<R>> ThreadNode<R, B> {
     /// A connection is accepted by its bench, if it is started. Answers its number.
     pub(crate) fn join(&mut self) -> Result<u64, StepFault>
         ensures ok { OnOk result (Feeds self.old Joined self.new) }
+        ensures number { IfOk result (λ line. (0 < line) × (line ≤ MAX_LINES)) }
         ensures none { self.old.started ≡ false → result ≡ Err StepFault.Unknown }
         ensures err { OnErr result (self.new ≡ self.old) }
     {

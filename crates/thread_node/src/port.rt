@@ -4,7 +4,8 @@
 ghost use Rattle.std.specs.Prelude.{◌≡◌, ◌^◌, IfErr, IfOk, OnErr, OnOk, false, true};
 ghost use Rattle.bench_net.specs.declared.refusal.Refusal.TheVariants.{Unknown};
 ghost use Rattle.node_port.specs.Happened.{is_number, refusal_of};
-ghost use Rattle.thread_node.specs.Nodes.{Feeds, Moves, RefusesOn, TakesOn, sent_on};
+ghost use Rattle.bench_item.specs.declared.step.Step.TheVariants as steps;
+ghost use Rattle.thread_node.specs.Nodes.{Feeds, JoinsAs, Moves, RefusesLine, RefusesOn, TakesOn, sent_on};
 
 use crate::node::ThreadNode;
 use crate::texts::copy_from;
@@ -62,6 +63,14 @@ impl<R: Copy, B: InThreads<R>> Node for ThreadNode<R, B> {
     ghost takes = { λ s line event t. TakesOn s line event t };
 
     ghost refuses = { λ s line event why. RefusesOn s line event why };
+
+    ghost joins = { λ s line t. JoinsAs s line t };
+
+    ghost dials = { λ s line t. Moves s t };
+
+    ghost opens = { λ s line t. (is_number line ≡ true) × Feeds s (steps.Dialled line) t };
+
+    ghost refuses_opening = { λ s line why. RefusesLine s line why };
 
     ghost sent = { λ s line. sent_on s line };
 

@@ -1,24 +1,24 @@
-use Rattle.std.proofs.Common.{◌∙◌, ap, map, sym}
+use Rattle.std.proofs.Common.{◌∙◌, ◌++◌, ◌∷◌, [], subst, sym}
 use Rattle.std.proofs.lemmas.Result.{err_from_is_err_and}
 use Rattle.std.specs.Prelude.{option_map}
-use Rattle.live_turns.specs.Together.{opened_with}
+use Rattle.cmd_live.specs.Lives.{AreLivings, another}
+use Rattle.cmd_live.proofs.LivesLemmas.{wanted_more}
 use Rattle.cmd_live.proofs.RefusalLemmas.{wanted_err}
-use Rattle.cmd_live.proofs.TogetherLemmas.{unwanted, wanted_more}
 use Rattle.cmd_live.proofs.nodes.add_wanted.Goals.{else-is_wanted, then-is_wanted+in_ok-living_of+in_ok-push+in_ok-push-2}
 use Rattle.cmd_live.proofs.nodes.add_wanted.Goals as goal
 
 -- it is one more, if it is to live
-pub returns-clause-opened : goal.returns-clause-opened
-returns-clause-opened g c =
+pub returns-clause-livings : goal.returns-clause-livings
+returns-clause-livings g c =
     let host = option_map (λ host. host.now) c.args.words.node in
-    elim c.if-is_wanted.branch [
+    λ setups are. elim c.if-is_wanted.branch [
       | then-is_wanted+in_ok-living_of+in_ok-push+in_ok-push-2 w ↦
-          ap (λ nodes. map opened_with nodes.livings.items) w.nodes-is
-          ∙ wanted_more host c.args.setup c.args.nodes.now.livings.items _ w.in_ok-living_of.field-0 (sym c.is_wanted.ensures ∙ w.if-is_wanted.true)
-          w.in_ok-push.ensures.items w.in_ok-living_of.ensures.opened
+          subst (λ nodes. AreLivings host c.args.seconds c.args.words.stats (setups ++ c.args.setup ∷ []) nodes.livings.items) (sym w.nodes-is)
+          (wanted_more host c.args.seconds c.args.words.stats setups c.args.setup c.args.nodes.now.livings.items _ w.in_ok-living_of.field-0
+          w.in_ok-push.ensures.items (sym c.is_wanted.ensures ∙ w.if-is_wanted.true) w.in_ok-living_of.ensures.living are)
       | else-is_wanted w ↦
-          ap (λ nodes. map opened_with nodes.livings.items) w.nodes-is
-          ∙ unwanted host c.args.setup c.args.nodes.now.livings.items (sym c.is_wanted.ensures ∙ w.if-is_wanted.false)
+          subst (λ nodes. AreLivings host c.args.seconds c.args.words.stats (setups ++ c.args.setup ∷ []) nodes.livings.items) (sym w.nodes-is)
+          (another setups c.args.setup c.args.nodes.now.livings.items are (sym c.is_wanted.ensures ∙ w.if-is_wanted.false))
     ]
 
 -- a node that is to live is refused

@@ -1,7 +1,7 @@
-use Rattle.std.proofs.Common.{◌≡◌, ◌≤◌, ◌+◌, ◌++◌, drop, length, map}
+use Rattle.std.proofs.Common.{◌≡◌, ◌≤◌, ◌+◌, ◌++◌, drop, length, take}
 use Rattle.std.specs.Prelude.{option_map}
-use Rattle.cmd_live.specs.Nodes.{benches_of, nodes_of}
-use Rattle.live_turns.specs.Together.{opened_with}
+use Rattle.cmd_live.specs.Lives.{AreLivings}
+use Rattle.cmd_live.specs.Nodes.{nodes_of}
 use Rattle.cmd_live.proofs.nodes.all_nodes.Given as goal
 
 -- the nodes so far that are to live, and those that are left
@@ -12,8 +12,8 @@ invariant-setups g l = record {
   left : drop l.place l.initial.left.rest.items ≡ l.left.rest.items;
   all : l.place + length l.left.rest.items ≡ length l.initial.left.rest.items;
   count : length l.nodes.nodes.items ≤ l.place;
-  opened : map opened_with l.nodes.livings.items ++ benches_of (option_map (λ host. host.now) l.words.node) l.left.rest.items
-      ≡ benches_of (option_map (λ host. host.now) l.words.node) l.initial.left.rest.items;
+  livings : AreLivings (option_map (λ host. host.now) l.words.node) l.seconds l.words.stats
+      (take l.place l.initial.left.rest.items) l.nodes.livings.items;
   both : length l.nodes.livings.items ≡ length l.nodes.nodes.items;
 }
 

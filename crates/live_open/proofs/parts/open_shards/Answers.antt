@@ -18,3 +18,7 @@ loop-number-preserved c =
     (c.new-in-loop-number.ensures ∙ ap (λ (t : Tables). with_nothing t c.in_ok-shard.shard) c.in_ok-try_clone.ensures
     ∙ ap (with_nothing tables) (c.in_ok-shard.ensures.opened ∙ ap (opened c.loop-number.number) c.in_ok-own.ensures))
     c.in_ok-push.ensures.items
+
+-- its machines are those of its peers, whatever the laws
+pub new-requires-in-loop-number-clause-machines : goal.new-requires-in-loop-number-clause-machines
+new-requires-in-loop-number-clause-machines c = c.in_ok-shard.ensures.machines (arc_value c.in_ok-try_clone.field-0).laws

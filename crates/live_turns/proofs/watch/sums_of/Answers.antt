@@ -1,4 +1,4 @@
-use Rattle.std.proofs.Common.{◌≡◌, ◌∙◌, ℕ, List, ap}
+use Rattle.std.proofs.Common.{◌∙◌, List, ap}
 use Rattle.std.specs.Prelude.{sum_by}
 use Rattle.acct_book.specs.Book.{Opened}
 use Rattle.live_turns.specs.Watched.{debited_at, reserved_at, sums_of}

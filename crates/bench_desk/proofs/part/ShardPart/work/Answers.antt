@@ -9,7 +9,7 @@ pub invariant_of-self : goal.invariant_of-self
 invariant_of-self g c =
     let i = c.self.inside in
     tied-either (arc_value i.roles) c.deref.result.now i.sources.items c.args.stamp i.shard c.do_task.new.shard c.args.page.now c.do_task.new.page
-    i.log.entries c.do_task.new.log.entries i.stamps.items c.do_task.new.stamps.items c.do_task.result c.self.invariant
+    i.log.entries c.do_task.new.log.entries i.stamps.items c.do_task.new.stamps.items c.do_task.result c.deref.ensures c.self.invariant
     c.do_task.ensures.ok c.do_task.ensures.err
 
 pub returns-clause-ok : goal.returns-clause-ok

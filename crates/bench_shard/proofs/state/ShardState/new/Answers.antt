@@ -1,6 +1,6 @@
 use Rattle.std.proofs.Common.{◌∙◌, sym, ap, subst, length, rules, []}
 use Rattle.sess_dir.specs.Names.{NoNameTwice}
-use Rattle.bench_shard.proofs.NewLemmas.{new-stands}
+use Rattle.bench_shard.proofs.NewLemmas.{new-machines, new-stands}
 use Rattle.bench_shard.proofs.OpenLemmas.{length-starts}
 use Rattle.bench_shard.specs.Stands.{Stands}
 use Rattle.bench_shard.specs.View.{peer_names}
@@ -19,3 +19,8 @@ pub returns-clause-stands : goal.returns-clause-stands
 returns-clause-stands c settings is =
     let once : NoNameTwice (peer_names c.args.peers.shards c.args.number c.args.peers.hosts) = subst NoNameTwice c.in_ok-add_peers.ensures.names c.len-count.ensures.once in
     subst (Stands settings []) (sym (returns-clause-opened c)) (new-stands settings c.args.number c.args.peers c.requires once is)
+
+pub returns-clause-machines : goal.returns-clause-machines
+returns-clause-machines c laws =
+    let once : NoNameTwice (peer_names c.args.peers.shards c.args.number c.args.peers.hosts) = subst NoNameTwice c.in_ok-add_peers.ensures.names c.len-count.ensures.once in
+    new-machines laws c.args.number c.args.peers _ once (returns-clause-opened c)

@@ -5,4 +5,5 @@ use Rattle.test_live_tcp.proofs.loopback.fn.a_session_is_charged_over_loopback.t
 -- each is a world of its bench
 pub returns : goal.returns
 returns g c =
-    ok_together (λ v. v.items) _ _ c.args.livings.items c.map_vec.result (λ living r says. search rules) c.map_vec.ensures.each
+    ok_together _ _ c.args.livings c.map_vec.result (λ living r says. search rules) c.map_vec.ensures.len
+    c.map_vec.ensures.each
