@@ -35,7 +35,8 @@ abbrev pub node_in : PartView → Node
 node_in v = node_of v.tables.laws v.shard.peers
 
 -- a shard is what its part of the log says: what came and how much of it was worked; its machines, each where its last
--- move left it, and of each the moves are a run of its role's table; and what is kept beside it, who put each item there
+-- move left it, and of each the moves are a run of its role's table; and what is kept beside it: who put each item
+-- there
 pub record IsKept (tables : Tables) (v : ShardView) (sources : List Source) (log : List Entry) : Type 0 where
   pub inbox : v.inbox
       ≡ record { items = arrived (node_of tables.laws v.peers) log v.number; worked = length (worked log v.number) }

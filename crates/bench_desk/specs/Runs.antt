@@ -21,4 +21,5 @@ IsRun laws table state (moved ∷ moves) =
 -- of every machine the moves are a run of its role's table, from its start
 abbrev pub AreRuns : Tables → Configured → List Entry → Type 0
 AreRuns tables peers log = (key : Key) →
-    IsRun tables.laws (table_of tables key.role) (start (number_for (node_of tables.laws peers) log key)) (moves_of log key)
+    IsRun tables.laws (table_of tables key.role) (start (number_for (node_of tables.laws peers) log key))
+    (moves_of log key)

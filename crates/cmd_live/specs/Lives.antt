@@ -1,5 +1,6 @@
 -- How nodes are to live, each as it was read.
-use Rattle.std.specs.Prelude.{◌≡◌, ◌++◌, ◌∷◌, ◌+◌, ◌-◌, ◌^◌, ◌&&◌, ℕ, Bool, false, true, not, List, [], Option, None, Some}
+use Rattle.std.specs.Prelude.{◌≡◌, ◌++◌, ◌∷◌, ◌+◌, ◌-◌, ◌^◌, ◌&&◌, ℕ, Bool, false, true}
+use Rattle.std.specs.Prelude.{not, List, [], Option, None, Some}
 use Rattle.std.specs.Prelude.{codes, length, map, min, nat_lt}
 use Rattle.bench_copy.specs.Copied.{IsCopied, IsUncopied}
 use Rattle.bench_item.specs.declared.key.Role.TheVariants.{Peer}

@@ -1,5 +1,6 @@
 -- What `live` does: nodes live and are told of, or something stands in the way before.
-use Rattle.std.specs.Prelude.{◌≡◌, ◌<◌, ◌⊎◌, ℕ, Bool, false, true, List, Option, None, Some, Vec, codes, is_some, length}
+use Rattle.std.specs.Prelude.{◌≡◌, ◌<◌, ◌⊎◌, ℕ, Bool, false, true, List, Option, None}
+use Rattle.std.specs.Prelude.{Some, Vec, codes, is_some, length}
 use Rattle.std.specs.Global.{Global}
 use Rattle.base_device.specs.Devices.{Tells}
 use Rattle.base_device.specs.declared.status.Status.{Status}
@@ -82,7 +83,8 @@ pub record HaveLived
   pub livings : Vec Living Global
   pub as_read : AreLivings host seconds is_watched setups livings.items
   pub with_copies : Option (List File)
-  pub copied : AreCopiedWhere remaining reads failures is_logged (nodes_of host setups) old new (written files) with_copies
+  pub copied : AreCopiedWhere remaining reads failures is_logged (nodes_of host setups) old new (written files)
+      with_copies
   pub ended : HaveEnded lives is_logged (nodes_of host setups) livings with_copies (failed files) text status
       (written files') (failed files')
 
@@ -91,7 +93,8 @@ pub record HasLived
     {I O F : Type 0} (remaining : I → Option (List ℕ)) (reads failures : I → ℕ) (contents : O → Option (List ℕ))
     (write_failures idle : O → ℕ) (written : F → Option (List File)) (failed : F → Option (List ℕ))
     (lives : Vec Living Global → Vec (Option Lived) Global → Type 0) (host seconds : Option (List ℕ))
-    (is_logged is_watched : Bool) (source source' : I) (sink sink' : O) (files files' : F) (answer : Status) : Type 0 where
+    (is_logged is_watched : Bool) (source source' : I) (sink sink' : O) (files files' : F) (answer : Status)
+    : Type 0 where
   pub count : ℕ
   pub counted : seconds_of seconds ≡ Some count
   pub setups : List Setup

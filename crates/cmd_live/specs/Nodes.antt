@@ -1,5 +1,6 @@
 -- Which nodes of a CONFIG are to live, and with what their benches are opened.
-use Rattle.std.specs.Prelude.{◌≡◌, ◌∷◌, ℕ, Bool, false, true, List, [], Option, None, Some, flat_map, min, replicate, if◌then◌else◌}
+use Rattle.std.specs.Prelude.{◌≡◌, ◌∷◌, ℕ, Bool, false, true, List, [], Option, None}
+use Rattle.std.specs.Prelude.{Some, flat_map, min, replicate, if◌then◌else◌}
 use Rattle.std.specs.List.{list_any}
 use Rattle.bench_item.specs.Peers.{is_same_host}
 use Rattle.bench_item.specs.declared.limit.TheConstants.{MAX_SHARDS}

@@ -1,5 +1,6 @@
 -- Why a node does not live, as it is told.
-use Rattle.std.specs.Prelude.{◌≡◌, ◌⊎◌, ◌++◌, ◌-◌, ◌^◌, ℕ, min, true, List, [], Option, None, Some, codes, decimal, slice_get}
+use Rattle.std.specs.Prelude.{◌≡◌, ◌⊎◌, ◌++◌, ◌-◌, ◌^◌, ℕ, min, true, List, []}
+use Rattle.std.specs.Prelude.{Option, None, Some, codes, decimal, slice_get}
 use Rattle.std.specs.Prelude.{Err, Ok, Result, Vec, is_some}
 use Rattle.std.specs.Global.{Global}
 use Rattle.bench_open.specs.Faults.{IsOpeningError}

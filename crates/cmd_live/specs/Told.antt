@@ -52,11 +52,12 @@ pub record TellsOf (is_logged : Bool) (node : NodeConfig) (lived : Lived) (old n
 
 -- nodes are told of, one behind the other, each as it came out
 pub data AreTold (is_logged : Bool) (written : Option (List File)) (failed : Option (List ℕ)) : List NodeConfig
-    → (lived : List (Option Lived)) → (text : List ℕ) → Status → (written' : Option (List File)) → (failed' : Option (List ℕ))
-    → Type 0 where
+    → (lived : List (Option Lived)) → (text : List ℕ) → Status → (written' : Option (List File))
+    → (failed' : Option (List ℕ)) → Type 0 where
   nothing : AreTold is_logged written failed [] [] [] statuses.Done written failed
-  one_more : (nodes : List NodeConfig) (node : NodeConfig) (lived : List (Option Lived)) (one : Lived) (text text' : List ℕ) (status status' : Status)
-      (before after : Option (List File)) (failed_before failed_after : Option (List ℕ))
+  one_more : (nodes : List NodeConfig) (node : NodeConfig) (lived : List (Option Lived)) (one : Lived)
+      (text text' : List ℕ) (status status' : Status) (before after : Option (List File))
+      (failed_before failed_after : Option (List ℕ))
       → AreTold is_logged written failed nodes lived text status before failed_before
       → TellsOf is_logged node one text text' status status' before after failed_before failed_after
       → AreTold is_logged written failed (nodes ++ node ∷ []) (lived ++ Some one ∷ []) text' status' after failed_after

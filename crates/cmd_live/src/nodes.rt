@@ -1,5 +1,6 @@
 //! The nodes of a CONFIG that are to live, opened, and where they listen.
-ghost use Rattle.std.specs.Prelude.{◌≡◌, ◌<◌, ◌≤◌, ◌+◌, ◌++◌, ◌∷◌, ◌&&◌, [], IfErr, IfOk, List, OnOk, length, nat_lt, not, option_map};
+ghost use Rattle.std.specs.Prelude.{◌≡◌, ◌<◌, ◌≤◌, ◌+◌, ◌++◌, ◌∷◌, ◌&&◌, [], IfErr, IfOk};
+ghost use Rattle.std.specs.Prelude.{List, OnOk, length, nat_lt, not, option_map};
 ghost use Rattle.bench_setup.specs.declared.setups.Setup.{Setup};
 ghost use Rattle.cmd_live.specs.Lives.{AreLivings, IsCopyWhere, IsLivingOf, IsWatchWhere};
 ghost use Rattle.cmd_live.specs.Nodes.{is_wanted, nodes_of, wanted_node};
@@ -170,7 +171,8 @@ fn add_wanted<R: Net>(
         ≡ nodes.old.nodes.items ++ wanted_node (option_map (λ host. host.now) words.entry.node) setup) }
     ensures few { OnOk result (length nodes.new.nodes.items ≤ length nodes.old.nodes.items + 1) }
     ensures livings { OnOk result ((setups : List Setup)
-        → AreLivings (option_map (λ host. host.now) words.entry.node) seconds words.entry.stats setups nodes.old.livings.items
+        → AreLivings (option_map (λ host. host.now) words.entry.node) seconds words.entry.stats setups
+        nodes.old.livings.items
         → AreLivings (option_map (λ host. host.now) words.entry.node) seconds words.entry.stats (setups ++ setup ∷ [])
         nodes.new.livings.items) }
     ensures both { OnOk result (length nodes.old.livings.items ≡ length nodes.old.nodes.items

@@ -1,5 +1,6 @@
 //! `live`, from what its words ask for to a status.
-ghost use Rattle.std.specs.Prelude.{◌≡◌, ◌<◌, ◌≤◌, ◌+◌, ◌-◌, ◌*◌, ◌^◌, IfErr, IfOk, None, Ok, OnOk, is_some, length, max};
+ghost use Rattle.std.specs.Prelude.{◌≡◌, ◌<◌, ◌≤◌, ◌+◌, ◌-◌, ◌*◌, ◌^◌, IfErr, IfOk, None};
+ghost use Rattle.std.specs.Prelude.{Ok, OnOk, is_some, length, max};
 ghost use Rattle.std.specs.Prelude.{option_map};
 ghost use Rattle.cmd_live.specs.Met.{AreCopiedWhere, HaveEnded, HaveLived, IsLiveMet};
 ghost use Rattle.live_turns.specs.Together.{AreTogether};
@@ -63,7 +64,8 @@ fn copy_where<I: FileSource, W: FileSink>(
     ensures reads { I.reads source.new ≤ I.reads source.old + 256 * MAX_READS }
     ensures made { I.reads source.old ≤ I.reads source.new }
     ensures sound { OnOk result (I.failures source.new ≡ I.failures source.old) }
-    ensures copied { OnOk result (AreCopiedWhere I.remaining I.reads I.failures (is_some (option_map (λ folder. folder.now) words.entry.log)) nodes.now
+    ensures copied { OnOk result (AreCopiedWhere I.remaining I.reads I.failures
+        (is_some (option_map (λ folder. folder.now) words.entry.log)) nodes.now
         source.old source.new (W.files files.old) (W.files files.new)) }
     ensures kept { OnOk result (W.failed files.new ≡ W.failed files.old) }
     ensures error { IfErr result (IsCopyError I.remaining I.reads I.failures source.old source.new
@@ -107,8 +109,8 @@ fn seconds_of(word: Option<&str>) -> Option<u64>
     }
 }
 
-/// The same from what a CONFIG and its files hold: the nodes are opened, then the files that they name are copied, where
-/// logs are wanted.
+/// The same from what a CONFIG and its files hold: the nodes are opened, then the files that they name are copied,
+/// where logs are wanted.
 fn live_setups<
     R: Net + Files,
     I: FileSource,
@@ -132,9 +134,9 @@ fn live_setups<
     requires failures { I.failures source.old < 2 ^ 64 - 1 }
     ensures reads { I.reads source.new ≤ I.reads source.old + 256 * MAX_READS }
     ensures lived { IfOk result (λ told. HaveLived I.remaining I.reads I.failures W.files W.failed
-        (λ livings lived. F.post together.now livings (Ok lived)) (option_map (λ host. host.now) words.entry.node) seconds
-        (is_some (option_map (λ folder. folder.now) words.entry.log)) words.entry.stats setups.items source.old source.new
-        files.old files.new told.text.items told.status) }
+        (λ livings lived. F.post together.now livings (Ok lived)) (option_map (λ host. host.now) words.entry.node)
+        seconds (is_some (option_map (λ folder. folder.now) words.entry.log)) words.entry.stats setups.items
+        source.old source.new files.old files.new told.text.items told.status) }
     ensures stopped { IfErr result (IsStop I.remaining I.reads I.failures
         (option_map (λ host. host.now) words.entry.node) (option_map (λ folder. folder.now) words.entry.log)
         setups.items source.old source.new (W.failed files.new)) }

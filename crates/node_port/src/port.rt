@@ -6,7 +6,8 @@ ghost use Rattle.bench_net.specs.declared.refusal.Refusal.TheVariants.{Unknown};
 ghost use Rattle.bench_item.specs.declared.step.Step.TheVariants as steps;
 ghost use Rattle.bench_node.specs.Going.{Goes, is_dialling};
 ghost use Rattle.bench_spec.specs.Taken.{Takes, shown};
-ghost use Rattle.node_port.specs.Happened.{JoinsAs, RefusesOn, TakesOn, is_number, opening_refusal, refusal_of, sent_on};
+ghost use Rattle.node_port.specs.Happened.{JoinsAs, RefusesOn, TakesOn, is_number, opening_refusal};
+ghost use Rattle.node_port.specs.Happened.{refusal_of, sent_on};
 
 use bench_item::StepFault;
 use bench_net::Refusal;

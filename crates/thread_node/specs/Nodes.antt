@@ -1,6 +1,6 @@
 -- A node whose shards run in threads, as a contract sees it, and what becomes of it.
-use Rattle.std.specs.Prelude.{◌≡◌, ◌<◌, ◌≤◌, ◌+◌, ◌-◌, ◌==◌, ◌++◌, ◌∷◌, ℕ, Bool, false, true, List, [], Option, None, Some}
-use Rattle.std.specs.Prelude.{if◌then◌else◌, length, nat_lt, slice_index_or, sum_by}
+use Rattle.std.specs.Prelude.{◌≡◌, ◌<◌, ◌≤◌, ◌+◌, ◌-◌, ◌==◌, ◌++◌, ◌∷◌, ℕ, Bool, false, true, List, [], Option}
+use Rattle.std.specs.Prelude.{None, Some, if◌then◌else◌, length, nat_lt, slice_index_or, sum_by}
 use Rattle.std.specs.List.{list_all}
 use Rattle.bench_item.specs.declared.limit.TheConstants.{MAX_LINES}
 use Rattle.bench_item.specs.declared.source.Source.TheVariants as sources
