@@ -1,14 +1,13 @@
 -- The machines of a shard and their runs, with one more entry in its part of the log.
-use Rattle.std.proofs.Common.{◌≡◌, ◌∙◌, ℕ, List, [], ◌∷◌, ◌++◌, Bool, true, false, None, ap, inl, inr, length, refl, subst, sym, ◌⊎◌}
-use Rattle.std.specs.Prelude.{◌==◌, ◌≢◌, map, nat_lt, position}
-use Rattle.std.specs.List.{list_any, position_or_len}
+use Rattle.std.proofs.Common.{◌≡◌, ◌∙◌, ℕ, List, [], ◌∷◌, ◌++◌, Bool, true, false, None, ap, inl, inr, refl, subst, sym, ◌⊎◌}
+use Rattle.std.specs.Prelude.{◌==◌, ◌≢◌, map, position}
+use Rattle.std.specs.List.{list_any}
 use Rattle.std.proofs.lemmas.Bool.{eqb-false, eqb-true}
 use Rattle.std.proofs.lemmas.List.{append-nil}
 use Rattle.acct_book.specs.Book.{Book}
 use Rattle.tab_law.specs.Books.{Laws}
 use Rattle.tab_step.specs.declared.machine.MachineState.{MachineState}
 use Rattle.tab_text.specs.Contents.{Contents}
-use Rattle.bench_item.specs.Entries.{moved_in}
 use Rattle.bench_item.specs.Keys.{Configured, Node, home, is_same_key, node_of}
 use Rattle.bench_item.specs.declared.entry.Entry.{Entry}
 use Rattle.bench_item.specs.declared.entry.Handled.{Handled}
@@ -18,18 +17,17 @@ use Rattle.bench_item.specs.declared.item.Item.{Item}
 use Rattle.bench_item.specs.declared.item.MachineItem.{MachineItem}
 use Rattle.bench_item.specs.declared.key.Key.{Key}
 use Rattle.bench_move.specs.Tables.{Tables, table_of}
-use Rattle.bench_queue.specs.Inbox.{next_in}
 use Rattle.bench_shard.specs.Names.{key_octets}
 use Rattle.bench_shard.specs.Settling.{names_left, states_left}
 use Rattle.bench_shard.specs.Stands.{HasMachines}
-use Rattle.bench_shard.specs.View.{ShardView, state_for}
+use Rattle.bench_shard.specs.View.{ShardView}
 use Rattle.bench_shard.specs.Works.{BecomesIn, after_work, state_left}
 use Rattle.bench_shard.proofs.AbsentLemmas.{absent-moves}
 use Rattle.bench_shard.proofs.ViewLemmas.{state-of}
 use Rattle.bench_spec.specs.Machines.{directory, keys_in, moves_in, moves_of, number_for, start, state_after, state_at}
-use Rattle.bench_spec.proofs.RunLemmas.{after_append, key_sound}
+use Rattle.bench_spec.proofs.RunLemmas.{key_sound}
 use Rattle.bench_views.proofs.Directories.{directory-same, moves_of-snoc, number_for-other, number_for-own, number_for-same}
-use Rattle.bench_views.proofs.Handled.{keys-moved, keys-other, keys-stale, moves-busy, moves-none, moves-other, moves-own, moves-stale, work_entry}
+use Rattle.bench_views.proofs.Handled.{keys-moved, keys-other, keys-stale, moves-busy, moves-other, moves-own, moves-stale, work_entry}
 use Rattle.bench_views.proofs.Standing.{states-same}
 use Rattle.bench_views.proofs.WorkStands.{names-after, place-there, states-after}
 use Rattle.bench_desk.specs.Runs.{AreRuns, IsRun}

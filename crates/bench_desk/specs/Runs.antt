@@ -12,7 +12,8 @@ use Rattle.bench_move.specs.Tables.{Tables, table_of}
 use Rattle.bench_spec.specs.Machines.{moves_of, number_for, start}
 
 -- moves are a run from a state: each begins where the one before ended, and is a step by the table: by the first row
--- that takes the event, and what its actions may leave (RFC 6733 section 5.6, RFC 8506 section 7)
+-- that takes the event, and what its actions may leave (RFC 6733 section 5.6, RFC 8506 section 7). It is the run of
+-- bench_spec, which has the laws by settings: a part has none
 abbrev pub IsRun : Laws → Contents → MachineState → List Moved → Type 0
 IsRun laws table state [] = Unit {0}
 IsRun laws table state (moved ∷ moves) =

@@ -1,12 +1,12 @@
 -- Desks and nodes that are to live, one behind the other.
-use Rattle.std.proofs.Common.{◌≡◌, ◌∙◌, ◌<◌, ◌+◌, ◌++◌, ◌∷◌, ℕ, Bool, false, true, List, [], Option, None, Some, Result, Ok, Err, Vec, ap, arith, get_or, is_some, length, refl, subst, suc, sym, take}
+use Rattle.std.proofs.Common.{◌≡◌, ◌∙◌, ◌<◌, ◌+◌, ◌++◌, ◌∷◌, ℕ, Bool, true, List, [], Option, None, Some, Result, Ok, Err, Vec, ap, arith, get_or, is_some, length, refl, subst, suc, sym, take}
 use Rattle.std.proofs.lemmas.List.{length-take-le, take_more}
 use Rattle.std.proofs.lemmas.Option.{get_or_from_slice_get}
 use Rattle.std.specs.Global.{Global}
 use Rattle.std.specs.List.{slice_get}
 use Rattle.std.specs.Prelude.{IfOk, option_map}
 use Rattle.bench_setup.specs.declared.setups.Setup.{Setup}
-use Rattle.cmd_live.specs.Lives.{AreDesksFrom, AreLivings, IsDeskOf, IsLivingOf, another, one_more}
+use Rattle.cmd_live.specs.Lives.{AreDesksFrom, AreLivings, IsDeskOf, IsLivingOf, one_more}
 use Rattle.cmd_live.specs.Met.{HaveEnded}
 use Rattle.cmd_live.specs.Nodes.{is_wanted}
 use Rattle.cmd_live.specs.Told.{AreTold}

@@ -100,7 +100,11 @@ fn watch_of(
 }
 
 /// A copy of what a bench is opened with, where its shards run in threads. Who looks each second looks at one log.
-fn copy_where(alloc: Global, bench: &Config, stats: bool) -> Result<Option<Config>, AllocError>
+fn copy_for_threads(
+    alloc: Global,
+    bench: &Config,
+    stats: bool,
+) -> Result<Option<Config>, AllocError>
     ensures { IfOk result (IsCopyWhere (nat_lt 1 bench.now.shards && not stats) bench.now) }
 {
     if bench.shards > 1 && !stats {
@@ -126,7 +130,7 @@ fn living_of<R: Net>(
 {
     let dialled = addresses_of(rt, alloc, node.peers.as_slice())?;
     let shards = bench.shards;
-    let config = copy_where(alloc, &bench, stats)?;
+    let config = copy_for_threads(alloc, &bench, stats)?;
     let Opened { node: live, desks } = open(alloc, place, node, bench, &dialled)?;
     let watch = watch_of(alloc, node, &live, stats)?;
     Ok(Living {

@@ -1,8 +1,8 @@
-use Rattle.std.proofs.Common.{◌<◌, ◌∙◌, List, length, subst, sym}
+use Rattle.std.proofs.Common.{◌<◌, ◌∙◌, List, length, subst}
 use Rattle.std.proofs.lemmas.Result.{err_from_is_err_and}
 use Rattle.std.specs.Prelude.{is_some, option_map}
 use Rattle.config_text.specs.declared.node.NodeConfig.{NodeConfig}
-use Rattle.cmd_live.specs.Met.{AreCopiedWhere, HaveEnded}
+use Rattle.cmd_live.specs.Met.{AreCopiedWhere}
 use Rattle.cmd_live.specs.Nodes.{AreApartWhere}
 use Rattle.cmd_live.proofs.LivesLemmas.{some_mapped}
 use Rattle.cmd_live.proofs.RefusalLemmas.{twice_err}
