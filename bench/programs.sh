@@ -1,10 +1,24 @@
-# What bench/run and bench/check share. `top` is the repository.
+# What bench/run, bench/check and tools/memory share. `top` is the repository.
 
-# Makes a benchmark a crate of the workspace `work`: its program, and the files of other crates that it takes in as its own. Each line of
+# Where the program of that name is: a benchmark, or one of tools/.
+folder_of() {
+    local it
+    for it in "$top/bench/$1" "$top/tools/$1"; do
+        if [ -f "$it/main.rt.txt" ]; then
+            echo "$it"
+            return
+        fi
+    done
+    echo "no program: $1" >&2
+    return 2
+}
+
+# Makes a program a crate of the workspace `work`, with the files of other crates that it takes in as its own. Each line of
 # bench/NAME/taken names a crate and some of its files and folders; what bench/NAME/more/FILE.txt has stands below the text of FILE, so
 # that a benchmark can measure apart what is private there. What bench/NAME/proofs has of a proof, as FILE.txt, is the program's.
 add_program() {
-    local name=$1 work=$2 src=$top/bench/$1 own=$2/crates/bench_of_$1 crate paths path
+    local name=$1 work=$2 src own=$2/crates/bench_of_$1 crate paths path
+    src=$(folder_of "$name")
     mkdir -p "$own/src"
     cp "$src/main.rt.txt" "$own/src/main.rt"
     echo "bench_of_$name: $(cat "$src/deps")" >>"$work/crates.txt"

@@ -1,7 +1,6 @@
 //! The reservations as they are kept: a Release ends all of a session at once, and each change can be put back.
-ghost use Rattle.std.specs.Prelude.{◌≡◌, ◌<◌, ◌≤◌, ◌+◌, ◌^◌, ◌⊎◌, cond, Some, IsSome, OnOk};
+ghost use Rattle.std.specs.Prelude.{◌≡◌, ◌<◌, ◌≤◌, ◌+◌, ◌^◌, cond, Some, IsSome, OnOk};
 ghost use Rattle.indexmap.specs.IndexMap.{spare, get};
-ghost use Rattle.acct_totals.specs.Amounts.{amount_of};
 ghost use Rattle.acct_book.specs.Stored.{holder_eq, session_eq, stored_of, standing, standing_in, step_of, added};
 ghost use Rattle.acct_book.specs.Stored.{session_of, ended_of, all_ended_of, nothing, undone, with_held};
 ghost use Rattle.acct_book.specs.Stored.{with_rounds, IsPlaced, CanCarryOut};

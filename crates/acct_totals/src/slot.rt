@@ -1,5 +1,5 @@
 //! The services of one request, quoted one after the other (RFC 8506 section 5.1.2).
-ghost use Rattle.std.specs.Prelude.{◌≡◌, ◌+◌, ◌<◌, ◌^◌, fold};
+ghost use Rattle.std.specs.Prelude.{◌≡◌, ◌<◌, fold};
 ghost use Rattle.acct_totals.specs.Answers.{quote_from};
 ghost use Rattle.std.specs.List.{list_any};
 ghost use Rattle.acct_totals.specs.Slots.{free_after, held_by, is_numbered, verdict_of_request};

@@ -1,6 +1,5 @@
 //! Names of Result-Codes by number.
 ghost use Rattle.std.specs.Prelude.{◌≡◌};
-ghost use Rattle.std.specs.Option.{option_copied};
 ghost use Rattle.base_codes.specs.ResultNames.{coded, other_name, result_name};
 
 use crate::result_code::ResultCode;

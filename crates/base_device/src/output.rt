@@ -1,6 +1,5 @@
 //! Text that goes out to a sink, whole or with a fault that has a cause.
-ghost use Rattle.std.specs.Prelude.{◌≡◌, ◌<◌, ◌≤◌, ◌+◌, ◌-◌, ◌^◌, ℕ, max, length, take, OnOk, OnErr, IfOk};
-ghost use Rattle.std.specs.Io.KnownBytes.{Appends, Keeps};
+ghost use Rattle.std.specs.Prelude.{◌≡◌, ◌<◌, ◌≤◌, ◌+◌, ◌-◌, ◌^◌, max, OnOk, OnErr, IfOk};
 ghost use Rattle.base_device.specs.Devices.{HasWriteCause, IsTaken, TakesWhole, Tells};
 
 use crate::device::{ByteSink, DeviceFailed};

@@ -1,9 +1,9 @@
 -- How a run ends whose input is answered.
-use Rattle.std.proofs.Common.{◌≡◌, ◌<◌, ◌≤◌, ◌+◌, ◌∙◌, ◌⊎◌, ◌++◌, ℕ, List, Option, Result, Ok, Err, ap, arith, inl, inr, refl, sym}
+use Rattle.std.proofs.Common.{◌≡◌, ◌+◌, ◌∙◌, ◌++◌, ℕ, List, Option, Err, arith, inl, inr, refl, sym}
 use Rattle.std.specs.Prelude.{codes}
 use Rattle.std.proofs.KnownBytes.{Appends-trans}
 use Rattle.std.specs.Io.KnownBytes.{Appends}
-use Rattle.base_device.specs.Devices.{HasFailed, HasReadCause, HasWriteCause, IsRun, Tells}
+use Rattle.base_device.specs.Devices.{HasReadCause, HasWriteCause, IsRun, Tells}
 use Rattle.base_device.specs.Inputs.{IsToldUnread, IsUnread}
 use Rattle.base_device.specs.declared.status.Status.{Status}
 use Rattle.base_device.specs.declared.status.Status.TheVariants as statuses

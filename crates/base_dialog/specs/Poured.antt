@@ -3,7 +3,7 @@ use Rattle.std.specs.Prelude.{◌≡◌, ℕ, List, ◌++◌, Option, Result, Ok
 use Rattle.std.specs.Io.KnownBytes.{Appends, Consumes}
 use Rattle.base_device.specs.Inputs.{IsRead, IsUnread}
 use Rattle.base_device.specs.declared.whole.InputError.{InputError}
-use Rattle.base_device.specs.declared.whole.InputError.TheVariants.{NotOpened, Failed, NoEnd, NoMemory}
+use Rattle.base_device.specs.declared.whole.InputError.TheVariants.{NoMemory}
 use Rattle.base_dialog.specs.Dialogs.{HasAnswered, HasAnsweredAll, HasAnsweredFront}
 use Rattle.base_dialog.specs.declared.dialog.Dialog.{Dialog}
 

@@ -1,5 +1,5 @@
 //! What answers lines.
-ghost use Rattle.std.specs.Prelude.{◌≡◌, ◌++◌, IfOk, List, ℕ};
+ghost use Rattle.std.specs.Prelude.{◌++◌, IfOk, List, ℕ};
 
 use base_list::Octets;
 use std::alloc::AllocError;

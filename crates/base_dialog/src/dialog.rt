@@ -1,5 +1,5 @@
 //! An answerer, and the line that is begun.
-ghost use Rattle.std.specs.Prelude.{◌≡◌, ◌++◌, [], IfOk, List, ℕ};
+ghost use Rattle.std.specs.Prelude.{◌≡◌, ◌++◌, IfOk, List, ℕ};
 ghost use Rattle.base_dialog.specs.Dialogs.{HasAnswered, HasAnsweredAll};
 ghost use Rattle.base_dialog.specs.Lines.{IsLine, last_line};
 

@@ -1,5 +1,5 @@
 //! The lines of an input that comes piece by piece.
-ghost use Rattle.std.specs.Prelude.{◌≡◌, ◌++◌, ◌∷◌, [], IfOk, List, OnOk, ℕ};
+ghost use Rattle.std.specs.Prelude.{◌++◌, ◌∷◌, [], IfOk, List, OnOk, ℕ};
 ghost use Rattle.base_dialog.specs.Lines.{IsCut, IsLine};
 
 use base_list::Octets;

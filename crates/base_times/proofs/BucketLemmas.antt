@@ -1,7 +1,5 @@
 -- Where buckets begin, and that each time lies in its own.
-use Rattle.std.proofs.Common.{◌≡◌, ◌∙◌, ◌<◌, ◌≤◌, ◌+◌, ◌-◌, ◌*◌, ◌/◌, ◌%◌, ◌^◌, ◌⊎◌, ℕ, ap, inl, inr, refl, sym, suc, zero, arith}
-use Rattle.std.specs.Prelude.{max, nat_lt}
-use Rattle.std.specs.Int.Count.{count_leading_zeros}
+use Rattle.std.proofs.Common.{◌≡◌, ◌∙◌, ◌<◌, ◌≤◌, ◌+◌, ◌-◌, ◌*◌, ◌/◌, ◌%◌, ◌^◌, ℕ, ap, inl, inr, refl, sym, suc, zero, arith}
 use Rattle.std.proofs.lemmas.Bool.{cases_lt}
 use Rattle.std.proofs.lemmas.Bool.Decides.{nat_tests}
 use Rattle.std.proofs.lemmas.Grind.{pow_more}

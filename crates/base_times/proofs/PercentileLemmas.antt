@@ -1,6 +1,6 @@
 -- Counts of times, and the bucket in which a rank lies.
-use Rattle.std.proofs.Common.{◌≡◌, ◌≢◌, ◌∙◌, ◌<◌, ◌≤◌, ◌+◌, ◌-◌, ◌*◌, ◌/◌, ◌^◌, ◌++◌, ◌∷◌, ◌⊎◌, ℕ, Bool, true, false, List, [], Option, None, Some, All, ap, inl, inr, length, get_or, refl, set, subst, sym, suc, take, zero, cond, arith, get_or-set_same, get_or-set_other, length-append}
-use Rattle.std.specs.Prelude.{◌&&◌, ◌==◌, IfSome, count_by, max, min, nat_le, nat_lt, replicate, sum}
+use Rattle.std.proofs.Common.{◌≡◌, ◌≢◌, ◌∙◌, ◌<◌, ◌≤◌, ◌+◌, ◌-◌, ◌*◌, ◌^◌, ◌++◌, ◌∷◌, ℕ, Bool, true, false, List, [], Option, None, Some, All, ap, inl, inr, length, get_or, refl, subst, sym, suc, take, zero, cond, arith, get_or-set_same, get_or-set_other}
+use Rattle.std.specs.Prelude.{◌&&◌, ◌==◌, IfSome, count_by, min, nat_le, nat_lt, sum}
 use Rattle.std.proofs.lemmas.Bool.{cases_lt, cases_eq}
 use Rattle.std.proofs.Math.Nat.{mul-le-mul_left}
 use Rattle.std.proofs.lemmas.Bool.Decides.{nat_tests}

@@ -1,7 +1,7 @@
 //! The item in the hand of a source, and whether there is room where it is for.
-ghost use Rattle.std.specs.Prelude.{◌≡◌, ◌<◌, ◌≤◌, IfOk, false, is_some, length, nat_le, option_copied, slice_get};
+ghost use Rattle.std.specs.Prelude.{◌≡◌, ◌<◌, ◌≤◌, IfOk, false, is_some, length, option_copied, slice_get};
 ghost use Rattle.std.specs.Option.{option_and_then, option_map_or};
-ghost use Rattle.bench_item.specs.declared.limit.TheConstants.{MAX_LINES, MAX_SHARDS};
+ghost use Rattle.bench_item.specs.declared.limit.TheConstants.{MAX_SHARDS};
 ghost use Rattle.bench_queue.specs.Outbox.{hand_out};
 ghost use Rattle.bench_views.specs.Looks.{dropped_on, hand_of};
 ghost use Rattle.bench_views.specs.Stored.{Stored};

@@ -1,5 +1,5 @@
 -- The parts of a world at its start are what a log without entries says.
-use Rattle.std.proofs.Common.{◌≡◌, ◌+◌, ◌<◌, ℕ, suc, zero, Bool, false, List, [], ◌∷◌, ◌++◌, ap, arith, inl, inr, length, refl, replicate, subst, sym, ◌∙◌}
+use Rattle.std.proofs.Common.{◌≡◌, ◌+◌, ◌<◌, ℕ, suc, zero, Bool, false, List, [], ◌∷◌, ap, arith, inl, inr, length, refl, replicate, subst, sym, ◌∙◌}
 use Rattle.std.specs.Prelude.{map}
 use Rattle.std.specs.FinMap as map
 use Rattle.std.specs.List.{range_with_len}

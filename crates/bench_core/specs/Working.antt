@@ -1,12 +1,13 @@
 -- What a shard's work writes.
 use Rattle.std.specs.Prelude.{◌≡◌, ℕ, List, [], ◌∷◌, ◌++◌, fold, length, Some}
-use Rattle.acct_book.specs.Book.{Book, Paged, after}
+use Rattle.acct_book.specs.Book.{Paged, after}
 use Rattle.bench_item.specs.declared.entry.Entry.{Entry}
 use Rattle.bench_item.specs.declared.entry.Handled.{Handled}
 use Rattle.bench_item.specs.declared.item.Item.TheVariants.{ToMachine}
 use Rattle.bench_item.specs.declared.item.MachineItem.{MachineItem}
 use Rattle.bench_item.specs.declared.step.Step.TheVariants.{Work as WorkStep}
 use Rattle.bench_move.specs.Tables.{Tables}
+use Rattle.bench_move.specs.Moves.{Holds}
 use Rattle.bench_shard.specs.View.{ShardView}
 use Rattle.bench_shard.specs.Works.{IsWork, after_work, taken_back}
 use Rattle.bench_shard.specs.declared.work.ShardRecord.{ShardRecord}
@@ -17,10 +18,6 @@ use Rattle.bench_undo.specs.declared.undo.Undo.TheVariants.{Worked}
 -- the entry in which a shard handles an item
 abbrev pub work_entry : ℕ → MachineItem → Handled → Entry
 work_entry shard item handled = record { step = WorkStep shard; item = Some (ToMachine item); handled = Some handled }
-
--- a page with another book
-abbrev pub Holds : Paged → Paged → Book → Type 0
-Holds old new book = (new.number ≡ old.number) × (new.pages ≡ old.pages) × (new.book ≡ book)
 
 -- what is written where work is done: the shard, the page, the entry, and the record that takes it back
 pub record IsWritten (shard page : ℕ) (work : Work) (v w : ShardView) (p q : Paged) (log logged : List Entry)

@@ -1,47 +1,22 @@
 //! A shard handles its oldest item.
-ghost use Rattle.std.specs.Prelude.{◌≡◌, ◌≤◌, ◌-◌, [], IfOk, None, OnOk, OnErr, fold, length, max};
-ghost use Rattle.acct_book.specs.Book.{after, with_book};
+ghost use Rattle.std.specs.Prelude.{◌≡◌, ◌-◌, None, OnOk, OnErr};
 ghost use Rattle.bench_item.specs.declared.step.Step.TheVariants as steps;
-ghost use Rattle.bench_queue.specs.Inbox.{next_in};
 ghost use Rattle.bench_shard.specs.Tasks.{IsTask};
 ghost use Rattle.bench_shard.specs.Works.{Fits};
 ghost use Rattle.bench_spec.specs.Refusal.{refusal};
 ghost use Rattle.bench_spec.specs.Taken.{Takes};
-ghost use Rattle.bench_core.specs.Working.{Holds, IsDone, IsUnwritten, IsWritten, work_entry};
+ghost use Rattle.bench_core.specs.Working.{IsDone, IsUnwritten, IsWritten};
 
 use crate::keeping::Core;
 use crate::room::make_room;
 use acct_book::Page;
-use acct_totals::Op;
 use bench_log::{KeptEntry, Log};
-use bench_move::Roles;
+use bench_move::{Roles, book_ops, make_page_room};
 use bench_shard::{Effects, ShardState, Task, Work};
 use bench_undo::{Undo, UndoLog};
 use std::alloc::{AllocError, Global};
 use tab_call::Registry;
 use tab_step::Stepped;
-
-/// Makes room for operations on a page.
-fn make_page_room(page: &mut Page, count: usize) -> Result<(), AllocError>
-    ensures ok { OnOk result (count ≤ page.new.room) }
-    ensures page { Holds page.old page.new page.old.book }
-{
-    match page.reserve_room(count) {
-        Ok(()) => Ok(()),
-        Err(_) => Err(AllocError),
-    }
-}
-
-/// Books operations, for which there is room.
-fn book(page: &mut Page, ops: &[Op])
-    requires { length ops.now ≤ page.old.room }
-    ensures { Holds page.old page.new (fold after page.old.book ops.now) }
-{
-    match page.apply_all(ops) {
-        Ok(()) => {}
-        Err(_) => unreachable!(),
-    }
-}
 
 /// Writes what a shard is to do: all of it, or nothing where memory is refused.
 pub(crate) fn write(
@@ -68,7 +43,7 @@ pub(crate) fn write(
     make_room(log, undo)?;
     make_page_room(page, ops.len())?;
     let record = shard.commit(item.plain(), &handled, posts)?;
-    book(page, ops.as_slice());
+    book_ops(page, ops.as_slice());
     log.put(KeptEntry::of_work(number, item, handled));
     undo.put(Undo::Worked {
         shard: number,

@@ -18,7 +18,7 @@ use Rattle.bench_spec.specs.Items.{desk_posts, told_item}
 use Rattle.bench_spec.specs.Merged.{Kept, Look, Saw, Stamped, entries_kept, is_item_for, looks_kept}
 use Rattle.bench_spec.specs.Settings.{Settings}
 use Rattle.bench_desk.specs.Desks.{DeskView, IsDesk, entry_count, first_of, look_at, look_refusal}
-use Rattle.bench_desk.specs.May.{may_look}
+use Rattle.bench_move.specs.May.{may_look}
 use Rattle.bench_desk.specs.Parts.{PartView, handled_from, node_in, waiting_from}
 use Rattle.bench_desk.specs.declared.fault.DeskFault.TheVariants.{Disagree, Unknown}
 

@@ -5,9 +5,6 @@ use Rattle.std.specs.List.{list_any}
 use Rattle.std.proofs.lemmas.Bool.{eqb-false, eqb-true}
 use Rattle.std.proofs.lemmas.List.{append-nil}
 use Rattle.acct_book.specs.Book.{Book}
-use Rattle.tab_law.specs.Books.{Laws}
-use Rattle.tab_step.specs.declared.machine.MachineState.{MachineState}
-use Rattle.tab_text.specs.Contents.{Contents}
 use Rattle.bench_item.specs.Keys.{Configured, Node, home, is_same_key, node_of}
 use Rattle.bench_item.specs.declared.entry.Entry.{Entry}
 use Rattle.bench_item.specs.declared.entry.Handled.{Handled}
@@ -24,13 +21,14 @@ use Rattle.bench_shard.specs.View.{ShardView}
 use Rattle.bench_shard.specs.Works.{BecomesIn, after_work, state_left}
 use Rattle.bench_shard.proofs.AbsentLemmas.{absent-moves}
 use Rattle.bench_shard.proofs.ViewLemmas.{state-of}
-use Rattle.bench_spec.specs.Machines.{directory, keys_in, moves_in, moves_of, number_for, start, state_after, state_at}
-use Rattle.bench_spec.proofs.RunLemmas.{key_sound}
+use Rattle.bench_spec.specs.Legal.{IsRun}
+use Rattle.bench_spec.specs.Machines.{directory, keys_in, moves_in, moves_of, number_for, start, state_at}
+use Rattle.bench_spec.proofs.RunLemmas.{key_sound, run_append}
 use Rattle.bench_views.proofs.Directories.{directory-same, moves_of-snoc, number_for-other, number_for-own, number_for-same}
 use Rattle.bench_views.proofs.Handled.{keys-moved, keys-other, keys-stale, moves-busy, moves-other, moves-own, moves-stale, work_entry}
 use Rattle.bench_views.proofs.Standing.{states-same}
 use Rattle.bench_views.proofs.WorkStands.{names-after, place-there, states-after}
-use Rattle.bench_desk.specs.Runs.{AreRuns, IsRun}
+use Rattle.bench_desk.specs.Runs.{AreRuns}
 
 -- the number of a machine in a part of the log
 abbrev Numbered : Node → (old new : List Entry) → Key → Type 0
@@ -96,12 +94,6 @@ number-or-none node log e new key here elsewhere = by (list_any at all) refl
         let none : position at all ≡ None = rw (place-there at all, is) refl in
         inr (absent-moves node (home node.shards key.name) key log refl none)
 
--- a run, and one move behind it
-run-more : (laws : Laws) (table : Contents) (s : MachineState) (moves : List Moved) (moved : Moved) → IsRun laws table s moves
-    → IsRun laws table (state_after s moves) (moved ∷ []) → IsRun laws table s (moves ++ moved ∷ [])
-run-more laws table s [] moved run next = next
-run-more laws table s (first ∷ moves) moved run next = (run.0, run.1, run-more laws table first.after moves moved run.2 next)
-
 -- the machine that the item names moves
 run-own : (tables : Tables) (book : Book) (log : List Entry) (v : ShardView) (item : MachineItem) (moved : Moved) → home v.peers.shards item.key.name ≡ v.number
     → HasMachines (node_of tables.laws v.peers) log v → BecomesIn tables book v item (Move moved)
@@ -117,7 +109,7 @@ run-own tables book log v item moved here M becomes run =
     moves_of-snoc log e item.key ∙ ap (λ ms. moves_of log item.key ++ ms) (moves-own v.number item moved) in
     let before : moved.before ≡ state_at node log item.key = becomes.2.before_is ∙ sym (state-of node log v item.key M here) in
     rw (moves, number)
-    (run-more tables.laws (table_of tables item.key.role) (start (number_for node log item.key)) (moves_of log item.key) moved run (before, becomes.2.step, tt))
+    (run_append tables.laws (table_of tables item.key.role) (start (number_for node log item.key)) (moves_of log item.key) (moved ∷ []) run (before, becomes.2.step, tt))
 
 run-moved : (tables : Tables) (book : Book) (log : List Entry) (v : ShardView) (item : MachineItem) (moved : Moved) (key : Key) (b : Bool) → is_same_key key item.key ≡ b
     → home v.peers.shards item.key.name ≡ v.number → HasMachines (node_of tables.laws v.peers) log v → BecomesIn tables book v item (Move moved) → AreRuns tables v.peers log

@@ -11,7 +11,7 @@ use Rattle.bench_spec.specs.Desks.{agrees, seen_count, told_count}
 use Rattle.bench_spec.specs.Merged.{Kept, Look as Seen, entries_kept, not_there}
 use Rattle.bench_spec.specs.Refusal.{may_tell}
 use Rattle.bench_spec.specs.Settings.{Settings}
-use Rattle.bench_desk.specs.May.{may_look}
+use Rattle.bench_move.specs.May.{may_look}
 use Rattle.bench_desk.specs.Parts.{PartView, handled_from, is_full, waiting_from}
 use Rattle.bench_desk.specs.declared.fault.DeskFault.{DeskFault}
 use Rattle.bench_desk.specs.declared.fault.DeskFault.TheVariants.{Unknown, Full, Disagree}

@@ -1,7 +1,7 @@
 -- What a shard's part becomes where it handles its oldest item, and where what it put out is lifted.
 use Rattle.std.specs.Prelude.{◌≡◌, ◌/◌, ◌%◌, ◌==◌, ℕ, Bool, List, [], ◌∷◌, ◌++◌, fold, Option, Some, None}
 use Rattle.std.specs.Prelude.{option_map, slice_get, if◌then◌else◌}
-use Rattle.acct_book.specs.Book.{Book, Paged, after}
+use Rattle.acct_book.specs.Book.{Paged, after}
 use Rattle.bench_item.specs.declared.entry.Entry.{Entry}
 use Rattle.bench_item.specs.declared.entry.Handled.{Handled}
 use Rattle.bench_item.specs.declared.item.Item.{Item}
@@ -13,10 +13,11 @@ use Rattle.bench_item.specs.declared.source.Source.TheVariants.{Shard}
 use Rattle.bench_item.specs.declared.step.Step.TheVariants.{Lift, Work as WorkStep}
 use Rattle.bench_move.specs.Tables.{Tables}
 use Rattle.bench_queue.specs.Outbox.{OutboxView, dropped_one, items_out, lifted_one, next_out}
+use Rattle.bench_move.specs.Moves.{Holds}
 use Rattle.bench_shard.specs.Names.{key_in}
 use Rattle.bench_shard.specs.Refusal.{work_refusal as shard_refusal}
 use Rattle.bench_shard.specs.View.{ShardView, with_outbox, with_paused}
-use Rattle.bench_shard.specs.Works.{Fits, IsWork, after_work}
+use Rattle.bench_shard.specs.Works.{IsWork, after_work}
 use Rattle.bench_shard.specs.declared.fault.WorkFault.{WorkFault}
 use Rattle.bench_shard.specs.declared.fault.WorkFault.TheVariants as faults
 use Rattle.bench_shard.specs.declared.work.Work.{Work}
@@ -40,10 +41,6 @@ or_full full None = if full then Some faults.Full else None
 
 abbrev pub work_refusal : PartView → Option WorkFault
 work_refusal v = or_full (is_log_full (entries_in v)) (shard_refusal v.shard)
-
--- a page with another book
-abbrev pub Holds : Paged → Paged → Book → Type 0
-Holds old new book = (new.number ≡ old.number) × (new.pages ≡ old.pages) × (new.book ≡ book)
 
 -- what is written where work is done: the shard, the page, the entry and its stamp
 pub record IsWritten (work : Work) (stamp : ℕ) (v w : ShardView) (p q : Paged) (log logged : List Entry)

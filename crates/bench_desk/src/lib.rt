@@ -7,14 +7,12 @@
 //! | `desk` | what a desk kept, and its counts |
 //! | `tell`, `look` | a desk tells a shard an event, and looks at it |
 //! | `note` | what a desk keeps, as it is stored |
-//! | `may` | which machines can be told, and what |
 //! | `fault` | why a tell or a look is refused |
 #![tactic(auto)]
 
 mod desk;
 mod fault;
 mod look;
-mod may;
 mod note;
 mod part;
 mod tell;
@@ -23,5 +21,4 @@ mod work;
 pub use desk::Desk;
 pub use fault::{CarryFault, DeskFault};
 pub use look::Look;
-pub use may::{may_look, may_tell};
 pub use part::ShardPart;

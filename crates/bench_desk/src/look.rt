@@ -9,10 +9,10 @@ ghost use Rattle.bench_desk.specs.Parts.{node_in};
 
 use crate::desk::Desk;
 use crate::fault::DeskFault;
-use crate::may::may_look;
 use crate::note::keep_look;
 use crate::part::ShardPart;
 use bench_item::{Key, home};
+use bench_move::may_look;
 use bench_parts::Note;
 use bench_shard::ShardState;
 use std::alloc::{AllocError, Global};

@@ -9,10 +9,10 @@ ghost use Rattle.bench_desk.specs.Parts.{is_full, node_in, with_arrival};
 
 use crate::desk::Desk;
 use crate::fault::DeskFault;
-use crate::may::may_tell;
 use crate::note::{lift_entry, told_entry, told_item};
 use crate::part::ShardPart;
 use bench_item::{Key, Source, home};
+use bench_move::may_tell;
 use bench_parts::Note;
 use std::alloc::AllocError;
 use tab_step::Event;

@@ -1,7 +1,7 @@
 //! A shard's part handles its oldest item, and hands on what it put out.
-ghost use Rattle.std.specs.Prelude.{◌≡◌, ◌<◌, ◌≤◌, false, true, None, Some, IfOk, IfErr, OnOk, OnErr, fold, length};
+ghost use Rattle.std.specs.Prelude.{◌≡◌, ◌<◌, false, true, None, Some, IfOk, IfErr, OnOk, OnErr};
 ghost use Rattle.std.specs.Prelude.{map, vec_len, vec_capacity, unwrap_or};
-ghost use Rattle.acct_book.specs.Book.{after};
+ghost use Rattle.bench_move.specs.Moves.{Holds};
 ghost use Rattle.bench_queue.specs.Outbox.{items_out, next_out};
 ghost use Rattle.bench_shard.specs.Tasks.{IsTask};
 ghost use Rattle.bench_shard.specs.Works.{Fits};
@@ -9,44 +9,21 @@ ghost use Rattle.bench_spec.specs.Merged.{Did};
 ghost use Rattle.bench_spec.specs.Refusal.{is_empty};
 ghost use Rattle.bench_parts.specs.Views.{kept_in};
 ghost use Rattle.bench_desk.specs.Parts.{entries_in};
-ghost use Rattle.bench_desk.specs.Working.{Holds, IsDone, IsLifted, IsUnwritten, IsWorked, IsWritten};
+ghost use Rattle.bench_desk.specs.Working.{IsDone, IsLifted, IsUnwritten, IsWorked, IsWritten};
 ghost use Rattle.bench_desk.specs.Working.{key_in_part, lift_refusal, paused_part};
 ghost use Rattle.bench_desk.specs.Working.{with_lift, work_refusal};
 
 use crate::fault::CarryFault;
 use crate::part::ShardPart;
 use acct_book::Page;
-use acct_totals::Op;
 use bench_item::{Key, MAX_MACHINES, Source};
 use bench_log::{KeptEntry, KeptItem, Log, LogError};
-use bench_move::Roles;
+use bench_move::{Roles, book_ops, make_page_room};
 use bench_parts::Lent;
 use bench_shard::{Effects, ShardState, Task, Work, WorkFault};
 use std::alloc::{AllocError, Global};
 use tab_call::Registry;
 use tab_step::Stepped;
-
-/// Makes room for operations on a page.
-fn make_page_room(page: &mut Page, count: usize) -> Result<(), AllocError>
-    ensures ok { OnOk result (count ≤ page.new.room) }
-    ensures page { Holds page.old page.new page.old.book }
-{
-    match page.reserve_room(count) {
-        Ok(()) => Ok(()),
-        Err(_) => Err(AllocError),
-    }
-}
-
-/// Books operations, for which there is room.
-fn book(page: &mut Page, ops: &[Op])
-    requires { length ops.now ≤ page.old.room }
-    ensures { Holds page.old page.new (fold after page.old.book ops.now) }
-{
-    match page.apply_all(ops) {
-        Ok(()) => {}
-        Err(_) => unreachable!(),
-    }
-}
 
 /// Makes room for one more entry of a log that is not full, and for its stamp. Nothing else changes.
 fn make_room(log: &mut Log, stamps: &mut Vec<u64>) -> Result<(), AllocError>
@@ -88,7 +65,7 @@ fn write(
     make_room(log, stamps)?;
     make_page_room(page, ops.len())?;
     let _record = shard.commit(item.plain(), &handled, posts)?;
-    book(page, ops.as_slice());
+    book_ops(page, ops.as_slice());
     log.put(KeptEntry::of_work(number, item, handled));
     stamps.push(stamp).unwrap();
     Ok(())

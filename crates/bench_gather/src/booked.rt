@@ -1,47 +1,18 @@
 //! What an entry booked.
-ghost use Rattle.std.specs.Prelude.{◌≡◌, ◌<◌, IfOk, IfSome, filter_map, map, option_and_then, position, zip};
-ghost use Rattle.std.specs.Str.{bytes_eq};
-ghost use Rattle.base_list.specs.Named.{place_of};
+ghost use Rattle.std.specs.Prelude.{◌≡◌, ◌<◌, IfOk, filter_map, map, option_and_then, zip};
 ghost use Rattle.charge_session.specs.Deeds.{op_of};
 ghost use Rattle.charge_session.specs.Wants.{needs};
-ghost use Rattle.server_rules.specs.Kinds.{all, kinds, name_of};
+ghost use Rattle.server_rules.specs.Kinds.{kinds};
 ghost use Rattle.bench_spec.specs.Booked.{as_server_event, booked_by, booked_in, want_of};
 ghost use Rattle.bench_gather.specs.Checks.{pair_of};
 
 use acct_totals::{Booked, Op, Outcome};
 use bench_item::{Entry, Handled, Item, MachineItem, Moved, Role};
 use charge_session::{Want, needs, op_of};
-use server_rules::ServerKind;
+use server_rules::server_place;
 use std::alloc::{AllocError, Global};
 use tab_law::{Deed, LawBook};
 use tab_step::{Event, MachineState};
-
-/// All of a server's kinds, by place.
-const ALL: [ServerKind; 5] = [
-    ServerKind::Initial,
-    ServerKind::Update,
-    ServerKind::Terminate,
-    ServerKind::Event,
-    ServerKind::Tcc,
-];
-
-/// Which of a server's kinds has a name.
-fn server_kind(name: &[u8]) -> Option<usize>
-    ensures place { result ≡ position (λ kind. bytes_eq (name_of kind) name.now) all }
-    ensures few { IfSome result (λ place. place < 5) }
-{
-    ALL.iter().position(|kind| kind.name().as_bytes() == name)
-}
-
-/// The place of a name among the kinds of a server's laws.
-fn server_place(name: &[u8]) -> Option<u8>
-    ensures { result ≡ place_of name.now kinds }
-{
-    match server_kind(name) {
-        Some(place) => Some(place as u8),
-        None => None,
-    }
-}
 
 /// The same event with its kind's place in the laws of a server, if it is one of a server's kinds.
 fn server_event(laws: &LawBook, event: &Event) -> Option<Event>

@@ -1,5 +1,5 @@
 //! Whether what was fed is in the log once, in its order.
-ghost use Rattle.std.specs.Prelude.{◌≡◌, ◌<◌, IfOk, IfSome, fold, length, map, slice_get};
+ghost use Rattle.std.specs.Prelude.{◌≡◌, ◌<◌, IfOk, fold, map, slice_get};
 ghost use Rattle.bench_parts.specs.Views.{kept_in};
 ghost use Rattle.bench_spec.specs.Merged.{is_fed, is_source_line};
 ghost use Rattle.bench_gather.specs.Checks.{are_fed, is_same_fed, meets, meets_at, steps_of};

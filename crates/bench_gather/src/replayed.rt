@@ -1,6 +1,5 @@
 //! A log is replayed from the opening on.
-ghost use Rattle.std.specs.Prelude.{◌≡◌, ◌<◌, [], IfErr, OnErr, OnOk, length};
-ghost use Rattle.bench_spec.specs.Taken.{with_log};
+ghost use Rattle.std.specs.Prelude.{◌≡◌, ◌<◌, [], length};
 ghost use Rattle.bench_gather.specs.Replayed.{IsReplayed, ReplaysAt};
 
 use crate::fault::GatherFault;

@@ -1,5 +1,5 @@
 //! Whether what desks kept are their tells, and nothing that one told is on its way.
-ghost use Rattle.std.specs.Prelude.{◌≡◌, ◌+◌, ◌<◌, ◌≤◌, ◌∷◌, ℕ, [], true, IfOk, None, fold, length, map};
+ghost use Rattle.std.specs.Prelude.{◌≡◌, ◌+◌, ◌<◌, ◌≤◌, ◌∷◌, ℕ, [], true, IfOk, None, fold, map};
 ghost use Rattle.std.specs.Bool.{Decides};
 ghost use Rattle.bench_item.specs.declared.limit.TheConstants.{MAX_SHARDS};
 ghost use Rattle.bench_log.specs.Moves.{entry_with};

@@ -1,6 +1,6 @@
 //! The calls of a bench in threads as a trait: what is generic over it goes through none of the callbacks that a bench
 //! holds.
-ghost use Rattle.std.specs.Prelude.{◌≡◌, ◌≤◌, ◌<◌, ◌+◌, ◌∷◌, ◌++◌, ℕ, List, [], length, map, vec_len};
+ghost use Rattle.std.specs.Prelude.{◌≡◌, ◌≤◌, ◌<◌, ◌+◌, ◌∷◌, ◌++◌, List, [], length, map, vec_len};
 ghost use Rattle.std.specs.Prelude.{Err, IfOk, IfSome, None, OnErr, OnOk, false, true};
 ghost use Rattle.std.specs.Arc.{arc_value};
 ghost use Rattle.bench_desk.specs.Desks.{DeskView};

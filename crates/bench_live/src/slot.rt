@@ -1,7 +1,8 @@
 //! A shard's part with its callbacks.
 ghost use Rattle.std.specs.Prelude.{◌≡◌, ◌||◌, None, Some, IfErr, IfOk, IsTrue, OnErr, OnOk, is_none, true, false};
 ghost use Rattle.std.specs.Prelude.{is_some, unwrap_or};
-ghost use Rattle.bench_desk.specs.Working.{Holds, IsWorked, key_in_part, lift_refusal, paused_part, with_lift};
+ghost use Rattle.bench_desk.specs.Moves.{Holds};
+ghost use Rattle.bench_desk.specs.Working.{IsWorked, lift_refusal, paused_part, with_lift};
 ghost use Rattle.bench_desk.specs.Working.{work_refusal};
 ghost use Rattle.bench_log.specs.Targets.{deed_in, event_in};
 ghost use Rattle.bench_queue.specs.Outbox.{next_out};

@@ -1,5 +1,5 @@
 //! What the entries of a shard that were stamped before a look say of it, one after the other.
-ghost use Rattle.std.specs.Prelude.{◌≡◌, ◌<◌, ◌≤◌, ◌||◌, [], IfOk, None, flat_map, length, map, option_to_list};
+ghost use Rattle.std.specs.Prelude.{◌≡◌, ◌<◌, ◌≤◌, ◌||◌, IfOk, None, length, map, option_to_list};
 ghost use Rattle.std.specs.List.{list_any};
 ghost use Rattle.bench_item.specs.declared.item.Item.TheVariants.{ToMachine};
 ghost use Rattle.bench_item.specs.declared.limit.TheConstants.{MAX_SHARDS};

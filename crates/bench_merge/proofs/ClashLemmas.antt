@@ -1,9 +1,9 @@
 -- What keeps parts from one order.
-use Rattle.std.proofs.Common.{◌≡◌, ◌≢◌, ◌∙◌, ◌+◌, ◌<◌, ◌≤◌, ℕ, List, Bool, true, false, length, refl, ap, sym, subst, arith, inl, inr}
-use Rattle.std.specs.Prelude.{slice_index, Option, None, Some, ◌⊎◌}
+use Rattle.std.proofs.Common.{◌≡◌, ◌≢◌, ◌∙◌, ◌+◌, ◌<◌, ◌≤◌, ℕ, List, true, false, length, ap, subst, arith, inl, inr}
+use Rattle.std.specs.Prelude.{slice_index, Option, None, Some}
 use Rattle.std.proofs.lemmas.Bool.{cases_eq, leb-true, false≢true}
 use Rattle.bench_merge.specs.Order.{Clashes, Falls, Shares, stamps_at}
-use Rattle.bench_merge.specs.Heads.{IsHead, IsLast, Merging, UpTo, is_late}
+use Rattle.bench_merge.specs.Heads.{IsHead, Merging, UpTo, is_late}
 use Rattle.bench_merge.specs.declared.merging.Placed.{Placed}
 
 -- the next one is of the part of the last: that part falls

@@ -1,11 +1,11 @@
 -- The least of what is next.
-use Rattle.std.proofs.Common.{◌≡◌, ◌∙◌, ◌+◌, ◌<◌, ◌≤◌, ℕ, List, Bool, true, false, length, refl, ap, sym, subst, arith}
+use Rattle.std.proofs.Common.{◌≡◌, ◌∙◌, ◌+◌, ◌<◌, ◌≤◌, ℕ, List, Bool, true, false, length, refl, ap, subst, arith}
 use Rattle.std.specs.Prelude.{slice_index, nat_lt, MatchOption, Option, None, Some, if◌then◌else◌}
 use Rattle.std.proofs.lemmas.Bool.{ltb-true, ltb-false}
 use borrow.Author.Count.{below_more}
 use Rattle.bench_merge.specs.declared.merging.Placed.{Placed}
 use Rattle.bench_merge.specs.Order.{stamps_at}
-use Rattle.bench_merge.specs.Heads.{IsHead, IsHeadOf, IsLeast, UpTo, lesser}
+use Rattle.bench_merge.specs.Heads.{IsHeadOf, IsLeast, UpTo, lesser}
 
 -- the stamp that is next of a part
 stamp_next : (parts : List (List ℕ)) (heads : List ℕ) (n : ℕ) (t : Placed) → IsHeadOf parts heads n t

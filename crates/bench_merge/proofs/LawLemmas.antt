@@ -1,13 +1,13 @@
 -- An order, and what would keep parts from it.
-use Rattle.std.proofs.Common.{◌≡◌, ◌∙◌, ◌+◌, ◌<◌, ◌≤◌, ℕ, zero, suc, List, [], ◌∷◌, Bool, true, false, length, map, get_or, refl, ap, sym, subst, arith}
-use Rattle.std.specs.Prelude.{cond, filter, nat_eq, slice_index, ◌⊎◌}
+use Rattle.std.proofs.Common.{◌≡◌, ◌∙◌, ◌+◌, ◌<◌, ℕ, zero, suc, List, [], ◌∷◌, Bool, true, false, length, map, get_or, refl, ap, sym, subst, arith}
+use Rattle.std.specs.Prelude.{cond, filter, nat_eq, slice_index}
 use Rattle.std.specs.List.Sorted.{IsStrictlyIncreasing}
 use Rattle.std.proofs.Common.{inl, inr}
 use Rattle.std.proofs.lemmas.Bool.{cases_order, eqb-true}
-use Rattle.std.proofs.lemmas.List.{get_or_default, length-map}
+use Rattle.std.proofs.lemmas.List.{length-map}
 use Rattle.std.proofs.lemmas.List.Kept.{AllPairs-filter, AllPairs-from_increasing}
 use Rattle.bench_merge.specs.declared.merging.Placed.{Placed}
-use Rattle.bench_merge.specs.Order.{Clashes, Falls, IsOrder, OrderOrClash, Shares, of_part, stamps_at}
+use Rattle.bench_merge.specs.Order.{Falls, IsOrder, OrderOrClash, Shares, of_part, stamps_at}
 
 abbrev nowhere : Placed
 nowhere = record { stamp = 0; part = 0; place = 0 }

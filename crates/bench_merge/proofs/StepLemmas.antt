@@ -1,14 +1,14 @@
 -- One stamp more is taken; and all are.
-use Rattle.std.proofs.Common.{◌≡◌, ◌≢◌, ◌∙◌, ◌+◌, ◌-◌, ◌<◌, ◌≤◌, ℕ, zero, suc, List, [], ◌∷◌, ◌++◌, Bool, true, false, length, take, set, map, refl, ap, sym, subst, arith, inl, inr}
-use Rattle.std.specs.Prelude.{slice_index, slice_index_or, nat_le, nat_eq, filter, replicate, Option, None, Some, ◌⊎◌, cond}
+use Rattle.std.proofs.Common.{◌≡◌, ◌≢◌, ◌∙◌, ◌+◌, ◌-◌, ◌<◌, ◌≤◌, ℕ, zero, suc, List, [], ◌∷◌, ◌++◌, false, length, take, set, map, refl, ap, sym, subst, arith, inl, inr}
+use Rattle.std.specs.Prelude.{slice_index, nat_eq, replicate, Option, None, Some}
 use Rattle.std.specs.List.{range_with_len}
 use Rattle.std.specs.List.Sorted.{IsStrictlyIncreasing}
 use Rattle.std.proofs.lemmas.Bool.{cases_eq, cases_lt, eq-eqb, ne_eqb, leb-false, cond-true, cond-false}
-use Rattle.std.proofs.lemmas.List.{append-nil, get_or-set_same, get_or-set_other, get_or_append_left, get_or_at, get_or_past, length-map, length-set, length_push, map-append, take_all, take_more}
+use Rattle.std.proofs.lemmas.List.{append-nil, get_or-set_same, get_or-set_other, get_or_append_left, get_or_at, get_or_past, length-set, length_push, map-append, take_all, take_more}
 use Rattle.std.proofs.lemmas.List.Elements.{filter-append}
 use Rattle.bench_merge.specs.declared.merging.Placed.{Placed}
 use Rattle.bench_merge.specs.Order.{IsOrder, of_part, stamps_at}
-use Rattle.bench_merge.specs.Heads.{IsHead, IsLast, IsLeast, IsTaken, IsTop, Merging, UpTo, is_late}
+use Rattle.bench_merge.specs.Heads.{IsHead, IsTaken, IsTop, Merging, UpTo, is_late}
 
 -- numbers rise with one above the last
 rising-push : (xs : List ℕ) (y : ℕ) → IsStrictlyIncreasing xs → (0 < length xs → slice_index xs (length xs - 1) < y)

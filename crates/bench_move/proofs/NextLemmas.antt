@@ -25,7 +25,7 @@ MovesNext-from_move settings past item book moved same move = record {
   machine = move.machine;
   before = move.before_is;
   event = rw move.before_is (move.event ∙ same.event item.event);
-  move = record { row = move.step.row; moves = move.step.moves };
+  move = move.step;
   outcomes = rw move.before_is (move.outcomes ∙ same.outcomes moved.deeds);
 }
 
@@ -35,6 +35,6 @@ move-from_MovesNext settings past item book moved same next = record {
   machine = next.machine;
   before_is = next.before;
   event = rw next.before at next.event ∙ sym (same.event item.event);
-  step = record { row = next.move.row; moves = next.move.moves };
+  step = next.move;
   outcomes = rw next.before at next.outcomes ∙ sym (same.outcomes moved.deeds);
 }

@@ -1,9 +1,8 @@
 -- One move of a machine, and what it leads to.
-use Rattle.std.specs.Prelude.{◌≡◌, ℕ, List, flat_map, option_map, ◌-◌, take, length}
-use Rattle.acct_book.specs.Book.{Book}
+use Rattle.std.specs.Prelude.{◌≡◌, ℕ, List, flat_map, ◌-◌, take, length}
+use Rattle.acct_book.specs.Book.{Book, Paged}
 use Rattle.acct_totals.specs.declared.op.Op.{Op}
-use Rattle.tab_law.specs.Books.{Laws, NamedPermits}
-use Rattle.tab_step.specs.Moves.{MovesBy, row_taken}
+use Rattle.tab_law.specs.Books.{Laws}
 use Rattle.tab_step.specs.declared.machine.MachineState.{MachineState}
 use Rattle.tab_text.specs.Contents.{Contents}
 use Rattle.bench_item.specs.declared.entry.Moved.{Moved}
@@ -13,15 +12,9 @@ use Rattle.bench_item.specs.Posts.{posts_of}
 use Rattle.bench_item.specs.Keys.{Configured, node_of}
 use Rattle.bench_spec.specs.Booked.{event_with_quote, ops_of, outcomes_for, want_of}
 use Rattle.bench_spec.specs.Items.{doer_of}
+use Rattle.bench_spec.specs.Legal.{IsMove}
 use Rattle.bench_move.specs.Tables.{Tables, table_of}
 use Rattle.bench_move.specs.declared.deciding.Decided.{Decided}
-
--- a move is a step by a table: by the first row that takes the event,
--- with registers and deeds that the row's actions may leave
-pub record HasStep (laws : Laws) (table : Contents) (moved : Moved) : Type 0 where
-  pub row : moved.row ≡ option_map (λ numbered. numbered.0) (row_taken table laws moved.before moved.event)
-  pub moves : MovesBy (NamedPermits laws) table moved.before moved.event (row_taken table laws moved.before moved.event)
-      moved.after moved.chain moved.deeds
 
 -- a move of the machine of that number, which stands there, at an item:
 -- a step at the item's event with the book's quote, with the outcomes that the book allows
@@ -30,7 +23,7 @@ pub record IsMoveOf (laws : Laws) (table : Contents) (book : Book) (number : ℕ
   pub machine : moved.machine ≡ number
   pub before_is : moved.before ≡ before
   pub event : moved.event ≡ event_with_quote book (want_of laws item before) item.event
-  pub step : HasStep laws table moved
+  pub step : IsMove laws table moved
   pub outcomes : moved.outcomes ≡ outcomes_for book (want_of laws item before) moved.deeds
 
 -- what the deeds of a move that an item led to post
@@ -51,3 +44,7 @@ pub record IsDecided (tables : Tables) (configured : Configured) (book : Book) (
 -- the book without its last operations, so many
 abbrev pub without_last : Book → ℕ → Book
 without_last book count = record { accounts = book.accounts; journal = take (length book.journal - count) book.journal }
+
+-- a page with another book
+abbrev pub Holds : Paged → Paged → Book → Type 0
+Holds old new book = (new.number ≡ old.number) × (new.pages ≡ old.pages) × (new.book ≡ book)

@@ -7,7 +7,7 @@ ghost use Rattle.acct_book.specs.Book.{after, with_book};
 ghost use Rattle.acct_totals.specs.declared.op.Outcome.TheVariants.{Refused};
 ghost use Rattle.charge_session.specs.Deeds.{op_of};
 ghost use Rattle.bench_spec.specs.Booked.{is_booking, ops_of, outcomes_for, outcomes_of};
-ghost use Rattle.bench_move.specs.Moves.{ops_for, without_last};
+ghost use Rattle.bench_move.specs.Moves.{Holds, ops_for, without_last};
 
 use crate::roles::Roles;
 use acct_book::Page;
@@ -167,5 +167,27 @@ pub(crate) fn outcomes_for(
     match want {
         None => refused(alloc, deeds),
         Some(_) => page_outcomes(alloc, page, ops),
+    }
+}
+
+/// Makes room for operations on a page.
+pub fn make_page_room(page: &mut Page, count: usize) -> Result<(), AllocError>
+    ensures ok { OnOk result (count ≤ page.new.room) }
+    ensures page { Holds page.old page.new page.old.book }
+{
+    match page.reserve_room(count) {
+        Ok(()) => Ok(()),
+        Err(_) => Err(AllocError),
+    }
+}
+
+/// Books operations, for which there is room.
+pub fn book_ops(page: &mut Page, ops: &[Op])
+    requires { length ops.now ≤ page.old.room }
+    ensures { Holds page.old page.new (fold after page.old.book ops.now) }
+{
+    match page.apply_all(ops) {
+        Ok(()) => {}
+        Err(_) => unreachable!(),
     }
 }

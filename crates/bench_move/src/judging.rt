@@ -1,10 +1,10 @@
 //! Whether a given move is one, by the laws and the account book alone: no callback is asked.
 
-ghost use Rattle.std.specs.Prelude.{◌≡◌, ◌↔◌, ◌≤◌, length, option_map, IfOk, IsTrue};
+ghost use Rattle.std.specs.Prelude.{◌≡◌, ◌↔◌, ◌≤◌, length, IfOk, IsTrue};
 ghost use Rattle.acct_book.specs.Book.{with_book};
-ghost use Rattle.tab_law.specs.Books.{NamedPermits};
 ghost use Rattle.bench_spec.specs.Booked.{outcomes_for};
-ghost use Rattle.bench_move.specs.Moves.{HasStep, IsMoveOf};
+ghost use Rattle.bench_spec.specs.Legal.{IsMove};
+ghost use Rattle.bench_move.specs.Moves.{IsMoveOf};
 ghost use Rattle.bench_move.specs.Tables.{table_of};
 
 use crate::booking::{ops_of, outcomes_for};
@@ -85,7 +85,7 @@ fn has_outcomes(
 impl Roles {
     /// Whether a move is a step by a role's table.
     fn has_step(&self, role: Role, moved: &Moved, room: &mut Stepped) -> bool
-        ensures { IsTrue result ↔ HasStep self.now.laws (table_of self.now role) moved.now }
+        ensures { IsTrue result ↔ IsMove self.now.laws (table_of self.now role) moved.now }
     {
         let ready = self.ready(role);
         if !fits(moved) {

@@ -1,10 +1,10 @@
 -- What the reading half comes to, turn by turn.
-use Rattle.std.proofs.Common.{◌≡◌, ◌<◌, ◌≤◌, ◌⊎◌, ℕ, ◌+◌, Bool, true, false, ◌||◌, List, [], ◌∷◌, ◌++◌, Option, None, Some, Result, Ok, Err, OnOk, IfOk, IfErr, OnErr, length, take, map, All, refl, sym, ap, ◌∙◌, append_assoc, subst, inl, inr, arith, rules}
+use Rattle.std.proofs.Common.{◌≡◌, ◌<◌, ◌≤◌, ℕ, ◌+◌, Bool, true, false, ◌||◌, List, [], ◌∷◌, ◌++◌, Option, None, Some, Result, Ok, Err, OnOk, IfOk, IfErr, OnErr, length, take, map, refl, sym, ap, ◌∙◌, append_assoc, subst, inl, inr, arith, rules}
 use Rattle.std.proofs.lemmas.List.{append-nil, map-append, length-append, length-take-le}
 use Rattle.std.proofs.lemmas.List.Elements.{All-append}
 use Rattle.std.specs.List.{concat}
 use Rattle.std.specs.Io.KnownBytes.{Consumes, IsAtEnd}
-use Rattle.std.proofs.KnownBytes.{Consumes-nil, Consumes-trans}
+use Rattle.std.proofs.KnownBytes.{Consumes-trans}
 use Rattle.bench_net.specs.Events.{Event, Came, Lost, HasDeclined}
 use Rattle.bench_net.specs.Pipes.{HandsOn, IsEmpty, IsHeld, loss_waiting, refusal_of}
 use Rattle.bench_net.specs.Readings.{EndsBy, Hears, IsPiece, TurnsBy, end_behind_input, end_behind_piece, happened}

@@ -3,9 +3,9 @@ use Rattle.std.proofs.Common.{◌≡◌, ◌≤◌, ℕ, ◌+◌, List, [], ◌+
 use Rattle.std.proofs.lemmas.List.{length-append, length-take-le}
 use Rattle.std.specs.Io.KnownBytes.{Appends}
 use Rattle.std.proofs.KnownBytes.{Appends-nil, Appends-trans}
-use Rattle.bench_net.specs.Texts.{Copies, Grows, StandsAt}
+use Rattle.bench_net.specs.Texts.{Grows, StandsAt}
 use Rattle.bench_net.specs.Writings.{Sends}
-use Rattle.bench_net.proofs.TextLemmas.{StandsAt-copied, StandsAt-grown, StandsAt-join, StandsAt-nil}
+use Rattle.bench_net.proofs.TextLemmas.{StandsAt-grown, StandsAt-join, StandsAt-nil}
 
 -- more octets went out
 pub Sends-more : {P O : Type 0} (sent : P → Option (List ℕ)) (contents : O → Option (List ℕ)) (port : P) (p q r : ℕ) (s t u : O) (n m : ℕ) (octets : List ℕ)

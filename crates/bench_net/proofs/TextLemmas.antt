@@ -1,6 +1,6 @@
 -- Texts that grow, and parts of them.
-use Rattle.std.proofs.Common.{◌≡◌, ◌≤◌, ◌<◌, ◌⊎◌, ℕ, ◌+◌, List, [], ◌∷◌, ◌++◌, Option, None, Some, length, drop, take, refl, sym, ap, ◌∙◌, append_assoc, inl, inr, arith, min}
-use Rattle.std.proofs.lemmas.List.{append-nil, drop_all, length-drop, drop-append-le, drop-drop, length-take-le, take-append-drop, take-take}
+use Rattle.std.proofs.Common.{◌≡◌, ◌≤◌, ◌<◌, ℕ, ◌+◌, List, [], ◌∷◌, ◌++◌, Option, None, Some, length, drop, take, refl, sym, ap, ◌∙◌, append_assoc, inl, inr, arith}
+use Rattle.std.proofs.lemmas.List.{append-nil, drop_all, length-drop, drop-append-le, drop-drop, take-append-drop, take-take}
 use Rattle.std.proofs.lemmas.Bool.Decides.{leb_tells}
 use Rattle.std.proofs.Math.Seq.{drop-append_seam}
 use Rattle.bench_net.specs.Texts.{Copies, EndsAt, Grows, StandsAt}

@@ -1,5 +1,5 @@
 -- What a port's answer means to what it was offered.
-use Rattle.std.specs.Prelude.{◌≡◌, Result, Ok, Err}
+use Rattle.std.specs.Prelude.{Result, Ok, Err}
 use Rattle.bench_net.specs.declared.refusal.Refusal.{Refusal}
 use Rattle.bench_net.specs.declared.refusal.Refusal.TheVariants as refusals
 use Rattle.bench_net.specs.declared.settle.Answer.{Answer}

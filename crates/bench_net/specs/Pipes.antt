@@ -1,5 +1,5 @@
 -- What a pipe keeps for the port, and what handing it on means.
-use Rattle.std.specs.Prelude.{◌≡◌, ◌==◌, ℕ, Bool, true, false, List, Option, [], ◌∷◌, ◌++◌, take, if◌then◌else◌}
+use Rattle.std.specs.Prelude.{◌≡◌, ◌==◌, ℕ, Bool, false, List, Option, [], ◌∷◌, ◌++◌, take, if◌then◌else◌}
 use Rattle.bench_net.specs.Events.{Event, Came, Lost, AllSettled}
 use Rattle.bench_net.specs.Texts.{Grows}
 use Rattle.bench_net.specs.declared.pipe.Pipe.{Pipe}

@@ -1,5 +1,5 @@
 -- What a call of pump comes to.
-use Rattle.std.specs.Prelude.{◌≡◌, ◌<◌, ◌⊎◌, ℕ, ◌+◌, ◌^◌, max, Bool, true, false, List, [], Option, None, Some, Result}
+use Rattle.std.specs.Prelude.{◌≡◌, ◌<◌, ◌⊎◌, ℕ, ◌+◌, ◌^◌, max, Bool, true, false, List, [], Option, Result}
 use Rattle.std.specs.Prelude.{Ok, Err, length}
 use Rattle.std.specs.Io.KnownBytes.{IsAtEnd}
 use Rattle.std.specs.List.{concat}

@@ -1,7 +1,7 @@
 //! A call of `pump`: what came is read and handed on, and then what was sent goes out.
 ghost use Rattle.std.specs.Prelude.{◌≡◌, ◌<◌, ◌≤◌, ◌+◌, ◌⊎◌, ◌&&◌, ◌^◌, max, not, Err, IfErr, OnOk};
 ghost use Rattle.bench_net.specs.Pipes.{HandsOn, loss_waiting, waiting};
-ghost use Rattle.bench_net.specs.Pumps.{code_by, is_ended, read_of, written_of, most_read, most_written};
+ghost use Rattle.bench_net.specs.Pumps.{code_by, is_ended, written_of, most_read, most_written};
 ghost use Rattle.bench_net.specs.Pumps.{IsHeard, HasCause, IsHeldBy, IsOver};
 ghost use Rattle.bench_net.specs.Texts.{EndsAt};
 ghost use Rattle.bench_net.specs.Writings.{Sends};

@@ -4,8 +4,8 @@ ghost use Rattle.bench_node.specs.Going.{is_dialling};
 ghost use Rattle.bench_spec.specs.Taken.{shown};
 
 use crate::node::PeerAddress;
-use bench_core::Core;
 use bench_item::LineState;
+use live_desk::Core;
 use std::alloc::{AllocError, Global};
 use std::net::SocketAddr;
 

@@ -11,8 +11,8 @@ ghost use Rattle.bench_spec.specs.Taken.{Takes, fault_of, shown};
 use crate::dials::NextDial;
 use crate::node::{LINE_PLACES, LiveNode};
 use base_list::Octets;
-use bench_core::ReplayError;
 use bench_item::{Entry, LineState, Step, StepFault};
+use live_desk::ReplayError;
 
 impl LiveNode {
     // Takes a step that works no shard and carries nothing, or refuses it for its first reason. No callback is asked.

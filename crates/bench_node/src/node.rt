@@ -3,7 +3,7 @@ ghost use Rattle.std.specs.Prelude.{◌≡◌, IfOk};
 ghost use Rattle.role_tables.specs.Roles.{all_laws};
 
 use crate::dials::Dials;
-use bench_core::Core;
+use live_desk::Core;
 use std::alloc::{AllocError, Global};
 use std::marker::Model;
 use std::net::SocketAddr;

@@ -7,9 +7,9 @@ ghost use Rattle.bench_spec.specs.Opening.{opening_refusal, settings_of};
 ghost use Rattle.bench_spec.specs.Taken.{opened};
 ghost use Rattle.role_tables.specs.Roles.{all_laws};
 
-use bench_core::Core;
 use bench_open::Config;
 use bench_spec::OpeningError;
+use live_desk::Core;
 use std::alloc::Global;
 use tab_call::Registry;
 

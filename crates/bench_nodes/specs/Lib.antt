@@ -6,3 +6,4 @@ pub mod Crossings
 pub mod Settled
 pub mod Scripts
 pub mod Told
+pub use Rattle.bench_script.specs.Printed

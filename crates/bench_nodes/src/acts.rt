@@ -5,8 +5,7 @@ ghost use Rattle.bench_nodes.specs.Acts.{ActsAt, ActsHere, AreBooksOf, settings_
 
 use crate::marked::{put_marked, word_of};
 use crate::node::Node;
-use bench_core::Core;
-use bench_script::run_script;
+use bench_script::{Core, run_script};
 use script_text::RunLine;
 use std::alloc::{AllocError, Global};
 use tab_call::Registry;

@@ -1,5 +1,5 @@
 //! Connections that are being dialled are accepted by a node, or lost.
-ghost use Rattle.std.specs.Prelude.{◌≡◌, ◌<◌, ◌≤◌, ◌^◌, IfOk};
+ghost use Rattle.std.specs.Prelude.{◌≡◌, ◌<◌, ◌≤◌, IfOk};
 ghost use Rattle.bench_item.specs.declared.limit.TheConstants.{MAX_ENTRIES};
 ghost use Rattle.bench_script.specs.Printed.{machine_at};
 ghost use Rattle.bench_nodes.specs.Crossings.{accepts, dialled_by, fails, is_caller, lines_of, listener_of, of_dial};
@@ -7,9 +7,8 @@ ghost use Rattle.bench_nodes.specs.Crossings.{of_line, of_node, of_nodes};
 
 use crate::links::{if_free, stands_at};
 use crate::node::{Crossing, End, Link, Linked, Node};
-use bench_core::Core;
 use bench_item::{Key, LineState, Step, is_same_host};
-use bench_script::line_count;
+use bench_script::{Core, line_count};
 use std::alloc::{AllocError, Global};
 
 /// Whether a line has dialled a connection between nodes.

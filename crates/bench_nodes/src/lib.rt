@@ -21,6 +21,7 @@ mod node;
 mod script;
 mod settled;
 
+pub use bench_script::{Core, put_taken};
 pub use ends::{put_node_lines, put_node_totals};
 pub use node::{Crossing, End, Link, Linked, Node, Way};
 pub use script::{NodeLine, read_nodes_script, run_nodes};

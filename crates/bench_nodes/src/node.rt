@@ -3,8 +3,8 @@ ghost use Rattle.std.specs.Prelude.{◌≡◌};
 ghost use Rattle.bench_nodes.specs.Ends.{count_of, from_end, to_end, with_count};
 
 use base_list::Octets;
-use bench_core::Core;
 use bench_item::Step;
+use bench_script::Core;
 
 /// A node, and its bench.
 pub struct Node {

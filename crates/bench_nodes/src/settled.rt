@@ -2,7 +2,7 @@
 ghost use Rattle.std.specs.Prelude.{◌≡◌, ◌≤◌, IfOk, List, OnOk, Some, length, map};
 ghost use Rattle.std.specs.List.{AllByRecursion as Each};
 ghost use Rattle.bench_item.specs.declared.limit.TheConstants.{MAX_ENTRIES};
-ghost use Rattle.bench_nodes.specs.Acts.{ActsAt, AreBooksOf, settings_of};
+ghost use Rattle.bench_nodes.specs.Acts.{AreBooksOf, settings_of};
 ghost use Rattle.bench_nodes.specs.Crossings.{links_after, next_crossing};
 ghost use Rattle.bench_nodes.specs.declared.node.Link.{Link};
 ghost use Rattle.bench_nodes.specs.Settled.{AllSettle, Crosses, EachSettled, net};

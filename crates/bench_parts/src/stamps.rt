@@ -1,7 +1,7 @@
 //! The stamps of parts.
 ghost use Rattle.std.specs.Prelude.{◌≡◌, IfOk, map};
 ghost use Rattle.bench_spec.specs.Merged.{stamp_of};
-ghost use Rattle.bench_parts.specs.Views.{kept_in, kept_of, stamps_in};
+ghost use Rattle.bench_parts.specs.Views.{kept_of, stamps_in};
 
 use crate::view::{Lent, Note, stamped_len};
 use bench_item::Series;

@@ -1,9 +1,8 @@
 //! Messages of credit control for machines.
 
-ghost use Rattle.bench_item.specs.Posts.{to_peer, to_session, has_session};
+ghost use Rattle.bench_item.specs.Posts.{to_peer, to_session};
 ghost use Rattle.bench_post.specs.Made.{Makes};
 ghost use Rattle.bench_item.specs.Keys.{node_of};
-ghost use Rattle.bench_post.specs.Nodes.{doer_of};
 
 use crate::event::{carry, event_of};
 use crate::session::session_event;

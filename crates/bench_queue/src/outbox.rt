@@ -1,6 +1,6 @@
 //! What a source puts out.
 ghost use Rattle.std.specs.Prelude.{◌≡◌, ◌<◌, ◌≤◌, ◌∷◌, ◌-◌, [], None, Ok, IsOk, IfOk, OnOk, OnErr, IsTrue, length};
-ghost use Rattle.std.specs.Prelude.{max, nat_lt, option_copied};
+ghost use Rattle.std.specs.Prelude.{max, option_copied};
 ghost use Rattle.bench_queue.specs.Outbox.{IsCounted, OutboxState, can_lift, dropped_one, hand_out, has_hand};
 ghost use Rattle.bench_queue.specs.Outbox.{items_out, lifted_one, next_out, nothing_out, put_out, undropped_one};
 ghost use Rattle.bench_queue.specs.Outbox.{unlifted_one, waiting_out, without_out};

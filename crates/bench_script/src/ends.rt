@@ -1,6 +1,5 @@
 //! What is printed at the end of a run: where lines stand and what they sent, and what stands on accounts.
-ghost use Rattle.std.specs.Prelude.{◌≡◌, ◌++◌, ◌≤◌, OnOk, decimal};
-ghost use Rattle.bench_item.specs.declared.limit.TheConstants.{MAX_ENTRIES};
+ghost use Rattle.std.specs.Prelude.{◌≡◌, ◌++◌, OnOk, decimal};
 ghost use Rattle.bench_script.specs.Ends.{account_text, host_text, line_text, lines_text, stands_text};
 ghost use Rattle.bench_script.specs.Ends.{state_text, sums_text, totals_text};
 ghost use Rattle.bench_script.specs.Printed.{machine_at};

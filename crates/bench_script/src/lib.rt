@@ -15,6 +15,7 @@ mod next;
 mod script;
 mod steps;
 
+pub use bench_core::Core;
 pub use ends::{put_lines, put_stands, put_totals};
 pub use entry::put_taken;
 pub use next::line_count;

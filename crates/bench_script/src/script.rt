@@ -1,5 +1,5 @@
 //! The lines of a script.
-ghost use Rattle.std.specs.Prelude.{◌≡◌, OnOk, map};
+ghost use Rattle.std.specs.Prelude.{OnOk, map};
 ghost use Rattle.bench_script.specs.Ran.{Does, DoesAsked, IsRunBy, Prints, Ran};
 
 use crate::steps::{fire, settle, try_step};

@@ -1,5 +1,5 @@
 //! Registries of callbacks that answer by the laws of all roles, made for what is done with them.
-ghost use Rattle.std.specs.Prelude.{◌≡◌, IfOk, List, ⊤, map, replicate};
+ghost use Rattle.std.specs.Prelude.{IfOk, List, ⊤, map, replicate};
 ghost use Rattle.role_tables.specs.Roles.{all_laws};
 ghost use Rattle.tab_law.specs.Books.{Laws};
 

@@ -1,5 +1,5 @@
 //! The octets by which a directory knows a machine.
-ghost use Rattle.std.specs.Prelude.{◌≡◌, IfOk, option_copied, slice_index};
+ghost use Rattle.std.specs.Prelude.{◌≡◌, IfOk};
 ghost use Rattle.bench_shard.specs.Lent.{key_lent};
 ghost use Rattle.bench_shard.specs.Names.{key_in, key_octets, octet_role, role_octet};
 

@@ -1,7 +1,6 @@
 //! A shard is made, with the machines of its peers.
-ghost use Rattle.std.specs.Prelude.{◌≡◌, ◌≤◌, ◌<◌, ◌++◌, ◌∷◌, [], None, IfOk, OnOk, length, replicate};
-ghost use Rattle.sess_dir.specs.Names.{place_of};
-ghost use Rattle.bench_item.specs.Keys.{key_of, node_of, number_at};
+ghost use Rattle.std.specs.Prelude.{◌≡◌, ◌≤◌, ◌<◌, ◌++◌, ◌∷◌, [], IfOk, OnOk, length};
+ghost use Rattle.bench_item.specs.Keys.{node_of, number_at};
 ghost use Rattle.bench_item.specs.declared.key.Role.TheVariants.{Peer};
 ghost use Rattle.bench_item.specs.declared.limit.TheConstants.{MAX_MACHINES, MAX_SHARDS};
 ghost use Rattle.bench_spec.specs.Machines.{start};

@@ -1,6 +1,6 @@
 //! A shard without its tables and callbacks.
-ghost use Rattle.std.specs.Prelude.{◌≡◌, ◌≤◌, ◌<◌, IfOk, IfSome, OnOk, length, option_map, slice_get};
-ghost use Rattle.bench_item.specs.declared.limit.TheConstants.{MAX_MACHINES, MAX_SHARDS};
+ghost use Rattle.std.specs.Prelude.{◌≡◌, ◌≤◌, ◌<◌, IfOk, IfSome, length, option_map, slice_get};
+ghost use Rattle.bench_item.specs.declared.limit.TheConstants.{MAX_MACHINES};
 ghost use Rattle.bench_queue.specs.Inbox.{items_in};
 ghost use Rattle.bench_queue.specs.Outbox.{items_out};
 ghost use Rattle.bench_shard.specs.Lent.{key_lent};

@@ -1,14 +1,14 @@
 //! What a shard is to do next.
-ghost use Rattle.std.specs.Prelude.{◌≡◌, ◌<◌, ◌≤◌, ◌==◌, false, IfOk, IfSome, length};
+ghost use Rattle.std.specs.Prelude.{◌≡◌, ◌<◌, ◌≤◌, ◌==◌, false, IfOk, length};
 ghost use Rattle.std.specs.Prelude.{slice_get, slice_index, unwrap_or};
 ghost use Rattle.bench_item.specs.Keys.{number_at};
-ghost use Rattle.bench_item.specs.declared.limit.TheConstants.{MAX_MACHINES, MAX_SHARDS};
+ghost use Rattle.bench_item.specs.declared.limit.TheConstants.{MAX_MACHINES};
 ghost use Rattle.bench_spec.specs.Machines.{holds, start};
 ghost use Rattle.bench_spec.specs.Refusal.{is_empty};
 ghost use Rattle.bench_queue.specs.Inbox.{items_in};
 ghost use Rattle.bench_shard.specs.Refusal.{lacks_work_room, work_refusal};
 ghost use Rattle.bench_shard.specs.Tasks.{fate_of, page_of};
-ghost use Rattle.bench_shard.specs.View.{lacks_room, place_in, state_for, with_paused};
+ghost use Rattle.bench_shard.specs.View.{place_in, state_for, with_paused};
 
 use crate::fault::WorkFault;
 use crate::open::{number_at, start};

@@ -3,7 +3,6 @@ ghost use Rattle.std.specs.Prelude.{◌≡◌, ◌++◌, ◌+◌, ◌<◌, IfNon
 ghost use Rattle.std.specs.Prelude.{option_copied, slice_get, true};
 ghost use Rattle.bench_item.specs.declared.entry.Entry.{Entry as LogEntry};
 ghost use Rattle.bench_item.specs.declared.limit.TheConstants.{MAX_ENTRIES};
-ghost use Rattle.bench_script.specs.Printed.{taken_text};
 ghost use Rattle.bench_spec.specs.Machines.{number_of};
 ghost use Rattle.bench_show.specs.History.{LastMove, MovesNone, history_text, move_in, moves, numbered_text, told_of};
 

@@ -1,7 +1,7 @@
 //! What waits in each outbox, hand and inbox.
 ghost use Rattle.std.specs.Prelude.{◌≡◌, ◌++◌, ◌-◌, ◌<◌, ◌^◌, OnOk, codes, decimal, flat_map, true};
 ghost use Rattle.bench_show.specs.Queues.{event_text, inbox_line, inbox_text, item_text, queue_text, queues_text};
-ghost use Rattle.bench_show.specs.Queues.{queues_to, source_at, source_text, waiting_line, waiting_text};
+ghost use Rattle.bench_show.specs.Queues.{queues_to, source_at, source_text, waiting_line};
 ghost use Rattle.bench_show.specs.Timers.{machine_text};
 ghost use Rattle.bench_spec.specs.Refusal.{is_source};
 ghost use Rattle.bench_spec.specs.Taken.{shown};

@@ -1,14 +1,14 @@
 //! The event, the row and the guards of a move.
-ghost use Rattle.std.specs.Prelude.{◌≡◌, ◌++◌, ◌+◌, ◌<◌, ◌∷◌, [], All, OnOk, Some, codes, decimal, flat_map, length};
+ghost use Rattle.std.specs.Prelude.{◌≡◌, ◌++◌, ◌+◌, ◌<◌, [], All, OnOk, Some, flat_map, length};
 ghost use Rattle.std.specs.Prelude.{map, option_copied, slice_get};
 ghost use Rattle.base_list.specs.Named.{entry_of};
 ghost use Rattle.bench_item.specs.declared.entry.Moved.{Moved as OneMove};
-ghost use Rattle.bench_show.specs.History.{move_in, numbered_text};
+ghost use Rattle.bench_show.specs.History.{move_in};
 ghost use Rattle.bench_show.specs.Why.{answer_words, answers_line, answers_words, count_to, event_line, guards_text};
-ghost use Rattle.bench_show.specs.Why.{is_of, names_in, rows_to, taken_row, told_row, why_text};
+ghost use Rattle.bench_show.specs.Why.{is_of, rows_to, taken_row, told_row, why_text};
 ghost use Rattle.step_text.specs.Lines.{behind, fact_words};
 ghost use Rattle.tab_law.specs.Books.{named_answer};
-ghost use Rattle.tab_step.specs.Moves.{is_kind_of, name_at, scene_of};
+ghost use Rattle.tab_step.specs.Moves.{is_kind_of, name_at};
 ghost use Rattle.tab_text.specs.Contents.{IsRowOf};
 ghost use Rattle.tab_text.specs.declared.row.Row.{Row as TableRow};
 

@@ -17,7 +17,7 @@ use Rattle.bench_spec.proofs.PermitLemmas.{permitted}
 use Rattle.bench_spec.proofs.TextLemmas.{octet_is_utf8}
 
 -- each move is by the one row of its table
-asks_x : IsMove settings settings.client (asked 0 of_x)
+asks_x : IsMove settings.node.laws settings.client (asked 0 of_x)
 asks_x = record {
   row = refl;
   moves = record {
@@ -33,7 +33,7 @@ asks_x = record {
   };
 }
 
-asks_y : IsMove settings settings.client (asked 4097 of_y)
+asks_y : IsMove settings.node.laws settings.client (asked 4097 of_y)
 asks_y = record {
   row = refl;
   moves = record {
@@ -50,7 +50,7 @@ asks_y = record {
   };
 }
 
-asks_z : IsMove settings settings.client (asked 4097 of_z)
+asks_z : IsMove settings.node.laws settings.client (asked 4097 of_z)
 asks_z = record {
   row = refl;
   moves = record {
@@ -67,7 +67,7 @@ asks_z = record {
   };
 }
 
-loops_x : IsMove settings settings.peer (looped of_x)
+loops_x : IsMove settings.node.laws settings.peer (looped of_x)
 loops_x = record {
   row = refl;
   moves = record {
@@ -83,7 +83,7 @@ loops_x = record {
   };
 }
 
-loops_y : IsMove settings settings.peer (looped of_y)
+loops_y : IsMove settings.node.laws settings.peer (looped of_y)
 loops_y = record {
   row = refl;
   moves = record {
@@ -99,7 +99,7 @@ loops_y = record {
   };
 }
 
-loops_z : IsMove settings settings.peer (looped of_z)
+loops_z : IsMove settings.node.laws settings.peer (looped of_z)
 loops_z = record {
   row = refl;
   moves = record {
@@ -115,7 +115,7 @@ loops_z = record {
   };
 }
 
-reserves_x : IsMove settings settings.server reserved_x
+reserves_x : IsMove settings.node.laws settings.server reserved_x
 reserves_x = record {
   row = refl;
   moves = record {
@@ -131,7 +131,7 @@ reserves_x = record {
   };
 }
 
-reserves_y : IsMove settings settings.server reserved_y
+reserves_y : IsMove settings.node.laws settings.server reserved_y
 reserves_y = record {
   row = refl;
   moves = record {
@@ -147,7 +147,7 @@ reserves_y = record {
   };
 }
 
-reserves_z : IsMove settings settings.server (reserving_z Refused)
+reserves_z : IsMove settings.node.laws settings.server (reserving_z Refused)
 reserves_z = record {
   row = refl;
   moves = record {

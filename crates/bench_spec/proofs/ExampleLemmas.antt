@@ -170,7 +170,7 @@ allowed register false is = rw is (others register is)
 permitted : Permits arm_law scene (regs_with 1) (move_by 0 30).deeds
 permitted = record { registers = λ register within. allowed register (15 == register) refl; emits = refl }
 
-move : IsMove settings peer_table (move_by 0 30)
+move : IsMove settings.node.laws peer_table (move_by 0 30)
 move = record {
   row = refl;
   moves = record { state = refl; runs = ((move_by 0 30).deeds, [], permitted, refl, refl); regs = refl };

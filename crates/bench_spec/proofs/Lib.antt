@@ -12,8 +12,6 @@ pub mod OrderLemmas
 pub mod PermitLemmas
 pub mod TextLemmas
 pub mod PlayedLemmas
-pub mod OctetLemmas
-pub mod OctetLegal
 pub mod SessionLemmas
 pub mod ChargeLemmas
 pub mod MergedLemmas

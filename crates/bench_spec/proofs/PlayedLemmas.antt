@@ -89,7 +89,7 @@ pub played_is_move : (settings : Settings) (table : Contents) (past : List Entry
     → row_taken table settings.node.laws state event ≡ Some numbered
     → EachFound settings.node.laws (map (name_at table.actions) numbered.1.actions)
     (laws_of_row settings.node.laws table numbered.1)
-    → IsMove settings table
+    → IsMove settings.node.laws table
     (move_with settings past item state event (played_by settings.node.laws table state event (Some numbered)))
 played_is_move settings table past item state event numbered taken found = record {
   row = sym (ap (option_map (λ (n : ℕ × Row). n.0)) taken);

@@ -9,6 +9,7 @@ use Rattle.std.proofs.lemmas.Bool.Decides.{nat_tests}
 use Rattle.std.proofs.lemmas.Grind.{flat_map-append}
 use Rattle.std.proofs.lemmas.Slice.Eq.{bytes_eq-Decides}
 use Rattle.acct_book.specs.Laws.{EachAfter}
+use Rattle.tab_law.specs.Books.{Laws}
 use Rattle.tab_step.specs.declared.machine.MachineState.{MachineState}
 use Rattle.tab_text.specs.Contents.{Contents}
 use Rattle.bench_item.specs.declared.entry.Entry.{Entry}
@@ -115,10 +116,10 @@ number_stays node past rest step item moved =
     peers = map (key_of Peer) (peers_in node shard)
 
 -- runs, one behind the other
-run_append : (settings : Settings) (table : Contents) (s : MachineState) (xs ys : List Moved)
-    → IsRun settings table s xs → IsRun settings table (state_after s xs) ys → IsRun settings table s (xs ++ ys)
-run_append settings table s [] ys h k = k
-run_append settings table s (x ∷ xs) ys h k = (h.0, h.1, run_append settings table x.after xs ys h.2 k)
+pub run_append : (laws : Laws) (table : Contents) (s : MachineState) (xs ys : List Moved)
+    → IsRun laws table s xs → IsRun laws table (state_after s xs) ys → IsRun laws table s (xs ++ ys)
+run_append laws table s [] ys h k = k
+run_append laws table s (x ∷ xs) ys h k = (h.0, h.1, run_append laws table x.after xs ys h.2 k)
 
 pub after_append : (s : MachineState) (xs ys : List Moved) → state_after s (xs ++ ys) ≡ state_after (state_after s xs) ys
 after_append s [] ys = refl
@@ -128,14 +129,14 @@ after_append s (x ∷ xs) ys = after_append x.after xs ys
 abbrev stands_in : Settings → List Entry → List Entry → Key → MachineState
 stands_in settings whole past key = state_after (start (number_for settings.node whole key)) (moves_of past key)
 
-no_moves : (settings : Settings) (table : Contents) (s : MachineState) (b : Bool)
-    → IsRun settings table s ((if b then [] else []) ++ [])
-no_moves settings table s true = tt
-no_moves settings table s false = tt
+no_moves : (laws : Laws) (table : Contents) (s : MachineState) (b : Bool)
+    → IsRun laws table s ((if b then [] else []) ++ [])
+no_moves laws table s true = tt
+no_moves laws table s false = tt
 
 own_move : (settings : Settings) (past rest : List Entry) (step : Step) (item : MachineItem) (moved : Moved)
     → MovesNext settings past item moved
-    → IsRun settings (table_of settings item.key.role)
+    → IsRun settings.node.laws (table_of settings item.key.role)
     (stands_in settings (past ++ entry_of step (Some (ToMachine item)) (Some (Move moved)) ∷ rest) past item.key)
     (moved ∷ [])
 own_move settings past rest step item moved next = (
@@ -147,18 +148,18 @@ own_move settings past rest step item moved next = (
 
 move_run : (settings : Settings) (key : Key) (past rest : List Entry) (step : Step) (item : MachineItem) (moved : Moved)
     (b : Bool) → is_same_key key item.key ≡ b → MovesNext settings past item moved
-    → IsRun settings (table_of settings key.role)
+    → IsRun settings.node.laws (table_of settings key.role)
     (stands_in settings (past ++ entry_of step (Some (ToMachine item)) (Some (Move moved)) ∷ rest) past key)
     ((if b then moved ∷ [] else []) ++ [])
 move_run settings key past rest step item moved true is next =
-    subst (λ k. IsRun settings (table_of settings k.role)
+    subst (λ k. IsRun settings.node.laws (table_of settings k.role)
     (stands_in settings (past ++ entry_of step (Some (ToMachine item)) (Some (Move moved)) ∷ rest) past k)
     (moved ∷ [])) (sym (key_sound key item.key is)) (own_move settings past rest step item moved next)
 move_run settings key past rest step item moved false is next = tt
 
 entry_run : (settings : Settings) (key : Key) (past rest : List Entry) (step : Step) (item : Option Item)
     (handled : Option Handled) → HasParts settings past (entry_of step item handled)
-    → IsRun settings (table_of settings key.role)
+    → IsRun settings.node.laws (table_of settings key.role)
     (stands_in settings (past ++ entry_of step item handled ∷ rest) past key)
     (moves_in key (entry_of step item handled))
 entry_run settings key past rest step None handled parts = tt
@@ -168,14 +169,14 @@ entry_run settings key past rest step (Some (Undial p g)) handled parts = tt
 entry_run settings key past rest step (Some (Arm m g t)) handled parts = tt
 entry_run settings key past rest step (Some (Disarm m)) handled parts = tt
 entry_run settings key past rest step (Some (ToMachine i)) None parts =
-    no_moves settings (table_of settings key.role)
+    no_moves settings.node.laws (table_of settings key.role)
     (stands_in settings (past ++ entry_of step (Some (ToMachine i)) None ∷ rest) past key) (is_same_key key i.key)
 entry_run settings key past rest step (Some (ToMachine i)) (Some TooBusy) parts =
-    no_moves settings (table_of settings key.role)
+    no_moves settings.node.laws (table_of settings key.role)
     (stands_in settings (past ++ entry_of step (Some (ToMachine i)) (Some TooBusy) ∷ rest) past key)
     (is_same_key key i.key)
 entry_run settings key past rest step (Some (ToMachine i)) (Some (Stale s)) parts =
-    no_moves settings (table_of settings key.role)
+    no_moves settings.node.laws (table_of settings key.role)
     (stands_in settings (past ++ entry_of step (Some (ToMachine i)) (Some (Stale s)) ∷ rest) past key)
     (is_same_key key i.key)
 entry_run settings key past rest step (Some (ToMachine i)) (Some (Move m)) parts =
@@ -187,13 +188,14 @@ moves-snoc : (past : List Entry) (e : Entry) (key : Key)
 moves-snoc past e key = flat_map-snoc (moves_in key) past e
 
 runs_from : (settings : Settings) (key : Key) (past rest : List Entry) → EachAfter (MayFollow settings) past rest
-    → IsRun settings (table_of settings key.role) (stands_in settings (past ++ rest) past key) (moves_of rest key)
+    → IsRun settings.node.laws (table_of settings key.role) (stands_in settings (past ++ rest) past key)
+    (moves_of rest key)
 runs_from settings key past [] legal = tt
 runs_from settings key past (e ∷ rest) legal =
-    run_append settings (table_of settings key.role) (stands_in settings (past ++ e ∷ rest) past key) (moves_in key e)
-    (moves_of rest key)
+    run_append settings.node.laws (table_of settings key.role) (stands_in settings (past ++ e ∷ rest) past key)
+    (moves_in key e) (moves_of rest key)
     (entry_run settings key past rest e.step e.item e.handled legal.0.parts)
-    (subst (λ s. IsRun settings (table_of settings key.role) s (moves_of rest key)) same
+    (subst (λ s. IsRun settings.node.laws (table_of settings key.role) s (moves_of rest key)) same
     (runs_from settings key (past ++ e ∷ []) rest legal.1))
   where
     same : stands_in settings ((past ++ e ∷ []) ++ rest) (past ++ e ∷ []) key

@@ -15,7 +15,7 @@ use Rattle.bench_spec.proofs.OrderLemmas.{order_by}
 use Rattle.bench_spec.proofs.PermitLemmas.{permitted}
 use Rattle.bench_spec.proofs.TextLemmas.{octet_is_utf8}
 
-begins : IsMove settings table (arming 0 0 0)
+begins : IsMove settings.node.laws table (arming 0 0 0)
 begins = record {
   row = refl;
   moves = record {
@@ -31,7 +31,7 @@ begins = record {
   };
 }
 
-goes_on : IsMove settings table (arming 1 1 1)
+goes_on : IsMove settings.node.laws table (arming 1 1 1)
 goes_on = record {
   row = refl;
   moves = record {
@@ -47,7 +47,7 @@ goes_on = record {
   };
 }
 
-ends : IsMove settings table ending
+ends : IsMove settings.node.laws table ending
 ends = record { row = refl; moves = record { state = refl; runs = refl; regs = refl } }
 
 follows_1 : MayFollow settings [] (carried (Told 0 session (event 0)) None)

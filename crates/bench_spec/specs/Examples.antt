@@ -156,7 +156,7 @@ pub row_of_start : option_map (λ numbered. numbered.0)
 row_of_start = refl
 
 -- the move that names the second one is none
-pub second_row : IsMove settings peer_table (move_by 1 30) → ⊥
+pub second_row : IsMove settings.node.laws peer_table (move_by 1 30) → ⊥
 second_row move = false≢true (ap (is_number 0) move.row)
 
 -- a timer that fires with the generation that the machine has is met, one with an older generation is stale

@@ -3,7 +3,7 @@ use Rattle.std.specs.Prelude.{◌≡◌, nat_le, ◌&&◌, Bool, List, [], ◌�
 use Rattle.std.specs.Prelude.{is_some, Option, Some, None, option_map, option_to_list}
 use Rattle.acct_book.specs.Book.{NeverOver}
 use Rattle.acct_book.specs.Laws.{EachAfter, IsAnswered}
-use Rattle.tab_law.specs.Books.{NamedPermits}
+use Rattle.tab_law.specs.Books.{Laws, NamedPermits}
 use Rattle.tab_step.specs.Moves.{MovesBy, row_taken}
 use Rattle.tab_step.specs.declared.machine.MachineState.{MachineState}
 use Rattle.tab_text.specs.Contents.{Contents}
@@ -25,13 +25,12 @@ use Rattle.bench_spec.specs.Machines.{directory, holds, key_numbered, moves_of, 
 use Rattle.bench_spec.specs.Refusal.{refusal}
 use Rattle.bench_spec.specs.Settings.{Settings, table_of}
 
--- one move by the rows of a table and the settings' laws: the first row that takes the event, and what its actions may
--- leave
-pub record IsMove (settings : Settings) (table : Contents) (moved : Moved) : Type 0 where
-  pub row : moved.row ≡ option_map (λ numbered. numbered.0)
-      (row_taken table settings.node.laws moved.before moved.event)
-  pub moves : MovesBy (NamedPermits settings.node.laws) table moved.before moved.event
-      (row_taken table settings.node.laws moved.before moved.event) moved.after moved.chain moved.deeds
+-- one move by the rows of a table and the laws: the first row that takes the event, and what its actions may leave
+-- (RFC 6733 section 5.6, RFC 8506 section 7)
+pub record IsMove (laws : Laws) (table : Contents) (moved : Moved) : Type 0 where
+  pub row : moved.row ≡ option_map (λ numbered. numbered.0) (row_taken table laws moved.before moved.event)
+  pub moves : MovesBy (NamedPermits laws) table moved.before moved.event (row_taken table laws moved.before moved.event)
+      moved.after moved.chain moved.deeds
 
 -- whether there is no room for a machine: it is not there, and its shard has all that it may have
 abbrev pub finds_no_room : Settings → List Entry → Key → Bool
@@ -50,7 +49,7 @@ pub record MovesNext (settings : Settings) (past : List Entry) (item : MachineIt
   pub before : moved.before ≡ state_at settings.node past item.key
   pub event : moved.event
       ≡ event_with_quote (book_at settings past) (want_of settings.node.laws item moved.before) item.event
-  pub move : IsMove settings (table_of settings item.key.role) moved
+  pub move : IsMove settings.node.laws (table_of settings item.key.role) moved
   pub outcomes : moved.outcomes
       ≡ outcomes_for (book_at settings past) (want_of settings.node.laws item moved.before) moved.deeds
 
@@ -99,16 +98,16 @@ IsLegal settings log = EachAfter (MayFollow settings) [] log
 -- what a legal log is to every reader:
 
 -- the moves are a run from a state: each begins where the one before ended, and is a move of the table
-abbrev pub IsRun : Settings → Contents → MachineState → List Moved → Type 0
-IsRun settings table state [] = Unit {0}
-IsRun settings table state (moved ∷ moves) =
-    (moved.before ≡ state) × IsMove settings table moved × IsRun settings table moved.after moves
+abbrev pub IsRun : Laws → Contents → MachineState → List Moved → Type 0
+IsRun laws table state [] = Unit {0}
+IsRun laws table state (moved ∷ moves) =
+    (moved.before ≡ state) × IsMove laws table moved × IsRun laws table moved.after moves
 
 -- of every machine: its moves are a run of the table of its role, from its start
 abbrev pub AreRuns : Settings → List Entry → Type 0
 AreRuns settings log =
-    (key : Key) → IsRun settings (table_of settings key.role) (start (number_for settings.node log key))
-    (moves_of log key)
+    (key : Key) → IsRun settings.node.laws (table_of settings key.role)
+    (start (number_for settings.node log key)) (moves_of log key)
 
 -- the outcomes of all that was booked are those that the book allows, each after those before it
 abbrev pub IsBookAnswered : Settings → List Entry → Type 0

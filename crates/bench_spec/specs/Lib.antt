@@ -19,13 +19,11 @@ pub mod ExampleLog
 pub mod SessionLog
 pub mod ChargeLog
 pub mod MergedLog
-pub mod OctetLog
 pub mod BusyLog
 pub mod LineExamples
 pub mod Examples
 pub mod OpeningExamples
 pub mod LogExamples
-pub mod OctetExamples
 pub mod Taken
 pub mod Debug
 pub mod Desks

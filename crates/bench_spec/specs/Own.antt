@@ -42,7 +42,8 @@ own_events settings log key =
 -- the events of a machine's moves are its own, and the moves are a run of its role's table, from its start
 pub record IsOwnRun (settings : Settings) (log : List Entry) (key : Key) : Type 0 where
   pub events : map (λ moved. moved.event) (moves_of log key) ≡ own_events settings log key
-  pub run : IsRun settings (table_of settings key.role) (start (number_for settings.node log key)) (moves_of log key)
+  pub run : IsRun settings.node.laws (table_of settings key.role) (start (number_for settings.node log key))
+      (moves_of log key)
 
 -- so it is in each legal log, for every machine
 abbrev pub EachIsOwnRun : Type 0

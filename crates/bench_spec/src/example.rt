@@ -6,7 +6,6 @@ ghost use Rattle.bench_spec.specs.ExampleLog as example;
 ghost use Rattle.bench_spec.specs.Legal.{IsLegal};
 ghost use Rattle.bench_spec.specs.Merged.{IsMerged};
 ghost use Rattle.bench_spec.specs.MergedLog as merged;
-ghost use Rattle.bench_spec.specs.OctetLog as octets;
 ghost use Rattle.bench_spec.specs.SessionLog as session;
 ghost use Rattle.bench_spec.specs.Taken.{opened, with_log};
 ghost use Rattle.std.specs.Prelude.{Ok};
@@ -42,12 +41,6 @@ pub fn charge_log_is_merged()
 /// A log of four entries is legal in which a session finds no room: its shard has the machines of 4,096 peers.
 pub fn busy_log_is_legal()
     ensures { IsLegal (busy.settings_with busy.full) busy.log }
-{}
-
-/// A log of fifteen entries from octets to a reservation is legal: a CER and a CCR come in one piece, the peer's
-/// connection is opened, and the session has its units (RFC 6733 section 5.3, RFC 8506 section 5.2).
-pub fn octet_log_is_legal()
-    ensures { IsLegal octets.settings octets.log }
 {}
 
 /// Those parts are gathered to the world of that log.

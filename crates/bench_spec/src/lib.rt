@@ -18,7 +18,7 @@ mod opening;
 
 pub use example::{
     busy_log_is_legal, charge_log_is_gathered, charge_log_is_legal, charge_log_is_merged,
-    example_is_legal, octet_log_is_legal, refused_log_is_legal, session_log_is_legal,
+    example_is_legal, refused_log_is_legal, session_log_is_legal,
 };
 pub use law::{
     fronts_are_legal, legal_book_is_answered, legal_goes_back, legal_goes_on, legal_is_own_run,

@@ -1,13 +1,13 @@
 -- What a bench keeps is what the log says behind one more entry that handles nothing: the general lemma, and what such an entry makes
 -- of outboxes, shards and lines.
-use Rattle.std.proofs.Common.{◌≡◌, ◌+◌, ℕ, zero, suc, List, [], ◌∷◌, ◌++◌, length, length-append, Bool, true, false, Option, Some, None, refl, sym, ◌∙◌, ap, subst, arith}
-use Rattle.std.specs.Prelude.{◌==◌, map, if◌then◌else◌}
+use Rattle.std.proofs.Common.{◌≡◌, ◌+◌, ℕ, zero, suc, List, [], ◌∷◌, ◌++◌, length, true, false, Option, None, refl, sym, ◌∙◌, ap, subst, arith}
+use Rattle.std.specs.Prelude.{map, if◌then◌else◌}
 use Rattle.std.proofs.lemmas.List.{append-nil}
 use Rattle.bench_item.specs.declared.entry.Entry.{Entry}
 use Rattle.bench_item.specs.declared.item.Item.{Item}
 use Rattle.bench_item.specs.declared.item.MachineItem.{MachineItem}
 use Rattle.bench_item.specs.declared.source.Source.{Source}
-use Rattle.bench_item.specs.declared.source.Source.TheVariants.{Clock, Desk, Line, Shard}
+use Rattle.bench_item.specs.declared.source.Source.TheVariants.{Line, Shard}
 use Rattle.bench_item.specs.declared.step.Step.{Step}
 use Rattle.bench_item.specs.Keys.{Node}
 use Rattle.bench_line.specs.Line.{LineView}
@@ -15,8 +15,7 @@ use Rattle.bench_line.specs.Lines.{AreLinesAfter}
 use Rattle.bench_queue.specs.Inbox.{InboxView, put_in}
 use Rattle.bench_queue.specs.Outbox.{OutboxView, can_lift, dropped_one, has_hand, lifted_one, put_out}
 use Rattle.bench_shard.specs.View.{ShardView, with_inbox, with_outbox}
-use Rattle.bench_spec.specs.Items.{InOrder, dropped, lifted, posts}
-use Rattle.bench_spec.specs.Lines.{opening_of}
+use Rattle.bench_spec.specs.Items.{dropped, lifted, posts}
 use Rattle.bench_spec.specs.Machines.{is_work}
 use Rattle.bench_spec.specs.Settings.{Settings}
 use Rattle.bench_spec.proofs.BookLemmas.{entry_of}
@@ -26,7 +25,7 @@ use Rattle.bench_views.specs.Pages.{page_at}
 use Rattle.bench_views.specs.Shards.{outbox_at}
 use Rattle.bench_views.specs.Stored.{EachAt, IsShardAt, IsTied, Stored, meaning_of, source_at}
 use Rattle.bench_views.specs.Timers.{IsArmedSo}
-use Rattle.bench_views.proofs.Acting.{Acts, each-acts, each-had, each-has, each-push}
+use Rattle.bench_views.proofs.Acting.{Acts, each-acts, each-had, each-has}
 use Rattle.bench_views.proofs.Carrying.{clock-after, desk-after, stands-carried}
 use Rattle.bench_views.proofs.Order.{dropped-snoc, lifted-snoc}
 use Rattle.bench_views.proofs.PageSteps.{page_at-unhandled}

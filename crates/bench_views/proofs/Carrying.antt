@@ -1,16 +1,13 @@
 -- A shard, an outbox and an inbox are what a log says, with one more entry without a move.
-use Rattle.std.proofs.Common.{◌≡◌, ◌+◌, ◌<◌, ◌≤◌, ℕ, List, [], ◌∷◌, ◌++◌, Bool, true, false, Option, Some, None, refl, sym, ◌∙◌, ap, subst, arith, length}
+use Rattle.std.proofs.Common.{◌≡◌, ◌+◌, ℕ, List, [], ◌∷◌, ◌++◌, false, Option, None, refl, sym, ◌∙◌, ap, length}
 use Rattle.std.specs.Prelude.{map, if◌then◌else◌, flat_map, option_to_list}
 use Rattle.std.proofs.lemmas.List.{append-nil, length-append}
 use Rattle.bench_item.specs.declared.entry.Entry.{Entry}
 use Rattle.bench_item.specs.declared.item.Item.{Item}
 use Rattle.bench_item.specs.declared.item.MachineItem.{MachineItem}
-use Rattle.bench_item.specs.declared.key.Key.{Key}
 use Rattle.bench_item.specs.declared.source.Source.{Source}
-use Rattle.bench_item.specs.declared.source.Source.TheVariants.{Clock, Desk, Line, Shard}
+use Rattle.bench_item.specs.declared.source.Source.TheVariants.{Clock, Desk, Shard}
 use Rattle.bench_item.specs.declared.step.Step.{Step}
-use Rattle.bench_item.specs.declared.step.Step.TheVariants.{Joined, Dialled, Came, Lost, Told, Fired, Lift, Drop, Work}
-use Rattle.bench_item.specs.Keys.{home}
 use Rattle.bench_queue.specs.Inbox.{InboxView}
 use Rattle.bench_queue.specs.Outbox.{OutboxView}
 use Rattle.bench_spec.specs.Items.{arrived, dropped, lifted, posts, work_posts, worked}
@@ -26,7 +23,7 @@ use Rattle.bench_views.specs.Shards.{inbox_at, outbox_at}
 use Rattle.bench_views.proofs.Directories.{directory-same}
 use Rattle.bench_views.proofs.Handled.{moves-none}
 use Rattle.bench_views.proofs.Order.{arrived-snoc, dropped-snoc, lifted-snoc, worked-snoc}
-use Rattle.bench_views.proofs.Standing.{states-same, states_of}
+use Rattle.bench_views.proofs.Standing.{states-same}
 
 -- the fields of views
 abbrev the_outbox : List Item → ℕ → ℕ → OutboxView

@@ -1,11 +1,10 @@
 -- The directory of a shard, the numbers of its machines and where they stand, with one more entry.
-use Rattle.std.proofs.Common.{◌≡◌, ◌+◌, ◌<◌, ◌≤◌, ℕ, List, [], ◌∷◌, ◌++◌, Bool, true, false, Option, Some, None, refl, sym, ◌∙◌, ap, subst, append_assoc, arith, length}
-use Rattle.std.specs.Prelude.{◌==◌, ◌&&◌, filter, map, flat_map, not, ◌||◌, cond, if◌then◌else◌, slice_set}
+use Rattle.std.proofs.Common.{◌≡◌, ◌+◌, ℕ, List, [], ◌∷◌, ◌++◌, Bool, true, false, refl, sym, ◌∙◌, ap, append_assoc, arith}
+use Rattle.std.specs.Prelude.{◌==◌, filter, map, flat_map, not, ◌||◌, cond}
 use Rattle.std.specs.List.{list_any, position_or_len, AllByRecursion as Each}
 use Rattle.std.proofs.lemmas.Bool.{false≢true}
 use Rattle.std.proofs.lemmas.Bool.Decides.{nat_tests}
 use Rattle.std.proofs.lemmas.List.{append-nil}
-use Rattle.tab_step.specs.declared.machine.MachineState.{MachineState}
 use Rattle.bench_item.specs.declared.entry.Entry.{Entry}
 use Rattle.bench_item.specs.declared.entry.Moved.{Moved}
 use Rattle.bench_item.specs.declared.item.MachineItem.{MachineItem}
@@ -16,7 +15,7 @@ use Rattle.bench_item.specs.Past.{distinct}
 use Rattle.bench_spec.specs.Machines.{directory, is_for, keys_in, moves_in, moves_of, number_for, start, state_after, state_at, taken_in}
 use Rattle.bench_spec.proofs.AfterLemmas.{flat_map-snoc}
 use Rattle.bench_spec.proofs.RunLemmas.{after_append, key_itself, key_sound}
-use Rattle.bench_views.proofs.Distinct.{AreApart, Each-append, Each-distinct, Each-filter, Each-passes, Each-weaker, distinct-snoc, distinct_apart, with_new}
+use Rattle.bench_views.proofs.Distinct.{AreApart, Each-append, Each-distinct, Each-passes, distinct-snoc, distinct_apart, with_new}
 
 -- one more entry that brings no machine into the shard
 pub directory-same : (node : Node) (shard : ℕ) (log : List Entry) (e : Entry) → keys_in node shard e ≡ [] → directory node shard (log ++ e ∷ []) ≡ directory node shard log

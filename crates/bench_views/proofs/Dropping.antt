@@ -1,45 +1,41 @@
 -- What a bench keeps is what the log says once the item in the hand of a source is dropped, by what the item is.
-use Rattle.std.proofs.Common.{◌≡◌, ◌+◌, ◌-◌, ◌<◌, ◌≤◌, ℕ, zero, suc, List, [], ◌∷◌, ◌++◌, length, length-append, Bool, true, false, Option, Some, None, refl, sym, ◌∙◌, ap, subst, arith}
-use Rattle.std.specs.Prelude.{◌==◌, ◌&&◌, filter, map, nat_lt, slice_get, if◌then◌else◌}
+use Rattle.std.proofs.Common.{◌≡◌, ◌+◌, ◌-◌, ◌<◌, ℕ, zero, suc, List, [], ◌∷◌, ◌++◌, length, length-append, Bool, true, false, Some, None, refl, sym, ◌∙◌, ap, subst, arith}
+use Rattle.std.specs.Prelude.{◌==◌, ◌&&◌, map, nat_lt, if◌then◌else◌}
 use Rattle.std.proofs.lemmas.Bool.{false≢true}
 use Rattle.std.proofs.lemmas.Bool.Decides.{nat_tests}
 use Rattle.std.proofs.lemmas.List.{append-nil}
-use Rattle.tick_wheel.specs.declared.timer.Armed.{Armed}
-use Rattle.tick_wheel.specs.Timers.{ByOwner, with_timer}
+use Rattle.tick_wheel.specs.Timers.{ByOwner}
 use Rattle.bench_item.specs.declared.entry.Entry.{Entry}
 use Rattle.bench_item.specs.declared.item.Item.{Item}
-use Rattle.bench_item.specs.declared.item.Item.TheVariants.{ToMachine, ToLine, Dial, Undial, Arm, Disarm}
-use Rattle.bench_item.specs.declared.item.LineItem.{LineItem}
+use Rattle.bench_item.specs.declared.item.Item.TheVariants.{ToMachine}
 use Rattle.bench_item.specs.declared.item.MachineItem.{MachineItem}
 use Rattle.bench_item.specs.declared.opening.Opening.TheVariants as openings
 use Rattle.bench_item.specs.declared.source.Source.{Source}
 use Rattle.bench_item.specs.declared.source.Source.TheVariants.{Clock, Desk, Line, Shard}
 use Rattle.bench_item.specs.declared.step.Step.TheVariants.{Drop}
 use Rattle.bench_item.specs.Keys.{home}
-use Rattle.bench_item.specs.Lines.{Delivered, Undialled}
 use Rattle.bench_item.specs.Steps.{is_same_source}
 use Rattle.bench_line.specs.Line.{LineView}
-use Rattle.bench_line.specs.Lines.{Past, AreLinesAfter, one_more, opened, with_step}
+use Rattle.bench_line.specs.Lines.{AreLinesAfter}
 use Rattle.bench_queue.specs.Inbox.{put_in}
 use Rattle.bench_queue.specs.Outbox.{OutboxView, dropped_one, has_hand}
 use Rattle.bench_shard.specs.View.{ShardView, with_inbox, with_outbox}
-use Rattle.bench_spec.specs.Items.{InOrder, dropped, lifted, timer_change}
+use Rattle.bench_spec.specs.Items.{dropped, lifted, timer_change}
 use Rattle.bench_spec.specs.Refusal.{is_source}
 use Rattle.bench_spec.specs.Settings.{Settings}
 use Rattle.bench_spec.proofs.BookLemmas.{entry_of}
 use Rattle.bench_views.specs.Behind.{changed_at, came_to, dropped_from}
-use Rattle.bench_views.specs.Carried.{arrives, carried_out, carried_shard, drops, gives, lifts}
+use Rattle.bench_views.specs.Carried.{arrives, carried_out, carried_shard, gives}
 use Rattle.bench_views.specs.LinePasts.{pasts_of}
 use Rattle.bench_views.specs.Shards.{outbox_at}
 use Rattle.bench_views.specs.Stored.{EachAt, IsShardAt, IsTied, Stored, meaning_of, source_at}
 use Rattle.bench_views.specs.Timers.{IsArmedSo}
-use Rattle.bench_views.proofs.Acting.{Acts, acts-changed, acts-like, acts-none, each-acts, each-push}
-use Rattle.bench_views.proofs.Behind.{AreLinesTied, GoOn, carried_in-none, carried_in-put, carried_out-drop, carried_out-none, carried_shard-by, lifted_of-same, lines_tied, tied-behind}
-use Rattle.bench_views.proofs.LinePasts.{pasts_of-armed, pasts_of-delivered, pasts_of-dial, pasts_of-disarmed, pasts_of-dropped_event, pasts_of-undialled}
+use Rattle.bench_views.proofs.Acting.{Acts, acts-changed, acts-like, acts-none, each-acts}
+use Rattle.bench_views.proofs.Behind.{AreLinesTied, carried_in-none, carried_in-put, carried_out-drop, carried_out-none, carried_shard-by, lifted_of-same, tied-behind}
+use Rattle.bench_views.proofs.LinePasts.{pasts_of-dropped_event}
 use Rattle.bench_views.proofs.Lifting.{no_place-line, no_place-shard, same_place}
-use Rattle.bench_views.proofs.Opened.{lifted_of-opened, new_line, unopened}
 use Rattle.bench_views.proofs.Order.{dropped-snoc, source-sound}
-use Rattle.bench_views.proofs.Timers.{changes-arm, changes-disarm, is_armed_so-changed, is_armed_so-kept, keeps-delivered, keeps-dial, keeps-dropped_event, keeps-undialled}
+use Rattle.bench_views.proofs.Timers.{is_armed_so-kept, keeps-dropped_event}
 
 -- a line has a number from 1 on
 abbrev pub HasNumber : Source → Type 0

@@ -1,12 +1,10 @@
 -- What a bench keeps is what the log says once an item is dropped that is for a line, opens or ends one, arms a timer or disarms it.
-use Rattle.std.proofs.Common.{◌≡◌, ◌+◌, ℕ, suc, List, [], ◌∷◌, ◌++◌, length, length-append, Bool, true, false, Some, None, refl, sym, ◌∙◌, ap, subst, arith}
+use Rattle.std.proofs.Common.{◌≡◌, ◌+◌, ℕ, suc, List, [], ◌∷◌, ◌++◌, length, length-append, true, false, Some, None, refl, sym, ◌∙◌, ap, subst, arith}
 use Rattle.std.specs.Prelude.{map, nat_le, nat_lt, if◌then◌else◌}
 use Rattle.std.proofs.lemmas.Bool.Decides.{nat_tests}
 use Rattle.std.proofs.lemmas.List.{length-map}
-use Rattle.tick_wheel.specs.declared.timer.Armed.{Armed}
 use Rattle.tick_wheel.specs.Timers.{with_timer}
 use Rattle.bench_item.specs.declared.entry.Entry.{Entry}
-use Rattle.bench_item.specs.declared.item.Item.{Item}
 use Rattle.bench_item.specs.declared.item.Item.TheVariants.{ToLine, Dial, Undial, Arm, Disarm}
 use Rattle.bench_item.specs.declared.item.LineItem.{LineItem}
 use Rattle.bench_item.specs.declared.opening.Opening.TheVariants as openings
@@ -26,7 +24,7 @@ use Rattle.bench_spec.proofs.BookLemmas.{entry_of}
 use Rattle.bench_views.specs.Behind.{dropped_from}
 use Rattle.bench_views.specs.LinePasts.{pasts_of}
 use Rattle.bench_views.specs.Shards.{outbox_at}
-use Rattle.bench_views.specs.Stored.{EachAt, IsTied, Stored, meaning_of}
+use Rattle.bench_views.specs.Stored.{IsTied, Stored, meaning_of}
 use Rattle.bench_views.proofs.Behind.{dropped-same}
 use Rattle.bench_views.proofs.Dropping.{HasNumber, both_true, count_count, counts_of, has_number, lines_by, lines_kept, tied-dropped, timers_kept}
 use Rattle.bench_views.proofs.Acting.{each-push}

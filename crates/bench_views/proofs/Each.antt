@@ -1,6 +1,6 @@
 -- What holds at each place of a list, where an item is changed, and lists that are the same at each place.
-use Rattle.std.proofs.Common.{◌≡◌, ◌+◌, ◌<◌, ◌≤◌, ℕ, List, [], ◌∷◌, ◌++◌, Bool, true, false, Option, Some, None, refl, sym, ◌∙◌, ap, subst, arith, length, suc, zero}
-use Rattle.std.specs.Prelude.{map, slice_set, ◌≢◌}
+use Rattle.std.proofs.Common.{◌≡◌, ◌+◌, ℕ, List, [], ◌∷◌, Some, refl, sym, ◌∙◌, ap, subst, arith, length, suc, zero}
+use Rattle.std.specs.Prelude.{slice_set, ◌≢◌}
 use Rattle.std.specs.List.{slice_get}
 use Rattle.bench_views.specs.Stored.{EachAt}
 

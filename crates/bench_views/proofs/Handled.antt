@@ -1,26 +1,22 @@
 -- What an entry of work brings into directories and moves, and where it leaves the machines of a shard.
-use Rattle.std.proofs.Common.{◌≡◌, ◌+◌, ◌<◌, ◌≤◌, ℕ, List, [], ◌∷◌, ◌++◌, Bool, true, false, Option, Some, None, refl, sym, ◌∙◌, ap, subst, arith, length, suc}
-use Rattle.std.specs.Prelude.{◌==◌, filter, map, flat_map, not, cond, if◌then◌else◌, nat_lt, option_to_list, slice_set, ◌≢◌}
-use Rattle.std.specs.List.{list_any, position_or_len}
-use Rattle.std.proofs.lemmas.Bool.{false≢true}
+use Rattle.std.proofs.Common.{◌≡◌, ◌+◌, ℕ, List, [], ◌∷◌, ◌++◌, Bool, true, false, Some, refl, sym, ◌∙◌, ap, arith, length, suc}
+use Rattle.std.specs.Prelude.{◌==◌, map, flat_map, if◌then◌else◌, nat_lt, slice_set, ◌≢◌}
+use Rattle.std.specs.List.{position_or_len}
 use Rattle.std.proofs.lemmas.Bool.Decides.{nat_tests}
-use Rattle.tab_step.specs.declared.machine.MachineState.{MachineState}
 use Rattle.bench_item.specs.declared.entry.Entry.{Entry}
 use Rattle.bench_item.specs.declared.entry.Handled.{Handled}
 use Rattle.bench_item.specs.declared.entry.Handled.TheVariants.{Move, Stale, TooBusy}
 use Rattle.bench_item.specs.declared.entry.Moved.{Moved}
-use Rattle.bench_item.specs.declared.item.Item.{Item}
 use Rattle.bench_item.specs.declared.item.Item.TheVariants.{ToMachine}
 use Rattle.bench_item.specs.declared.item.MachineItem.{MachineItem}
 use Rattle.bench_item.specs.declared.key.Key.{Key}
 use Rattle.bench_item.specs.declared.step.Step.TheVariants.{Work}
 use Rattle.bench_item.specs.Entries.{moved_in}
 use Rattle.bench_item.specs.Keys.{Node, home, is_same_key}
-use Rattle.bench_spec.specs.Machines.{directory, is_busy, keys_in, moves_in, number_for, state_at}
+use Rattle.bench_spec.specs.Machines.{directory, keys_in, moves_in, state_at}
 use Rattle.bench_spec.proofs.BookLemmas.{entry_of}
 use Rattle.bench_spec.proofs.RunLemmas.{key_itself, key_sound}
-use Rattle.bench_views.proofs.Distinct.{with_new}
-use Rattle.bench_views.proofs.Directories.{number_for-own, number_for-same, state_at-moved, state_at-same}
+use Rattle.bench_views.proofs.Directories.{number_for-own, state_at-moved, state_at-same}
 use Rattle.bench_views.proofs.Standing.{put_for, states-put, states-same, states_of}
 
 -- the entry in which a shard handles an item

@@ -1,9 +1,8 @@
 -- Keys in octets: which are one, and the places of keys in a directory.
-use Rattle.std.proofs.Common.{◌≡◌, ◌+◌, ℕ, List, [], ◌∷◌, ◌++◌, Bool, true, false, Option, Some, None, refl, sym, ◌∙◌, ap, length}
-use Rattle.std.specs.Prelude.{◌==◌, ◌&&◌, ◌||◌, map, not, cond, if◌then◌else◌}
-use Rattle.std.specs.List.{list_any, position, position_or_len}
+use Rattle.std.proofs.Common.{◌≡◌, ◌+◌, ℕ, List, [], ◌∷◌, ◌++◌, Bool, true, false, refl, sym, ◌∙◌, ap}
+use Rattle.std.specs.Prelude.{◌&&◌, ◌||◌, map, not, cond, if◌then◌else◌}
+use Rattle.std.specs.List.{list_any, position_or_len}
 use Rattle.std.specs.Str.{bytes_eq}
-use Rattle.std.proofs.lemmas.Bool.{false≢true}
 use Rattle.std.proofs.lemmas.List.{map-append}
 use Rattle.std.proofs.lemmas.Slice.Eq.{bytes_eq-Decides}
 use Rattle.bench_item.specs.declared.key.Key.{Key}

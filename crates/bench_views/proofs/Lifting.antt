@@ -1,6 +1,6 @@
 -- What a bench keeps is what the log says once the oldest item of a source is lifted.
-use Rattle.std.proofs.Common.{◌≡◌, ◌+◌, ◌-◌, ◌<◌, ℕ, zero, suc, List, [], ◌∷◌, ◌++◌, length, length-append, Bool, true, false, Option, Some, None, refl, sym, ◌∙◌, ap, subst, arith}
-use Rattle.std.specs.Prelude.{◌==◌, ◌&&◌, nat_lt, option_map, slice_get, if◌then◌else◌}
+use Rattle.std.proofs.Common.{◌≡◌, ◌+◌, ◌-◌, ℕ, zero, suc, List, [], ◌∷◌, ◌++◌, length, length-append, Bool, true, false, Some, None, refl, sym, ◌∙◌, ap, subst, arith}
+use Rattle.std.specs.Prelude.{◌==◌, ◌&&◌, nat_lt, slice_get, if◌then◌else◌}
 use Rattle.std.specs.Option.{option_map_or}
 use Rattle.std.proofs.lemmas.Bool.{false≢true}
 use Rattle.std.proofs.lemmas.Bool.Decides.{nat_tests}
@@ -20,13 +20,13 @@ use Rattle.bench_spec.specs.Items.{dropped, lifted, posts}
 use Rattle.bench_spec.specs.Settings.{Settings}
 use Rattle.bench_spec.proofs.BookLemmas.{entry_of}
 use Rattle.bench_views.specs.Behind.{changed_at, lifted_from}
-use Rattle.bench_views.specs.Carried.{carried_out, carried_shard, gives, lifts}
+use Rattle.bench_views.specs.Carried.{carried_out, carried_shard, gives}
 use Rattle.bench_views.specs.LinePasts.{pasts_of}
 use Rattle.bench_views.specs.Shards.{outbox_at}
 use Rattle.bench_views.specs.Stored.{EachAt, IsShardAt, IsTied, Stored, meaning_of, source_at}
 use Rattle.bench_views.specs.Timers.{IsArmedSo}
 use Rattle.bench_views.proofs.Acting.{Acts, acts-changed, acts-like, acts-none, acts-with_line, each-acts}
-use Rattle.bench_views.proofs.Behind.{AreLinesTied, carried_in-none, carried_out-lift, carried_out-none, carried_shard-by, carried_of-same, tied-behind}
+use Rattle.bench_views.proofs.Behind.{carried_in-none, carried_out-lift, carried_out-none, carried_shard-by, carried_of-same, tied-behind}
 use Rattle.bench_views.proofs.LinePasts.{pasts_of-lifted}
 use Rattle.bench_views.proofs.LineViews.{outbox_on-log}
 use Rattle.bench_views.proofs.Order.{lifted-snoc, source-sound}

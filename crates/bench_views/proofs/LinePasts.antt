@@ -18,7 +18,7 @@ use Rattle.bench_item.specs.declared.step.Step.TheVariants.{Joined, Dialled, Cam
 use Rattle.bench_item.specs.Lines.{LineStep, Acknowledged, Received, Gone, Delivered, Undialled}
 use Rattle.bench_line.specs.Lines.{Past, one_more, opened, with_step, with_step_at}
 use Rattle.bench_spec.specs.Lines as lines
-use Rattle.bench_spec.specs.Lines.{line_posts, line_state, line_step, line_steps, opened_in, opening_of, since_opening}
+use Rattle.bench_spec.specs.Lines.{line_step, line_steps, opened_in, since_opening}
 use Rattle.bench_spec.proofs.AfterLemmas.{flat_map-snoc}
 use Rattle.bench_spec.proofs.BookLemmas.{entry_of}
 use Rattle.bench_spec.proofs.LineLemmas.{line_steps-snoc}

@@ -33,7 +33,7 @@ use Rattle.bench_line.proofs.ReceiveLemmas.{alive-fault, alive_open, more_posts,
 use Rattle.bench_line.proofs.TurnLemmas.{turns_by-append}
 use Rattle.bench_spec.specs.Items.{IsFront}
 use Rattle.bench_spec.specs.Lines as lines
-use Rattle.bench_spec.specs.Lines.{line_step, line_steps, opened_in, opening_of, since_opening}
+use Rattle.bench_spec.specs.Lines.{line_step, line_steps, opened_in, opening_of}
 use Rattle.bench_spec.proofs.AfterLemmas.{flat_map-snoc}
 use Rattle.bench_spec.proofs.BookLemmas.{entry_of}
 use Rattle.bench_spec.proofs.LineLemmas.{line_steps-snoc}

@@ -9,7 +9,7 @@ use Rattle.bench_line.specs.Line.{LineView, Stands}
 use Rattle.bench_line.specs.Lines.{Past, AreLinesAfter, StandFrom, line_at, sent_on, state_on}
 use Rattle.bench_line.specs.Talk.{Meaning, posts_of, rules_of}
 use Rattle.bench_spec.specs.Lines as lines
-use Rattle.bench_spec.specs.Lines.{line_step, line_steps, opened_in, opening_of, since_opening}
+use Rattle.bench_spec.specs.Lines.{line_steps, opening_of}
 use Rattle.bench_views.specs.LinePasts.{StandsAt, line_posts_by, line_sent_by, line_state_by, outbox_on, past_in, past_of, pasts_by, pasts_of}
 use Rattle.bench_views.proofs.LinePasts.{length-pasts_of, not_zero}
 

@@ -1,8 +1,8 @@
 -- What a bench keeps is what the log says once a line is opened, acknowledged, heard or lost, a desk tells an event, or a timer fires.
-use Rattle.std.proofs.Common.{◌≡◌, ◌+◌, ℕ, zero, suc, List, [], ◌∷◌, ◌++◌, length, length-append, Bool, true, false, Option, Some, None, refl, sym, ◌∙◌, ap, subst, arith}
+use Rattle.std.proofs.Common.{◌≡◌, ◌+◌, ℕ, zero, suc, List, [], ◌∷◌, ◌++◌, length, length-append, Bool, true, false, Option, None, refl, sym, ◌∙◌, ap, subst, arith}
 use Rattle.std.specs.Prelude.{◌==◌, map, option_to_list, if◌then◌else◌}
 use Rattle.std.proofs.lemmas.Bool.Decides.{nat_tests}
-use Rattle.tick_wheel.specs.Timers.{ByOwner, with_timer}
+use Rattle.tick_wheel.specs.Timers.{with_timer}
 use Rattle.tab_step.specs.declared.machine.Event.{Event}
 use Rattle.bench_item.specs.declared.entry.Entry.{Entry}
 use Rattle.bench_item.specs.declared.item.Item.{Item}
@@ -21,11 +21,10 @@ use Rattle.bench_spec.specs.Lines.{opening_of, openings as openings_of}
 use Rattle.bench_spec.specs.Machines.{is_work}
 use Rattle.bench_spec.specs.Settings.{Settings}
 use Rattle.bench_spec.proofs.BookLemmas.{entry_of}
-use Rattle.bench_views.specs.Behind.{changed_at, put_out_at}
+use Rattle.bench_views.specs.Behind.{put_out_at}
 use Rattle.bench_views.specs.Carried.{arrives, carried_out, carried_shard, drops, gives, lifts}
 use Rattle.bench_views.specs.LinePasts.{pasts_of}
 use Rattle.bench_views.specs.Stored.{IsTied, Stored, meaning_of, source_at}
-use Rattle.bench_views.specs.Timers.{IsArmedSo}
 use Rattle.bench_views.proofs.Acting.{acts-changed, acts-none, each-push}
 use Rattle.bench_views.proofs.Behind.{AreLinesTied, carried_in-none, carried_of-same, carried_out-none, carried_out-put, carried_shard-by, dropped-same, lifted_of-same, lines-kept, tied-behind}
 use Rattle.bench_views.proofs.Drops.{same_count}

@@ -1,7 +1,7 @@
 -- The item that is next at a source and the one in its hand are the log's; and what a lift or a drop that is not refused finds.
-use Rattle.std.proofs.Common.{◌≡◌, ◌+◌, ◌-◌, ◌<◌, ◌≤◌, ℕ, zero, suc, List, [], ◌∷◌, ◌++◌, length, length-append, drop, take, Bool, true, false, Option, Some, None, refl, sym, ◌∙◌, ap, subst, arith}
+use Rattle.std.proofs.Common.{◌≡◌, ◌+◌, ◌-◌, ◌<◌, ◌≤◌, ℕ, zero, suc, List, [], ◌∷◌, length, length-append, drop, take, Bool, true, false, Some, None, refl, sym, ◌∙◌, ap, arith}
 use Rattle.std.proofs.Math.Seq.{take-append_seam}
-use Rattle.std.specs.Prelude.{◌==◌, ◌&&◌, ◌||◌, find, nat_le, nat_lt, not, option_map, slice_get, if◌then◌else◌}
+use Rattle.std.specs.Prelude.{◌==◌, ◌&&◌, ◌||◌, nat_le, nat_lt, not, slice_get}
 use Rattle.std.specs.Option.{option_and_then}
 use Rattle.std.proofs.lemmas.Bool.{false≢true}
 use Rattle.std.proofs.lemmas.Bool.Decides.{nat_tests}
@@ -15,7 +15,7 @@ use Rattle.bench_line.specs.Line.{LineView}
 use Rattle.bench_line.specs.Lines.{line_at}
 use Rattle.bench_queue.specs.Outbox.{OutboxView, can_lift, hand_out, has_hand, next_out}
 use Rattle.bench_shard.specs.View.{ShardView}
-use Rattle.bench_spec.specs.Items.{InOrder, IsCarried, IsFront, dropped, hand, lifted, outbox, posts}
+use Rattle.bench_spec.specs.Items.{InOrder, dropped, hand, lifted, outbox, posts}
 use Rattle.bench_spec.specs.Lines.{openings}
 use Rattle.bench_spec.specs.Refusal.{is_empty, is_source, reasons, refusal}
 use Rattle.bench_spec.specs.Legal.{MayFollow}
@@ -24,7 +24,7 @@ use Rattle.bench_spec.proofs.BookLemmas.{entry_of}
 use Rattle.bench_spec.proofs.PauseLemmas.{refusal-unpaused}
 use Rattle.bench_views.specs.Looks.{dropped_on, hand_of, next_of}
 use Rattle.bench_views.specs.Shards.{outbox_at}
-use Rattle.bench_views.specs.Stored.{EachAt, IsTied, Stored, source_at}
+use Rattle.bench_views.specs.Stored.{IsTied, Stored, source_at}
 use Rattle.bench_views.proofs.Dropping.{both_true}
 use Rattle.bench_views.proofs.Lifting.{each_outbox_of, line_at-suc}
 use Rattle.bench_views.proofs.LineStands.{length_lines}

@@ -1,6 +1,6 @@
 -- A line that was not opened, and one that is: nothing of it was lifted or dropped.
-use Rattle.std.proofs.Common.{◌≡◌, ◌-◌, ℕ, suc, List, [], ◌∷◌, ◌++◌, length, length-append, Bool, true, false, Option, None, refl, sym, ◌∙◌, ap, subst, append_assoc, arith}
-use Rattle.std.specs.Prelude.{◌==◌, map, slice_get, if◌then◌else◌}
+use Rattle.std.proofs.Common.{◌≡◌, ◌-◌, ℕ, suc, List, [], ◌∷◌, ◌++◌, length, length-append, false, None, refl, sym, ◌∙◌, ap, subst, append_assoc, arith}
+use Rattle.std.specs.Prelude.{◌==◌, map, slice_get}
 use Rattle.std.specs.Option.{option_map_or}
 use Rattle.std.proofs.lemmas.Bool.Decides.{nat_tests}
 use Rattle.std.proofs.lemmas.List.{append-nil, length-map}
@@ -10,7 +10,7 @@ use Rattle.bench_item.specs.declared.entry.Entry.{Entry}
 use Rattle.bench_item.specs.declared.item.Item.{Item}
 use Rattle.bench_item.specs.declared.source.Source.TheVariants.{Line}
 use Rattle.bench_line.specs.Line.{LineView}
-use Rattle.bench_spec.specs.Items.{InOrder, IsFront, dropped, lifted, posts}
+use Rattle.bench_spec.specs.Items.{InOrder, dropped, lifted, posts}
 use Rattle.bench_spec.specs.Legal.{IsLegal, MayFollow}
 use Rattle.bench_spec.specs.Lines.{line_steps, opening_of, openings}
 use Rattle.bench_spec.specs.Rules.{rules_at}

@@ -1,6 +1,6 @@
 -- Items are carried and handled in their order with one more entry that carries or handles the one that is next.
-use Rattle.std.proofs.Common.{◌≡◌, ◌+◌, ◌<◌, ◌≤◌, ℕ, List, [], ◌∷◌, ◌++◌, Bool, true, false, Option, Some, None, refl, sym, ◌∙◌, ap, subst, append_assoc, arith, length, suc}
-use Rattle.std.specs.Prelude.{◌==◌, filter, flat_map, cond, if◌then◌else◌, option_to_list}
+use Rattle.std.proofs.Common.{◌≡◌, ◌+◌, ℕ, List, [], ◌∷◌, ◌++◌, Bool, true, false, Option, Some, None, refl, sym, ◌∙◌, ap, subst, append_assoc, arith, length, suc}
+use Rattle.std.specs.Prelude.{◌==◌, if◌then◌else◌, option_to_list}
 use Rattle.std.specs.List.{slice_get}
 use Rattle.std.proofs.lemmas.Bool.{false≢true}
 use Rattle.std.proofs.lemmas.Bool.Decides.{nat_tests}
@@ -12,12 +12,11 @@ use Rattle.bench_item.specs.declared.item.Item.TheVariants.{ToMachine}
 use Rattle.bench_item.specs.declared.item.MachineItem.{MachineItem}
 use Rattle.bench_item.specs.declared.source.Source.{Source}
 use Rattle.bench_item.specs.declared.source.Source.TheVariants.{Line, Shard, Desk, Clock}
-use Rattle.bench_item.specs.declared.step.Step.{Step}
-use Rattle.bench_item.specs.declared.step.Step.TheVariants.{Joined, Dialled, Came, Lost, Told, Fired, Lift, Drop, Work}
+use Rattle.bench_item.specs.declared.step.Step.TheVariants.{Lift, Drop, Work}
 use Rattle.bench_item.specs.Keys.{Node}
 use Rattle.bench_item.specs.Steps.{is_same_source}
-use Rattle.bench_spec.specs.Items.{InOrder, IsCarried, IsFront, arrived, dropped, is_drop, is_drop_from, is_firing, is_lift, lifted, posts, work_posts, worked, desk_posts}
-use Rattle.bench_spec.specs.Machines.{is_for, is_work, machine_item}
+use Rattle.bench_spec.specs.Items.{InOrder, IsCarried, IsFront, arrived, dropped, is_firing, lifted, posts, work_posts, worked, desk_posts}
+use Rattle.bench_spec.specs.Machines.{is_work}
 use Rattle.bench_spec.specs.Settings.{Settings}
 use Rattle.bench_spec.proofs.AfterLemmas.{flat_map-snoc}
 use Rattle.bench_spec.proofs.BookLemmas.{entry_of}

@@ -4,7 +4,7 @@ use Rattle.bench_item.specs.declared.entry.Entry.{Entry}
 use Rattle.bench_item.specs.declared.item.Item.{Item}
 use Rattle.bench_item.specs.declared.item.MachineItem.{MachineItem}
 use Rattle.bench_item.specs.declared.source.Source.{Source}
-use Rattle.bench_item.specs.declared.source.Source.TheVariants.{Clock, Desk, Line, Shard}
+use Rattle.bench_item.specs.declared.source.Source.TheVariants.{Clock, Desk, Shard}
 use Rattle.bench_item.specs.Keys.{Node}
 use Rattle.bench_queue.specs.Inbox.{InboxView}
 use Rattle.bench_queue.specs.Outbox.{OutboxView}

@@ -5,8 +5,7 @@ use Rattle.bench_item.specs.declared.item.Item.{Item}
 use Rattle.bench_item.specs.declared.source.Source.{Source}
 use Rattle.bench_item.specs.declared.source.Source.TheVariants.{Clock, Desk, Line, Shard}
 use Rattle.bench_line.specs.Lines.{line_at, next_on}
-use Rattle.bench_queue.specs.Outbox.{OutboxView, hand_out, next_out}
-use Rattle.bench_shard.specs.View.{ShardView}
+use Rattle.bench_queue.specs.Outbox.{hand_out, next_out}
 use Rattle.bench_views.specs.Stored.{Stored}
 
 -- the oldest item that waits, if one does

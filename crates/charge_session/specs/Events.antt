@@ -1,5 +1,5 @@
 -- The event that a command of credit control is for a session's machine (RFC 8506 sections 3 and 7).
-use Rattle.std.specs.Prelude.{ℕ, List, Option, Some, None, codes}
+use Rattle.std.specs.Prelude.{ℕ, List, Option, None, codes}
 use Rattle.std.specs.Option.{option_map, option_and_then}
 use Rattle.base_list.specs.Named.{place_of}
 use Rattle.dia_command.specs.declared.command.Command.{Command}

@@ -1,5 +1,5 @@
 -- How a run ends whose nodes' logs are written.
-use Rattle.std.proofs.Common.{◌≡◌, ◌⊎◌, ℕ, Bool, List, Option, inl, inr, sym, ◌∙◌}
+use Rattle.std.proofs.Common.{◌≡◌, ◌⊎◌, ℕ, Bool, List, Option, inl, inr}
 use Rattle.std.specs.Prelude.{codes}
 use Rattle.base_device.specs.Devices.{IsRun, Tells}
 use Rattle.base_device.specs.Tellings.{told_status}

@@ -1,6 +1,6 @@
 -- What is printed of lines that were run one after the other.
 use Rattle.std.proofs.Common.{◌≡◌, ◌++◌, ◌∷◌, ◌∙◌, Bool, true, false, List, [], ℕ, ap, refl, sym}
-use Rattle.bench_script.specs.Ran.{Does, Prints, Ran, nothing, one_more}
+use Rattle.bench_script.specs.Ran.{Does, Prints, nothing, one_more}
 use Rattle.bench_spec.specs.Taken.{Run}
 use Rattle.script_text.specs.declared.run_line.RunLine.{RunLine}
 use Rattle.cmd_bench.specs.Told.{RunShown, if_shown}

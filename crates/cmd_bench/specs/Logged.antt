@@ -15,7 +15,6 @@ use Rattle.role_tables.specs.Roles.{all_laws}
 use Rattle.tab_law.specs.Books.{Laws}
 use Rattle.cmd_bench.specs.Met.{TellsRefused}
 use Rattle.cmd_bench.specs.Nodes.{AreNodeInputs, IsNodesRun}
-use Rattle.cmd_bench.specs.declared.nodes.Ended.{Ended}
 use Rattle.cmd_bench.specs.declared.shown.Shown.{Shown}
 
 -- the files that were written: the logs of all nodes behind those before, and none where a run is refused

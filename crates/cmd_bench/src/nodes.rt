@@ -11,9 +11,10 @@ ghost use Rattle.cmd_bench.specs.Nodes.{IsRunOnOpen, NodesText, node_ends};
 use crate::opening::{bad_line, numbers_of};
 use crate::shown::Shown;
 use base_device::{ByteSink, FileSource, MAX_IDLE_WRITES, MAX_READS, Status, Told, tell};
-use bench_core::Core;
 use bench_item::MAX_SHARDS;
-use bench_nodes::{Node, NodeLine, put_node_lines, put_node_totals, read_nodes_script, run_nodes};
+use bench_nodes::{
+    Core, Node, NodeLine, put_node_lines, put_node_totals, read_nodes_script, run_nodes,
+};
 use bench_setup::{
     Halt, Setup, WithCalls, opening_text_at, read_named, read_nodes, tell_halt, unbound_at,
     with_calls,

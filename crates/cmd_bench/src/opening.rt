@@ -1,6 +1,5 @@
 //! A bench opened with callbacks of all roles, a script run on it, and that told.
-ghost use Rattle.std.specs.Prelude.{◌≡◌, ◌<◌, ◌≤◌, ◌-◌, ◌^◌, None, Some, IfOk, map, max, true};
-ghost use Rattle.base_device.specs.Devices.{Tells};
+ghost use Rattle.std.specs.Prelude.{◌≡◌, ◌<◌, ◌≤◌, ◌-◌, ◌^◌, IfOk, map, max};
 ghost use Rattle.bench_script.specs.Ran.{IsRunBy};
 ghost use Rattle.bench_open.specs.Given.{config_of};
 ghost use Rattle.cmd_bench.specs.Told.{IsBenchRun, IsRunIn, IsRunOn, bad_text, opened_with};
@@ -9,8 +8,8 @@ use crate::shown::{Shown, run_text};
 use base_device::{ByteSink, MAX_IDLE_WRITES, Status, Told, tell};
 use base_progress::{Progress, Unwatched};
 use base_text::put_number;
-use bench_core::Core;
 use bench_item::MAX_SHARDS;
+use bench_nodes::Core;
 use bench_open::{Account, Config};
 use bench_setup::{WithCalls, opening_text_at, unbound_at, with_calls};
 use event_text::LinesError;

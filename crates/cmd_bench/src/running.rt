@@ -1,7 +1,6 @@
 //! `run`: a bench opened by what files say, and a script run on it.
-ghost use Rattle.std.specs.Prelude.{◌≡◌, ◌≢◌, ◌⊎◌, ◌<◌, ◌≤◌, ◌+◌, ◌-◌, ◌*◌, ◌^◌, IfErr, IfOk, List, OnOk, max, ℕ};
+ghost use Rattle.std.specs.Prelude.{◌≡◌, ◌≢◌, ◌<◌, ◌≤◌, ◌+◌, ◌-◌, ◌*◌, ◌^◌, IfErr, IfOk, OnOk, max};
 ghost use Rattle.base_device.specs.Devices.{IsRun, Tells};
-ghost use Rattle.base_device.specs.Inputs.{IsInput};
 ghost use Rattle.bench_setup.specs.Halts.{IsHalt};
 ghost use Rattle.cmd_bench.specs.Met.{AreInputs, IsRunMet};
 ghost use Rattle.cmd_bench.specs.Told.{IsRunOn, opened_with};

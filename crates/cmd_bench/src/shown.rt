@@ -4,7 +4,7 @@ ghost use Rattle.bench_script.specs.Ran.{Does, IsRunBy, Prints};
 ghost use Rattle.cmd_bench.specs.Told.{RunShown, RunText, ends_text, if_shown};
 
 use base_progress::Progress;
-use bench_core::Core;
+use bench_nodes::Core;
 use bench_script::{put_lines, put_totals, run_script};
 use script_text::RunLine;
 use std::alloc::{AllocError, Global};

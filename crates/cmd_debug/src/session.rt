@@ -1,5 +1,5 @@
 //! Lines as commands of a debugger, done in order, and what is printed of each.
-ghost use Rattle.std.specs.Prelude.{◌≡◌, IfOk, OnOk, map, replicate};
+ghost use Rattle.std.specs.Prelude.{IfOk, OnOk, map, replicate};
 ghost use Rattle.bench_debug.specs.Seen.{seen};
 ghost use Rattle.bench_script.specs.Ran.{IsRunBy};
 ghost use Rattle.role_tables.specs.Roles.{all_laws};

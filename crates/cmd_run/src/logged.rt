@@ -1,6 +1,6 @@
 //! A run that writes logs beside what it prints.
 ghost use Rattle.std.specs.Prelude.{◌≡◌, ◌≢◌, ◌⊎◌, ◌<◌, ◌≤◌, ◌+◌, ◌*◌, ◌-◌, ◌^◌, [], IfOk, IfSome, None, map, max};
-ghost use Rattle.std.specs.Prelude.{not, option_map};
+ghost use Rattle.std.specs.Prelude.{not};
 ghost use Rattle.base_device.specs.Devices.{IsRun};
 ghost use Rattle.cmd_bench.specs.Logged.{IsLoggedMet, TellsUnwritten};
 ghost use Rattle.cmd_run.specs.Logged.{AskForLogs, wanted_by};

@@ -1,5 +1,5 @@
 //! One run of the program: from words, an input and an output to a status.
-ghost use Rattle.std.specs.Prelude.{◌≡◌, ◌≢◌, ◌⊎◌, ◌<◌, ◌≤◌, ◌+◌, ◌*◌, ◌-◌, ◌^◌, [], None, map, max, not, option_map};
+ghost use Rattle.std.specs.Prelude.{◌≡◌, ◌≢◌, ◌⊎◌, ◌<◌, ◌≤◌, ◌+◌, ◌*◌, ◌-◌, ◌^◌, [], map, max, not};
 ghost use Rattle.base_device.specs.Devices.{IsRun, Tells};
 ghost use Rattle.cmd_words.specs.Invocations.{meaning};
 ghost use Rattle.cmd_read.specs.Reads.{TellsNoMemory};

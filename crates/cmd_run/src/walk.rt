@@ -1,7 +1,7 @@
 //! `walk`: a table or its image stepped over events, by callbacks that answer by the laws of all roles;
 //! the names that tables may use.
 ghost use Rattle.std.specs.Prelude.{◌≡◌, ◌≢◌, ◌⊎◌, ◌<◌, ◌≤◌, ◌+◌, ◌*◌, ◌-◌, ◌^◌, max, option_map, IfOk, OnErr};
-ghost use Rattle.base_device.specs.Devices.{HasWriteCause, IsRun, Tells};
+ghost use Rattle.base_device.specs.Devices.{IsRun, Tells};
 ghost use Rattle.cmd_read.specs.Reads.{TellsNoMemory};
 ghost use Rattle.cmd_run.specs.Runs.{TellsTable, WalksTable};
 ghost use Rattle.law_text.specs.Sentences.{book_text};

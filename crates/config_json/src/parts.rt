@@ -1,5 +1,5 @@
 //! Peers, accounts, desks and addresses.
-ghost use Rattle.std.specs.Prelude.{◌≡◌, ◌++◌, OnOk, codes, flat_map};
+ghost use Rattle.std.specs.Prelude.{◌≡◌, ◌++◌, OnOk, flat_map};
 ghost use Rattle.config_json.specs.Json.{account_item, accounts_text, address_text, desk_item, desks_text};
 ghost use Rattle.config_json.specs.Json.{line_item, lines_text, numbers_text, peer_item, peers_text};
 

@@ -1,5 +1,4 @@
 //! An account of a node's book.
-ghost use Rattle.std.specs.Prelude.{◌≡◌};
 ghost use Rattle.serde_json.specs.View.{view};
 ghost use Rattle.config_text.specs.Accounts.{account_at, account_of};
 ghost use Rattle.config_text.specs.Answers.{Answers};

@@ -1,5 +1,4 @@
 //! A desk of a node.
-ghost use Rattle.std.specs.Prelude.{◌≡◌};
 ghost use Rattle.serde_json.specs.View.{view};
 ghost use Rattle.config_text.specs.Answers.{Answers};
 ghost use Rattle.config_text.specs.Desks.{desk_at, desk_of, line_of, lines_in, repeated_in};

@@ -1,5 +1,4 @@
 //! The names of a node's files.
-ghost use Rattle.std.specs.Prelude.{◌≡◌};
 ghost use Rattle.serde_json.specs.View.{view};
 ghost use Rattle.config_text.specs.Answers.{Answers};
 ghost use Rattle.config_text.specs.Files.{files_of, names_in, tables_of};

@@ -1,5 +1,5 @@
 //! The parts of lists.
-ghost use Rattle.std.specs.Prelude.{◌≡◌, Result, ℕ};
+ghost use Rattle.std.specs.Prelude.{Result, ℕ};
 ghost use Rattle.serde_json.specs.Data.{Data};
 ghost use Rattle.serde_json.specs.View.{items_view, view};
 ghost use Rattle.config_text.specs.Answers.{Answers};

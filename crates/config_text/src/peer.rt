@@ -1,5 +1,4 @@
 //! A peer of a node.
-ghost use Rattle.std.specs.Prelude.{◌≡◌};
 ghost use Rattle.serde_json.specs.View.{view};
 ghost use Rattle.config_text.specs.Answers.{Answers};
 ghost use Rattle.config_text.specs.Peers.{peer_at, peer_of};

@@ -1,5 +1,5 @@
 //! What is told of a text that gives no nodes.
-ghost use Rattle.std.specs.Prelude.{◌≡◌, ◌++◌, OnOk, codes};
+ghost use Rattle.std.specs.Prelude.{◌≡◌, ◌++◌, OnOk};
 ghost use Rattle.config_text.specs.Told.{error_text, field_text, fields_text, index_text, inside_text, not_json_text};
 ghost use Rattle.config_text.specs.Told.{one_of_text, others_text, place_text, shown, twice_text};
 ghost use Rattle.config_text.specs.Told.{unknown_text, wanted_text, written};

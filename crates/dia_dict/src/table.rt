@@ -1,7 +1,7 @@
 //! Definitions in order of adding, found by AVP Code and vendor.
 
 ghost use Rattle.std.specs.Prelude.{◌≡◌, ◌<◌, false, None, Some, [], ◌∷◌, ◌++◌, IfOk, OnOk, OnErr};
-ghost use Rattle.std.specs.Prelude.{IfErr, length, slice_get};
+ghost use Rattle.std.specs.Prelude.{IfErr, slice_get};
 ghost use Rattle.std.specs.Option.{option_copied};
 ghost use Rattle.base_list.specs.Adding.{error_of};
 ghost use Rattle.dia_dict.specs.Dictionary.{is_of as is_definition_of};

@@ -1,6 +1,6 @@
 //! The whole messages at the front of octets.
 
-ghost use Rattle.std.specs.Prelude.{◌≡◌, ◌≤◌, ◌<◌, ◌+◌, ◌⊎◌, [], ◌∷◌, ◌++◌, drop, length, vec_len, vec_capacity};
+ghost use Rattle.std.specs.Prelude.{◌≡◌, ◌≤◌, ◌<◌, ◌+◌, ◌⊎◌, [], ◌∷◌, ◌++◌, drop, vec_len, vec_capacity};
 ghost use Rattle.std.specs.Prelude.{Option, Some, None, slice_get, IfOk, OnOk, OnErr};
 ghost use Rattle.dia_frame.specs.Frames.{fault_of, is_bad_length};
 ghost use Rattle.dia_frame.specs.Whole.{is_part, length_in, whole_len, room_of, Cuts, CutsUpTo};

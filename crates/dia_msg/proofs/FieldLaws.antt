@@ -4,7 +4,6 @@ use Rattle.dia_avp.specs.declared.avp.Avp.{Avp}
 use Rattle.dia_dict.specs.declared.definition.Definition.{Definition}
 use Rattle.dia_tree.proofs.CanonicalRelation.{IsCanonical-again, AreCanonical-again}
 use Rattle.dia_command.specs.declared.command.Command.{Command}
-use Rattle.dia_command.specs.declared.command.Command.TheVariants.{Cer, Cea, Dwr, Dwa, Dpr, Dpa, Rar, Raa, Ccr, Cca, ErrorAnswer}
 use Rattle.dia_command.specs.declared.kind.CommandKind.{CommandKind}
 use Rattle.dia_command.specs.declared.kind.CommandKind.TheVariants as kinds
 use Rattle.dia_command.specs.declared.typed.TypedAvp.{TypedAvp}

@@ -1,15 +1,14 @@
 //! The command that octets mean.
 
-ghost use Rattle.std.specs.Prelude.{◌≡◌, ◌≤◌, ◌<◌, ◌^◌, [], All, List, length, drop, slice_get, false, Some, None};
+ghost use Rattle.std.specs.Prelude.{◌≡◌, ◌≤◌, ◌<◌, [], List, length, drop, slice_get, false, Some, None};
 ghost use Rattle.std.specs.Prelude.{IfOk, IfErr, OnOk, IsErrOf};
 ghost use Rattle.std.specs.Option.{option_map};
 ghost use Rattle.dia_avp.specs.Avps.{Avps};
-ghost use Rattle.dia_avp.specs.Encoding.{length_of};
 ghost use Rattle.dia_dict.specs.Dictionary.{known};
 ghost use Rattle.dia_tree.specs.declared.fault.FaultView.{FaultView};
 ghost use Rattle.dia_tree.specs.View.{seen_fault};
 ghost use Rattle.dia_tree.specs.declared.fault.MsgFault.{MsgFault as Fault};
-ghost use Rattle.dia_tree.specs.Faults.{fault, IsGood, HasMessageFaults};
+ghost use Rattle.dia_tree.specs.Faults.{fault, HasMessageFaults};
 ghost use Rattle.dia_command.specs.Header.{header_in};
 ghost use Rattle.dia_command.specs.Format.{kind_coded, format_of as format_by};
 ghost use Rattle.dia_msg.specs.Faults.{header_faults, kind_in, is_credit as is_credit_by, is_event as is_event_by};

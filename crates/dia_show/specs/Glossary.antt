@@ -2,7 +2,6 @@
 -- and names for the numbers of their data.
 use Rattle.std.specs.Prelude.{ℕ, ◌==◌, ◌&&◌, Bool, List, [], Option, Some, None}
 use Rattle.std.specs.List.{find}
-use Rattle.std.specs.Option.{option_map_or}
 use Rattle.dia_dict.specs.Dictionary.{same_vendor}
 use Rattle.dia_dict.specs.declared.definition.Definition.{Definition}
 use Rattle.dia_show.specs.Names.{entry_in}

@@ -5,7 +5,7 @@ ghost use Rattle.std.specs.Option.{option_copied};
 ghost use Rattle.base_list.specs.Adding.{error_of};
 ghost use Rattle.dia_dict.specs.Dictionary.{defined, known, refusal};
 ghost use Rattle.dia_show.specs.Names.{entry_in};
-ghost use Rattle.dia_show.specs.Glossary.{added_name, base_meanings, is_naming_of, name_in};
+ghost use Rattle.dia_show.specs.Glossary.{added_name, base_meanings, is_naming_of};
 
 use base_list::{AddError, Octets};
 use dia_dict::{AvpKind, Definition, Dictionary};

@@ -1,5 +1,5 @@
 //! What an AVP's data says, by its type.
-ghost use Rattle.std.specs.Prelude.{◌≡◌, ◌++◌, ◌<◌, ◌^◌, OnOk};
+ghost use Rattle.std.specs.Prelude.{◌≡◌, ◌++◌, ◌<◌, OnOk};
 ghost use Rattle.std.specs.Option.{option_copied};
 ghost use Rattle.dia_show.specs.Values.{name_behind, ill_sized, number_name, named_text, long_text, moment_text};
 ghost use Rattle.dia_show.specs.Values.{address_text, typed_text, names_code, standard_name, value_name, value_text};

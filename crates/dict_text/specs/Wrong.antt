@@ -1,5 +1,5 @@
 -- What is wrong in a line of a dictionary, as a value.
-use Rattle.std.specs.Prelude.{ℕ, List, Result, Ok, Err, ◌≡◌}
+use Rattle.std.specs.Prelude.{ℕ, List, Result, Err, ◌≡◌}
 use Rattle.dict_text.specs.declared.wrong.Want.{Want}
 use Rattle.dict_text.specs.declared.wrong.Mistake.{Mistake}
 use Rattle.dict_text.specs.declared.wrong.WrongLine.{WrongLine}

@@ -1,5 +1,5 @@
 //! What a line says, or the first of its words that is wrong.
-ghost use Rattle.std.specs.Prelude.{◌≡◌, ◌∷◌, ◌++◌, [], ℕ, List, Ok, false, true, MatchOption, IfOk, IfErr, OnOk};
+ghost use Rattle.std.specs.Prelude.{◌≡◌, ◌∷◌, ◌++◌, [], Ok, false, true, MatchOption, IfOk, IfErr, OnOk};
 ghost use Rattle.text_parts.specs.Pieces.{words_left};
 ghost use Rattle.dict_text.specs.Entries.{entry_of, head_of, is_name, kind_next, name_next};
 ghost use Rattle.dict_text.specs.Entries.{names_behind, names_of, no_names};

@@ -1,5 +1,5 @@
 //! The glossary of a text, or its first wrong line.
-ghost use Rattle.std.specs.Prelude.{◌≡◌, [], Ok, IfOk, IfErr, OnOk, OnErr};
+ghost use Rattle.std.specs.Prelude.{◌≡◌, Ok, IfOk, IfErr, OnOk};
 ghost use Rattle.dict_text.specs.Read.{IsRefused, added, glossary_of, line_added};
 ghost use Rattle.dict_text.specs.Read.{refusal_of, refused_want, with_namings};
 ghost use Rattle.dict_text.specs.Seen.{seen_entry, seen_head};

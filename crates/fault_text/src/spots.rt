@@ -1,15 +1,14 @@
 //! What stands where a table's text has its first fault, and in which row a name stands that isn't registered.
-ghost use Rattle.std.specs.Prelude.{◌≡◌, ◌++◌, [], ◌∷◌, OnOk, codes, drop, option_map, position, take, MatchOption};
+ghost use Rattle.std.specs.Prelude.{◌≡◌, ◌++◌, [], ◌∷◌, OnOk, option_map, position, take, MatchOption};
 ghost use Rattle.std.specs.List.{find, list_all};
 ghost use Rattle.std.specs.Option.{option_map_or};
-ghost use Rattle.fault_text.specs.Faults.{table_fault};
-ghost use Rattle.fault_text.specs.Spots.{bad_byte, from_line, is_bad, is_bound, is_odd, is_registered, line_part};
-ghost use Rattle.fault_text.specs.Spots.{odd_among, odd_at, odd_behind, odd_in_row, odd_word, place_line, shown_line};
+ghost use Rattle.fault_text.specs.Spots.{bad_byte, from_line, is_bad, is_bound, is_odd, is_registered};
+ghost use Rattle.fault_text.specs.Spots.{odd_at, odd_behind, odd_in_row, odd_word, place_line, shown_line};
 ghost use Rattle.fault_text.specs.Spots.{unbound_place, unbound_row, wrong_line, wrong_part};
 ghost use Rattle.fault_text.specs.Words.{shown};
 ghost use Rattle.text_parts.specs.Left.{line_of, lines_left, lines_more};
 ghost use Rattle.text_parts.specs.Lines.{lines};
-ghost use Rattle.text_parts.specs.Pieces.{pieces_in, words_left};
+ghost use Rattle.text_parts.specs.Pieces.{pieces_in};
 
 use base_list::NamedList;
 use base_text::put_number;

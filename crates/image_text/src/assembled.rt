@@ -1,6 +1,5 @@
 //! A table's text assembled, and its image told in hexadecimal.
-ghost use Rattle.std.specs.Prelude.{◌≡◌, ◌≢◌, ◌<◌, ◌≤◌, ◌-◌, ◌^◌, max, if◌then◌else◌, Some, None, IfOk};
-ghost use Rattle.std.specs.List.{slice_get};
+ghost use Rattle.std.specs.Prelude.{◌≡◌, ◌≢◌, ◌<◌, ◌≤◌, ◌-◌, ◌^◌, max, IfOk};
 ghost use Rattle.base_device.specs.Devices.{HasWriteCause};
 ghost use Rattle.image_text.specs.Assembled.{IsAssembledOn, IsTold, image_text};
 

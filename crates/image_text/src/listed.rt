@@ -1,7 +1,6 @@
 //! An image's text listed, or its first refusal told.
 ghost use Rattle.std.specs.Prelude.{◌≡◌, ◌≢◌, ◌<◌, ◌≤◌, ◌-◌, ◌^◌, max, IfOk};
 ghost use Rattle.base_device.specs.Devices.{HasWriteCause};
-ghost use Rattle.image_text.specs.Images.{IsNoImage};
 ghost use Rattle.image_text.specs.Listed.{IsListedOn, IsTold};
 
 use crate::listing::listing;

@@ -1,6 +1,5 @@
 //! What a program's image holds, in words: its entries and its instructions.
 ghost use Rattle.std.specs.Prelude.{◌≡◌, ◌++◌, ◌<◌, length, OnOk, IfOk};
-ghost use Rattle.tab_law.specs.Books.{Laws};
 ghost use Rattle.tab_load.specs.Code.{instruction_of};
 ghost use Rattle.tab_load.specs.Loading.{IsLoaded};
 ghost use Rattle.tab_step.specs.Moves.{name_at};

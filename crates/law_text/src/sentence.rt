@@ -1,5 +1,5 @@
 //! Tests and changes.
-ghost use Rattle.std.specs.Prelude.{◌≡◌, ◌++◌, List, ℕ, OnOk, codes, decimal};
+ghost use Rattle.std.specs.Prelude.{◌≡◌, ◌++◌, OnOk, codes, decimal};
 ghost use Rattle.law_text.specs.Atoms.{atom_text, field_text, place_text, separated, term_text};
 ghost use Rattle.law_text.specs.Sentences.{change_text, deed_text, emit_text, test_text};
 ghost use Rattle.law_text.specs.declared.words.Reads.TheVariants.{Before, After};

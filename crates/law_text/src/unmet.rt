@@ -1,9 +1,8 @@
 //! Why a guard says no: the first test of its law that isn't met.
-ghost use Rattle.std.specs.Prelude.{◌≡◌, ◌++◌, OnOk, codes};
+ghost use Rattle.std.specs.Prelude.{◌≡◌, ◌++◌, OnOk};
 ghost use Rattle.std.specs.Option.{option_map};
 ghost use Rattle.tab_law.specs.Guards.{field_value, is_met};
 ghost use Rattle.tab_law.specs.Values.{atom_value, place_at};
-ghost use Rattle.law_text.specs.Atoms.{place_text};
 ghost use Rattle.law_text.specs.Unmet.{atom_note, field_of, field_words, first_unmet, note_of, unmet_text};
 
 use crate::sentence::put_test;

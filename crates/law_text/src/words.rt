@@ -1,5 +1,5 @@
 //! Atoms and terms.
-ghost use Rattle.std.specs.Prelude.{◌≡◌, ◌++◌, OnOk, codes};
+ghost use Rattle.std.specs.Prelude.{◌≡◌, ◌++◌, OnOk};
 ghost use Rattle.law_text.specs.Atoms.{atom_text, field_text, place_text, term_text};
 
 use base_text::put_number;

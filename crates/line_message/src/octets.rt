@@ -6,11 +6,10 @@ ghost use Rattle.line_message.specs.Sent.{command_of, octets_of, message_octets}
 use base_list::Octets;
 use bench_item::LineItem;
 use charge_message::{answer_message, request_message};
-use deed_message::Names;
 use dia_avp::WriteError;
 use dia_command::Command;
 use dia_write::{Identity, write_message};
-use peer_rules::peer_message;
+use peer_rules::{Names, peer_message};
 use std::alloc::{AllocError, Global};
 
 /// The octets of a message, none where 24 bits don't hold its length.

@@ -3,7 +3,7 @@
 ghost use Rattle.std.specs.Prelude.{◌≡◌, ◌≤◌, length, None, IfOk};
 ghost use Rattle.std.specs.Option.{option_copied};
 ghost use Rattle.dia_tree.specs.Faults.{fault};
-ghost use Rattle.line_message.specs.Answers.{is_session_id, session_of, session_in, answer_octets};
+ghost use Rattle.line_message.specs.Answers.{session_of, session_in, answer_octets};
 
 use crate::listener::Listener;
 use crate::octets::octets_of;

@@ -2,7 +2,6 @@
 
 ghost use Rattle.std.specs.Prelude.{◌≡◌, Some, IfOk};
 ghost use Rattle.line_message.specs.Posts.{peer_of, kind_at, event_for, side_of, has_line, at_line, of_message};
-ghost use Rattle.line_message.specs.Posts.{no_facts};
 
 use crate::listener::Listener;
 use base_codes::{peer_fact, peer_register};

@@ -1,9 +1,8 @@
 //! Messages of a dialled connection that is not greeted (RFC 6733 section 5.6).
 
 ghost use Rattle.std.specs.Prelude.{◌≡◌, ◌≤◌, Some, length, IfOk};
-ghost use Rattle.base_list.specs.Named.{place_of};
 ghost use Rattle.peer_rules.specs.Kinds.{name_of};
-ghost use Rattle.line_message.specs.Heard.{is_welcome, reply, reply_by, greeting, posting};
+ghost use Rattle.line_message.specs.Heard.{is_welcome, reply, reply_by, posting};
 
 use crate::listener::Listener;
 use crate::post::{PeerEvent, at_line, has_line, of_message, side_of};

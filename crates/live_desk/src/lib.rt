@@ -13,6 +13,7 @@ mod keys;
 mod stands;
 mod texts;
 
+pub use bench_core::{Core, ReplayError};
 pub use desk::Desk;
 pub use stands::Stands;
 pub use texts::{DeskError, DeskText};

@@ -1,6 +1,6 @@
 -- The timers and what they fired are what the entries of their part say, with one more entry.
 use Rattle.std.proofs.Common.{◌≡◌, ◌∙◌, ◌+◌, ℕ, nat_eq, nat_le, zero, suc, arith, Bool, true, false, cond, not, List, [], ◌∷◌, ◌++◌, Option, Some, None, is_some, length, refl, ap, subst, sym, true≢false, eq-eqb, eqb-true, leb-true}
-use Rattle.std.specs.Prelude.{◌==◌, flat_map, max, IsFalse, IsTrue, option_to_list, if◌then◌else◌, nat_lt, slice_get}
+use Rattle.std.specs.Prelude.{◌==◌, max, IsFalse, IsTrue, option_to_list, if◌then◌else◌, nat_lt, slice_get}
 use Rattle.std.specs.FinMap as fin
 use Rattle.std.specs.Ordering.{nat_cmp}
 use Rattle.std.specs.Map.{lookup}
@@ -21,12 +21,12 @@ use Rattle.bench_item.specs.declared.item.Item.TheVariants.{Arm, Disarm}
 use Rattle.bench_item.specs.declared.key.Key.{Key}
 use Rattle.bench_item.specs.declared.source.Source.{Source}
 use Rattle.bench_item.specs.declared.source.Source.TheVariants.{Clock}
-use Rattle.bench_item.specs.declared.step.Step.TheVariants.{Drop, Fired, Lift}
+use Rattle.bench_item.specs.declared.step.Step.TheVariants.{Drop, Lift}
 use Rattle.bench_queue.specs.Outbox.{OutboxView, dropped_one, lifted_one, next_out, nothing_out, put_out}
 use Rattle.bench_item.specs.Keys.{Configured}
 use Rattle.bench_spec.specs.Items.{is_firing, lifted}
 use Rattle.bench_spec.specs.Merged.{Stamped}
-use Rattle.bench_views.specs.Timers.{IsArmedSo, generation_of}
+use Rattle.bench_views.specs.Timers.{IsArmedSo}
 use Rattle.bench_views.proofs.Order.{lifted-snoc}
 use Rattle.bench_views.proofs.Timers.{is_armed_so-arm, is_armed_so-disarm, is_armed_so-fired, is_armed_so-kept, is_armed_so-start, keeps-lifted}
 use Rattle.live_parts.specs.Clocks.{AreKnown, AreSo, ClockView, IsFired, Known, clock_view, fired_by, fired_item, passed, places_of, with_arm, with_disarm, with_new_timer, with_timer_at}

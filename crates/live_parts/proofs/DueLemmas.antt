@@ -1,5 +1,5 @@
 -- The timers that are due, by the machines that had one.
-use Rattle.std.proofs.Common.{◌≡◌, ◌∙◌, ℕ, nat_eq, Bool, true, false, cond, List, [], ◌∷◌, ◌++◌, Option, Some, None, is_some, length, AllPairs, refl, ap, subst, sym, eqb-true, arith}
+use Rattle.std.proofs.Common.{◌≡◌, ◌∙◌, ℕ, nat_eq, Bool, true, false, cond, List, [], ◌∷◌, Option, Some, None, is_some, length, AllPairs, refl, ap, subst, sym, eqb-true, arith}
 use Rattle.std.specs.FinMap as fin
 use Rattle.std.specs.List.{IsDistinct}
 use Rattle.std.specs.List.Sorted.{IsPermutation}

@@ -13,12 +13,11 @@ ghost use Rattle.live_parts.specs.Clocks.{key_of, lift_refusal, with_arm, with_d
 
 use crate::due::Keys;
 use crate::entries::{fired_entry, lift_entry, timer_entry};
-use crate::firing::firing_item;
 use crate::stamped::StampedLog;
 use bench_desk::CarryFault;
 use bench_item::{Item, Key, Source};
 use bench_log::{KeptItem, Log};
-use bench_move::Roles;
+use bench_move::{Roles, firing_item};
 use bench_parts::Lent;
 use bench_queue::Outbox;
 use indexmap::IndexMap;

@@ -8,7 +8,6 @@
 //! | `deliver` | what is dropped to connections |
 //! | `clock` | the timers' part: armed, disarmed, fired, what fired lifted |
 //! | `due` | which timers are due, and time passes |
-//! | `firing` | what a timer fires |
 //! | `entries` | entries of steps that handle nothing |
 #![tactic(auto)]
 
@@ -16,7 +15,6 @@ mod clock;
 mod deliver;
 mod due;
 mod entries;
-mod firing;
 mod lines;
 mod stamped;
 

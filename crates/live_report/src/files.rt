@@ -6,10 +6,9 @@ ghost use Rattle.node_logs.specs.Files.{with_files};
 ghost use Rattle.node_logs.specs.Logs.{IsLogFault, IsNamed};
 
 use crate::paths::{CONFIG, name_of, own_files};
-use bench_core::Core;
 use config_json::put_config;
 use config_text::NodeConfig;
-use node_logs::{FileError, FileSink, LogError, write_log};
+use node_logs::{Core, FileError, FileSink, LogError, write_log};
 use std::alloc::{AllocError, Global};
 
 /// The text of a CONFIG of a node, which names files of its own.

@@ -6,9 +6,9 @@ ghost use Rattle.step_text.specs.Names.{shown, shown_octet};
 
 use crate::fault::LifeFault;
 use base_text::{put_hex, put_number};
-use bench_core::Core;
 use bench_open::Account;
 use bench_script::put_totals;
+use node_logs::Core;
 use std::alloc::{AllocError, Global};
 use step_text::is_plain;
 

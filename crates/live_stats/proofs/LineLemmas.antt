@@ -1,5 +1,5 @@
 -- The texts of numbers with their places, one behind the other.
-use Rattle.std.proofs.Common.{◌≡◌, ◌∙◌, ◌<◌, ◌+◌, ◌++◌, ◌∷◌, ℕ, List, [], ap, append_assoc, get_or, length, refl, suc, sym, take, zero, arith}
+use Rattle.std.proofs.Common.{◌≡◌, ◌∙◌, ◌<◌, ◌+◌, ◌++◌, ◌∷◌, ℕ, List, [], ap, append_assoc, get_or, length, suc, sym, take, zero, arith}
 use Rattle.std.proofs.lemmas.List.{append-nil}
 use Rattle.live_stats.specs.Lines.{numbered}
 

@@ -1,5 +1,5 @@
 -- The entries of a log, one after the other.
-use Rattle.std.proofs.Common.{◌≡◌, ◌∙◌, ◌<◌, ◌≤◌, ◌+◌, ◌∷◌, ℕ, List, [], None, Some, ap, drop, length, refl, suc, sym, zero, arith}
+use Rattle.std.proofs.Common.{◌≡◌, ◌∙◌, ◌≤◌, ◌+◌, ◌∷◌, ℕ, List, [], None, Some, ap, drop, length, refl, suc, sym, zero, arith}
 use Rattle.std.specs.Prelude.{slice_get}
 use Rattle.bench_item.specs.declared.entry.Entry.{Entry}
 use Rattle.live_stats.specs.Tallies.{Tally, noted, noted_all}

@@ -1,5 +1,5 @@
 -- All that is counted, entry by entry.
-use Rattle.std.specs.Prelude.{ℕ, ◌+◌, ◌-◌, ◌==◌, ◌&&◌, not, List, [], fold, if◌then◌else◌, length, replicate}
+use Rattle.std.specs.Prelude.{ℕ, ◌+◌, ◌-◌, ◌==◌, ◌&&◌, not, List, fold, if◌then◌else◌, length, replicate}
 use Rattle.std.specs.Prelude.{slice_index, slice_set}
 use Rattle.base_times.specs.Counts.{more}
 use Rattle.bench_item.specs.declared.entry.Entry.{Entry}

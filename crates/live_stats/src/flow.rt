@@ -1,5 +1,5 @@
 //! Requests of one direction, their answers, and the times between.
-ghost use Rattle.std.specs.Prelude.{◌≡◌, ◌++◌, OnErr, OnOk, IfOk, nat_eq, replicate};
+ghost use Rattle.std.specs.Prelude.{◌≡◌, OnErr, OnOk, IfOk, nat_eq, replicate};
 ghost use Rattle.std.specs.Map.{lookup};
 ghost use Rattle.indexmap.specs.IndexMap.{swap_remove_entry};
 ghost use Rattle.live_stats.specs.Exchanges.{answered, answers_with, at_rest, no_exchange, others_with, requested};

@@ -3,9 +3,9 @@ ghost use Rattle.std.specs.Prelude.{◌≡◌, IfNone, IfSome, OnSome, option_ma
 ghost use Rattle.std.specs.List.{find};
 ghost use Rattle.std.specs.Str.{bytes_eq};
 ghost use Rattle.base_codes.specs.DeedCodes.{name_of};
-ghost use Rattle.text_parts.specs.Pieces.{pieces_in, pieces_left};
+ghost use Rattle.text_parts.specs.Pieces.{pieces_left};
 ghost use Rattle.log_text.specs.DeedLines.{IsDeedLine, IsDeedOf, args_of, behind_stop, code_of, deed_in, guess_deed};
-ghost use Rattle.log_text.specs.DeedLines.{named_code, outcome_behind, outcome_of, stop_of};
+ghost use Rattle.log_text.specs.DeedLines.{named_code, outcome_behind, stop_of};
 
 use crate::compare::has_deed_line;
 use acct_totals::Outcome;

@@ -1,6 +1,5 @@
 //! The lines of entries, and of a log.
 ghost use Rattle.std.specs.Prelude.{◌≡◌, ◌++◌, OnOk, slice_get};
-ghost use Rattle.std.specs.List.{flat_map};
 ghost use Rattle.std.specs.Option.{option_map};
 ghost use Rattle.log_text.specs.Books.{named};
 ghost use Rattle.log_text.specs.EntryLines.{below, entry_lines, handled_lines, is_work, item_text, log_lines};

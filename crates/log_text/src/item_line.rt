@@ -1,11 +1,11 @@
 //! The line of an item, read.
-ghost use Rattle.std.specs.Prelude.{◌≡◌, Some, IfNone, IfOk, IfSome, OnSome, option_map};
+ghost use Rattle.std.specs.Prelude.{◌≡◌, Some, IfNone, IfSome, OnSome, option_map};
 ghost use Rattle.std.specs.List.{position};
 ghost use Rattle.std.specs.Str.{bytes_eq};
-ghost use Rattle.text_parts.specs.Pieces.{pieces_in, pieces_left};
+ghost use Rattle.text_parts.specs.Pieces.{pieces_left};
 ghost use Rattle.step_text.specs.Guess.{rest_of};
-ghost use Rattle.log_text.specs.Books.{named, states_in};
-ghost use Rattle.log_text.specs.ItemLines.{AreWords, IsItemLine, IsItemOf, below, ending_of, guess_item, item_line};
+ghost use Rattle.log_text.specs.Books.{named};
+ghost use Rattle.log_text.specs.ItemLines.{AreWords, IsItemLine, IsItemOf, below, ending_of, guess_item};
 ghost use Rattle.log_text.specs.ItemLines.{items_in, row_of, state_called, state_of, who_of};
 ghost use Rattle.log_text.specs.Shown.{item_shown, who_shown};
 

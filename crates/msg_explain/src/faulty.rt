@@ -2,9 +2,8 @@
 ghost use Rattle.std.specs.Prelude.{◌≡◌, ◌++◌, OnOk, map, None, Some};
 ghost use Rattle.dia_avp.specs.View.{seen};
 ghost use Rattle.dia_avp.specs.Reading.{avp_at};
-ghost use Rattle.dia_dict.specs.Dictionary.{known, definition_of};
+ghost use Rattle.dia_dict.specs.Dictionary.{known};
 ghost use Rattle.msg_explain.specs.Parts.{seen_part};
-ghost use Rattle.msg_explain.specs.Lines.{name_text};
 ghost use Rattle.msg_explain.specs.Faulty.{reason, is_ill_sized, same_code, is_wrong_length, is_failed_itself};
 ghost use Rattle.msg_explain.specs.Faulty.{is_failed, failed_place, at_text, vendor_of_text, avp_title};
 ghost use Rattle.msg_explain.specs.Faulty.{failed_avp_text, failed_text, fault_name, message_place, fault_line};

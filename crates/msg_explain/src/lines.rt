@@ -6,7 +6,7 @@ ghost use Rattle.dia_avp.specs.Reading.{avp_at};
 ghost use Rattle.dia_tree.specs.Kind.{is_grouped};
 ghost use Rattle.dia_dict.specs.Dictionary.{known};
 ghost use Rattle.msg_explain.specs.Parts.{seen_part};
-ghost use Rattle.msg_explain.specs.Lines.{indent, place_text, flag_letter, flag_letters, vendor_text, name_text};
+ghost use Rattle.msg_explain.specs.Lines.{place_text, flag_letter, flag_letters, vendor_text, name_text};
 ghost use Rattle.msg_explain.specs.Lines.{code_text, title_text, data_text, broken_words};
 ghost use Rattle.msg_explain.specs.Lines.{broken_text, front_text, part_line};
 

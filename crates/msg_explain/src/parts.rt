@@ -1,5 +1,5 @@
 //! The AVPs of a message with where they lie.
-ghost use Rattle.std.specs.Prelude.{◌≡◌, ◌<◌, ◌≤◌, ◌+◌, ◌*◌, ◌^◌, ◌++◌, OnOk, IfOk, map, length};
+ghost use Rattle.std.specs.Prelude.{◌≡◌, ◌<◌, ◌+◌, ◌*◌, ◌^◌, ◌++◌, OnOk, IfOk, map, length};
 ghost use Rattle.dia_dict.specs.Dictionary.{known};
 ghost use Rattle.msg_explain.specs.Parts.{seen_part, length_at, parts, message_parts};
 

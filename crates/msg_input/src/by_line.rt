@@ -1,5 +1,5 @@
 //! What is known of an input whose lines are each an input by itself.
-ghost use Rattle.std.specs.Prelude.{◌≡◌, ◌++◌, ◌<◌, ◌≤◌, ◌+◌, ◌^◌, ◌||◌, ℕ, List, Bool, [], length, take, get_or, Some};
+ghost use Rattle.std.specs.Prelude.{◌≡◌, ◌++◌, ◌<◌, ◌≤◌, ◌+◌, ◌^◌, ℕ, List, [], length, take, get_or, Some};
 ghost use Rattle.std.specs.Prelude.{IfOk, OnOk, OnErr};
 ghost use Rattle.msg_input.specs.ByLine.{IsJudged, IsLine};
 ghost use Rattle.msg_input.specs.Ends.{IsLast};

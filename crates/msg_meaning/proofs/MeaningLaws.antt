@@ -1,7 +1,7 @@
 -- What octets are read as is what the function says that they mean.
 use Rattle.std.proofs.Common.{◌≡◌, ℕ, List, [], ◌∷◌, map, drop, Option, None, Some, Result, Ok, Err, refl, sym, ap, subst, ◌∙◌, inl}
 use Rattle.std.specs.Prelude.{slice_get, unwrap_or}
-use Rattle.std.specs.Option.{option_and_then, option_to_list}
+use Rattle.std.specs.Option.{option_and_then}
 use Rattle.dia_avp.specs.declared.avp.Avp.{Avp}
 use Rattle.dia_avp.specs.Reading.{avps_in}
 use Rattle.dia_avp.specs.Look.{number_in}
@@ -12,7 +12,6 @@ use Rattle.dia_tree.specs.Canonical.{canonical, IsCanonical, AreEach}
 use Rattle.dia_tree.specs.declared.fault.MsgFault.{MsgFault}
 use Rattle.dia_tree.proofs.CanonicalRelation.{IsCanonical-again, AreCanonical-again}
 use Rattle.dia_command.specs.declared.command.Command.{Command}
-use Rattle.dia_command.specs.declared.command.Command.TheVariants.{Cer, Cea, Dwr, Dwa, Dpr, Dpa, Rar, Raa, Ccr, Cca, ErrorAnswer}
 use Rattle.dia_command.specs.declared.header.Header.{Header}
 use Rattle.dia_command.specs.declared.kind.CommandKind.{CommandKind}
 use Rattle.dia_command.specs.declared.typed.TypedAvp.{TypedAvp}

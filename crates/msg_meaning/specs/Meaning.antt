@@ -11,8 +11,6 @@ use Rattle.dia_tree.specs.Canonical.{canonical}
 use Rattle.dia_tree.specs.Faults.{fault}
 use Rattle.dia_tree.specs.declared.fault.MsgFault.{MsgFault}
 use Rattle.dia_command.specs.declared.command.Command.{Command}
-use Rattle.dia_command.specs.declared.command.Command.TheVariants.{Cer, Cea, Dwr, Dwa, Dpr, Dpa, Rar, Raa}
-use Rattle.dia_command.specs.declared.command.Command.TheVariants.{Ccr, Cca, ErrorAnswer}
 use Rattle.dia_command.specs.declared.header.Header.{Header}
 use Rattle.dia_command.specs.declared.kind.CommandKind.{CommandKind}
 use Rattle.dia_command.specs.declared.kind.CommandKind.TheVariants as kinds

@@ -1,5 +1,5 @@
 //! Messages in names, and where reading stopped.
-ghost use Rattle.std.specs.Prelude.{◌≡◌, ◌++◌, List, ℕ, IfOk};
+ghost use Rattle.std.specs.Prelude.{◌≡◌};
 ghost use Rattle.msg_input.specs.Ends.{words_of};
 ghost use Rattle.msg_text.specs.Styles.{IsExplained, explained_end, explained_line, frame_words};
 

@@ -1,5 +1,5 @@
 //! Messages as objects of JSON, a line each, and where reading stopped as one more.
-ghost use Rattle.std.specs.Prelude.{◌≡◌, ◌++◌, List, ℕ, IfOk, OnOk, drop};
+ghost use Rattle.std.specs.Prelude.{◌≡◌, ◌++◌, OnOk, drop};
 ghost use Rattle.msg_input.specs.Ends.{words_of};
 ghost use Rattle.msg_text.specs.Styles.{IsJson, json_end, json_fault, json_line, json_line_end};
 

@@ -1,5 +1,5 @@
 //! Messages as plain lines: a header, AVPs and the encoding, or a fault.
-ghost use Rattle.std.specs.Prelude.{◌≡◌, ◌++◌, List, [], ℕ, IfOk, OnOk};
+ghost use Rattle.std.specs.Prelude.{◌≡◌, ◌++◌, List, ℕ, IfOk, OnOk};
 ghost use Rattle.msg_text.specs.Printed.{CommandText, FaultText, Prints};
 ghost use Rattle.msg_text.specs.Styles.{IsPlain, plain_end, plain_line};
 

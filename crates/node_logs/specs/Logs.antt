@@ -3,7 +3,7 @@ use Rattle.std.specs.Prelude.{◌≡◌, ◌==◌, ◌&&◌, not, ℕ, List, [],
 use Rattle.std.specs.Prelude.{if◌then◌else◌}
 use Rattle.std.specs.List.{flat_map}
 use Rattle.bench_nodes.specs.declared.node.Node.{Node}
-use Rattle.bench_script.specs.Printed.{taken_text}
+use Rattle.bench_nodes.specs.Printed.{taken_text}
 use Rattle.bench_spec.specs.Taken.{Run}
 use Rattle.hex.specs.Hex.{encode_lower}
 use Rattle.step_text.specs.Names.{is_plain}

@@ -13,6 +13,7 @@ mod folder;
 mod logs;
 mod text;
 
+pub use bench_nodes::Core;
 pub use files::{FileError, FileSink};
 pub use folder::Folder;
 pub use logs::{LogError, unwritten_text, write_log, write_logs};

@@ -6,8 +6,7 @@ ghost use Rattle.node_logs.specs.declared.logs.LogError.TheVariants.{NoMemory};
 
 use crate::files::{FileError, FileSink};
 use crate::text::{log_text, put_file_name};
-use bench_core::Core;
-use bench_nodes::Node;
+use bench_nodes::{Core, Node};
 use std::alloc::{AllocError, Global};
 
 /// Why logs are not written.

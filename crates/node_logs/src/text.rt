@@ -6,8 +6,7 @@ ghost use Rattle.hex.specs.Hex.{encode_lower};
 ghost use Rattle.node_logs.specs.Logs.{file_name, file_octet, log_text};
 
 use base_text::put_hex;
-use bench_core::Core;
-use bench_script::put_taken;
+use bench_nodes::{Core, put_taken};
 use std::alloc::{AllocError, Global};
 use step_text::is_plain;
 

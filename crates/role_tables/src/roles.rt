@@ -1,5 +1,5 @@
 //! The shipped roles.
-ghost use Rattle.std.specs.Prelude.{◌≡◌, ◌++◌, [], IfOk, OnOk, option_map};
+ghost use Rattle.std.specs.Prelude.{◌≡◌, ◌++◌, IfOk, OnOk, option_map};
 ghost use Rattle.tab_role.specs.Roles.{joined};
 ghost use Rattle.role_tables.specs.Roles.{all_laws, no_laws, table_named};
 

@@ -1,6 +1,5 @@
 //! Keys of machines, read: `p:`, `c:` or `s:` and the name, in which `%` and two hexadecimal digits are an octet.
 ghost use Rattle.std.specs.Prelude.{◌≡◌, ◌<◌, true, None, is_some, length, IfOk, IfNone, IfSome, OnErr};
-ghost use Rattle.std.specs.Option.{option_map};
 ghost use Rattle.script_text.specs.Keys.{before, key_of, name_of, octet_of, role_of};
 ghost use Rattle.std.specs.Prelude.{Some};
 

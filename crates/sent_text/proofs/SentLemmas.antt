@@ -1,13 +1,12 @@
 -- Messages that are told one behind the other.
 use Rattle.std.proofs.Common.{◌≡◌, ◌+◌, ◌<◌, ◌≤◌, ◌^◌, ◌++◌, ◌∷◌, ◌∙◌, ℕ, Bool, true, false, List, [], Option, All, ap, append-nil, append_assoc, arith, drop, length, length-append, refl, subst, sym}
-use Rattle.std.specs.Prelude.{◌||◌, None, Result, Ok, Err}
+use Rattle.std.specs.Prelude.{◌||◌, None, Ok, Err}
 use Rattle.std.proofs.lemmas.List.{drop_at}
 use Rattle.std.proofs.lemmas.List.Elements.{All-head, All-rest}
 use Rattle.dia_dict.specs.Dictionary.{known}
 use Rattle.dia_frame.specs.Framer.{Feeds, FramerState, Takes}
 use Rattle.dia_frame.specs.Frames.{Frames, IsMessage, joined}
-use Rattle.dia_frame.specs.declared.fault.FeedError.{FeedError}
-use Rattle.dia_frame.specs.declared.fault.FeedError.TheVariants.{NoMemory, Fault}
+use Rattle.dia_frame.specs.declared.fault.FeedError.TheVariants.{Fault}
 use Rattle.dia_frame.specs.declared.fault.FrameFault.{FrameFault}
 use Rattle.dia_frame.specs.declared.fault.FrameFault.TheVariants.{Version, Length, Broken}
 use Rattle.dia_frame.proofs.FrameLemmas.{joined-push}

@@ -1,7 +1,8 @@
 //! The kinds of events of a server's machine.
 
-ghost use Rattle.std.specs.Prelude.{◌≡◌, Some};
+ghost use Rattle.std.specs.Prelude.{◌≡◌, ◌<◌, IfSome, Some, position};
 ghost use Rattle.std.specs.List.{slice_get};
+ghost use Rattle.std.specs.Str.{bytes_eq};
 ghost use Rattle.base_list.specs.Named.{place_of};
 ghost use Rattle.server_rules.specs.Kinds.{name_of, all, kinds};
 
@@ -53,5 +54,23 @@ impl ServerKind {
         ensures { place_of (name_of self) kinds ≡ Some result }
     {
         self as u8
+    }
+}
+
+/// Which of them has a name.
+fn kind_named(name: &[u8]) -> Option<usize>
+    ensures place { result ≡ position (λ kind. bytes_eq (name_of kind) name.now) all }
+    ensures few { IfSome result (λ place. place < 5) }
+{
+    ALL.iter().position(|kind| kind.name().as_bytes() == name)
+}
+
+/// The place of a name among the kinds of a server's laws.
+pub fn server_place(name: &[u8]) -> Option<u8>
+    ensures { result ≡ place_of name.now kinds }
+{
+    match kind_named(name) {
+        Some(place) => Some(place as u8),
+        None => None,
     }
 }

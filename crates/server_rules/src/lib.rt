@@ -14,5 +14,5 @@ mod entries;
 mod kind;
 mod laws;
 
-pub use kind::ServerKind;
+pub use kind::{ServerKind, server_place};
 pub use laws::{register_server, server_laws};

@@ -21,7 +21,6 @@ pub struct Directory {
 
 impl Model for Directory {
     ghost use Rattle.std.specs.Prelude.{List, ℕ, ◌≤◌, length};
-    ghost use Rattle.std.specs.Coded.{coded_ℕ, coded_list};
     ghost use Rattle.sess_dir.specs.declared.directory.TheConstants.{MAX_NAMES};
     ghost use Rattle.sess_dir.specs.Names.{octets_of};
 

@@ -1,7 +1,6 @@
 //! The one step that a line can be.
 
 ghost use Rattle.std.specs.Prelude.{◌≡◌, OnSome, option_map};
-ghost use Rattle.std.specs.Str.{bytes_eq};
 ghost use Rattle.base_list.specs.Named.{entry_of, place_of};
 ghost use Rattle.text_parts.specs.Pieces.{pieces_left};
 ghost use Rattle.step_text.specs.Guess.{came_of, fired_of, guess_of, kind_of, machine_of, piece_of};

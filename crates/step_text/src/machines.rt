@@ -29,8 +29,7 @@ impl Drop for Machines {
 }
 
 impl Model for Machines {
-    ghost use Rattle.std.specs.Prelude.{ℕ, List, length, ◌≤◌};
-    ghost use Rattle.base_list.specs.Named.{HasOwnNames};
+    ghost use Rattle.std.specs.Prelude.{ℕ, List};
     ghost use Rattle.base_list.specs.declared.named.Named.{Named};
     ghost use Rattle.step_text.specs.Names.{AreMachines};
 

@@ -1,6 +1,6 @@
 //! Names as words.
 
-ghost use Rattle.std.specs.Prelude.{◌≡◌, ◌++◌, IfOk, OnOk, codes};
+ghost use Rattle.std.specs.Prelude.{◌≡◌, ◌++◌, IfOk, OnOk};
 ghost use Rattle.std.specs.Str.{bytes_eq};
 ghost use Rattle.hex.specs.Hex.{IsBytes};
 ghost use Rattle.step_text.specs.Names.{is_plain, key_name, prefix_of, shown, shown_octet};

@@ -1,7 +1,7 @@
 //! A step as its line.
 
-ghost use Rattle.std.specs.Prelude.{◌≡◌, ◌++◌, ◌∷◌, [], OnOk, codes, decimal};
-ghost use Rattle.step_text.specs.Commands.{name_of, which};
+ghost use Rattle.std.specs.Prelude.{◌≡◌, ◌++◌, ◌∷◌, [], OnOk, decimal};
+ghost use Rattle.step_text.specs.Commands.{which};
 ghost use Rattle.step_text.specs.Lines.{behind, fact_words, line_of, others_of, piece_words, source_words};
 ghost use Rattle.step_text.specs.Names.{key_name, kind_word, machine_word, names_of, shown};
 

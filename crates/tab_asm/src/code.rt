@@ -1,6 +1,6 @@
 //! The code of an image: the instructions of rows, entry by entry.
 
-ghost use Rattle.std.specs.Prelude.{◌≡◌, ◌+◌, ◌*◌, ◌<◌, ◌≤◌, ◌++◌, length, map, take, OnOk, IfOk};
+ghost use Rattle.std.specs.Prelude.{◌≡◌, ◌+◌, ◌*◌, ◌<◌, ◌≤◌, ◌++◌, length, map, OnOk, IfOk};
 ghost use Rattle.tab_asm.specs.Formats.{format_2, TestGuard, RunAction, code_of};
 ghost use Rattle.tab_asm.specs.Assembled.{is_in, rows_in, row_size, row_instructions, entry_instructions, offset_of};
 

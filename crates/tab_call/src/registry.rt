@@ -1,5 +1,5 @@
 //! A registry of callbacks under their names.
-ghost use Rattle.std.specs.Prelude.{◌≡◌, ◌<◌, ◌≤◌, ◌+◌, ◌++◌, ◌∷◌, [], None, length, map};
+ghost use Rattle.std.specs.Prelude.{◌≡◌, ◌<◌, ◌+◌, ◌++◌, ◌∷◌, [], None, length, map};
 ghost use Rattle.std.specs.Prelude.{take, OnOk, OnErr, IfErr, vec_len, vec_capacity};
 ghost use Rattle.base_list.specs.Adding.{error_of};
 ghost use Rattle.base_list.specs.Named.{refusal};

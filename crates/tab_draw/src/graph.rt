@@ -2,7 +2,7 @@
 ghost use Rattle.std.specs.Prelude.{◌≡◌, ◌++◌, IfOk, OnOk};
 ghost use Rattle.std.specs.List.{enumerate_from, flat_map, list_any};
 ghost use Rattle.tab_text.specs.Contents.{IsRowOf};
-ghost use Rattle.tab_draw.specs.Drawing.{arrow, arrow_label, arrows_from, box_text, drawing, goes, head, row_line};
+ghost use Rattle.tab_draw.specs.Drawing.{arrow, arrow_label, arrows_from, box_text, drawing, goes, row_line};
 
 use crate::label::put_label;
 use std::alloc::{AllocError, Global};

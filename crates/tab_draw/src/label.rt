@@ -1,5 +1,5 @@
 //! What is written at a row: its number, the kind of its events and its guards.
-ghost use Rattle.std.specs.Prelude.{◌≡◌, ◌++◌, ◌<◌, length, map, All, OnOk};
+ghost use Rattle.std.specs.Prelude.{◌≡◌, ◌++◌, ◌<◌, length, All, OnOk};
 ghost use Rattle.std.specs.List.{flat_map};
 ghost use Rattle.tab_text.specs.Contents.{IsRowOf};
 ghost use Rattle.tab_text.specs.Rows.{name_at};

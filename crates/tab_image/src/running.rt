@@ -1,6 +1,6 @@
 //! One event run by a program.
 
-ghost use Rattle.std.specs.Prelude.{◌≡◌, ℕ};
+ghost use Rattle.std.specs.Prelude.{◌≡◌};
 ghost use Rattle.tab_law.specs.Books.{NamedPermits};
 ghost use Rattle.tab_text.specs.Contents.{Contents, IsTable};
 ghost use Rattle.tab_step.specs.Moves.{IsStep};

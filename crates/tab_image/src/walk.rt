@@ -1,8 +1,8 @@
 //! The walk through the code, from an entry to an end.
 
-ghost use Rattle.std.specs.Prelude.{◌≡◌, ◌<◌, IfNone, IfSome, [], length, slice_index_or, None, Some};
+ghost use Rattle.std.specs.Prelude.{◌≡◌, ◌<◌, IfNone, IfSome, [], length, None, Some};
 ghost use Rattle.tab_load.specs.Loading.{IsLoaded};
-ghost use Rattle.tab_image.specs.RunBy.{says, entry_of};
+ghost use Rattle.tab_image.specs.RunBy.{says};
 ghost use Rattle.tab_image.specs.Walks.{IsAt, IsEnd};
 
 use tab_call::Registry;

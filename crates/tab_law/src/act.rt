@@ -1,8 +1,7 @@
 //! What an action answers, and what it may by its law.
-ghost use Rattle.std.specs.Prelude.{◌≡◌, ◌<◌, ◌++◌, ◌∷◌, [], ◌-◌, ◌↔◌, Option, IsTrue, length, map, replicate};
+ghost use Rattle.std.specs.Prelude.{◌≡◌, ◌<◌, ◌++◌, ◌∷◌, [], ◌-◌, ◌↔◌, Option, IsTrue, length, replicate};
 ghost use Rattle.std.specs.Option.{option_copied, option_to_list};
 ghost use Rattle.tab_law.specs.declared.limits.TheConstants.{PLACES, MAX_EMITS};
-ghost use Rattle.tab_law.specs.Values.{term_value};
 ghost use Rattle.tab_law.specs.Acts.{is_change_of, is_emit, last_of, Allows, IsAtHighest};
 ghost use Rattle.tab_law.specs.Acts.{arguments_of, deed_of, emitted, Permits, IsHigh};
 

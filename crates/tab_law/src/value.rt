@@ -1,5 +1,5 @@
 //! The values of atoms and terms.
-ghost use Rattle.std.specs.Prelude.{◌≡◌, ◌%◌, slice_index};
+ghost use Rattle.std.specs.Prelude.{◌≡◌, ◌%◌};
 ghost use Rattle.tab_law.specs.Values.{place_at, atom_value, term_value};
 
 use crate::law::{Atom, Term};

@@ -1,6 +1,5 @@
 //! The cells of a row.
-ghost use Rattle.std.specs.Prelude.{◌≡◌, ◌++◌, ◌<◌, ℕ, length, map, All, OnOk};
-ghost use Rattle.std.specs.List.{flat_map};
+ghost use Rattle.std.specs.Prelude.{◌≡◌, ◌++◌, ◌<◌, length, map, All, OnOk};
 ghost use Rattle.tab_text.specs.Contents.{IsRowOf};
 ghost use Rattle.tab_print.specs.Cells.{name_at, behind_each, condition, actions_text, cell_text};
 

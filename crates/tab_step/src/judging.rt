@@ -1,6 +1,6 @@
 //! Whether what stands in a log is a step, by the laws alone: no callback is asked.
 
-ghost use Rattle.std.specs.Prelude.{◌≡◌, ◌↔◌, ℕ, ◌<◌, ◌++◌, ◌∷◌, [], List, All};
+ghost use Rattle.std.specs.Prelude.{◌≡◌, ◌↔◌, ◌<◌, ◌++◌, ◌∷◌, [], List, All};
 ghost use Rattle.std.specs.Prelude.{IsTrue, IfSome, IfNone, length, slice_index_or};
 ghost use Rattle.tab_law.specs.Acts.{Permits};
 ghost use Rattle.tab_law.specs.Books.{ActPermits, NamedPermits};

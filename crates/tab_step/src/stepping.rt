@@ -1,5 +1,5 @@
 //! One step by a table.
-ghost use Rattle.std.specs.Prelude.{◌≡◌, ℕ, ◌<◌, ◌≤◌, All, length, Some, None, slice_index_or};
+ghost use Rattle.std.specs.Prelude.{◌≡◌, ◌<◌, ◌≤◌, All, length, Some, None, slice_index_or};
 ghost use Rattle.tab_law.specs.Books.{ActPermits, NamedPermits};
 ghost use Rattle.tab_text.specs.declared.row.Row.{Row};
 ghost use Rattle.tab_step.specs.Moves.{end_of, scene_of, Runs, Stays, MovesAlong, IsStep};

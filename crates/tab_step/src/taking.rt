@@ -1,6 +1,6 @@
 //! Which row takes an event. Guards answer by their callbacks, or else by their laws.
 
-ghost use Rattle.std.specs.Prelude.{◌≡◌, ℕ, ◌<◌, All, length, Some, None, IfSome, IfNone, slice_index_or};
+ghost use Rattle.std.specs.Prelude.{◌≡◌, ◌<◌, All, length, Some, None, IfSome, IfNone, slice_index_or};
 ghost use Rattle.std.specs.List.{list_all};
 ghost use Rattle.tab_law.specs.Books.{guard_answer, named_answer};
 ghost use Rattle.tab_text.specs.declared.row.Row.{Row};

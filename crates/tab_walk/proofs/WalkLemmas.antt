@@ -24,7 +24,7 @@ use Rattle.base_device.specs.declared.status.Status.{Status}
 use Rattle.base_device.specs.declared.status.Status.TheVariants as statuses
 use Rattle.fault_text.specs.Spots.{unbound_place}
 use Rattle.tab_walk.specs.declared.start.WalkOptions.{WalkOptions}
-use Rattle.tab_walk.specs.Walks.{AreSteps, Printing, is_image, IsRefused, IsRunFrom, IsRunOver, IsWalked, IsWalkedOf, RunText, StepByRows, bind_text, parse_text, steps_text, table_refusal, table_rows, told_text}
+use Rattle.tab_walk.specs.Walks.{AreSteps, Printing, is_image, IsRefused, IsRunFrom, IsRunOver, IsWalked, IsWalkedOf, RunText, StepByRows, bind_text, parse_text, steps_text, table_rows, told_text}
 
 -- there is one step for each event
 AreSteps-length : (Step : MachineState → Event → Stepped → Type 0) (s : MachineState) (events : List Event) (steps : List Stepped) → AreSteps Step s events steps → length steps ≡ length events

@@ -1,6 +1,6 @@
 -- Why rows didn't take an event: by the places of their guards as by the names, and row by row.
 use Rattle.std.proofs.Common.{◌≡◌, ℕ, ◌+◌, ◌<◌, ◌++◌, ◌∷◌, [], List, Option, Some, None, length, map, take, drop, get_or, refl, sym, ap, ◌∙◌, arith, append-nil, min, zero-add}
-use Rattle.std.specs.Prelude.{◌==◌, ◌&&◌, option_and_then}
+use Rattle.std.specs.Prelude.{◌==◌, ◌&&◌}
 use Rattle.std.specs.List.{enumerate_from, filter_map, flat_map, range_with_len, slice_get}
 use Rattle.std.proofs.lemmas.Grind.{flat_map-append}
 use Rattle.std.proofs.lemmas.List.{drop_more, map-id, take_all, take_min, take_more}
@@ -8,7 +8,6 @@ use Rattle.std.proofs.lemmas.List.FromFn.{get_or-enumerate_from, length-enumerat
 use Rattle.base_list.proofs.NamedLemmas.{entry_of-place}
 use Rattle.base_list.specs.Named.{HasOwnNames, place_of}
 use Rattle.tab_law.specs.Books.{Laws}
-use Rattle.tab_law.specs.declared.law.Test.{Test}
 use Rattle.tab_law.specs.declared.scene.Scene.{Scene}
 use Rattle.tab_text.specs.Contents.{Contents}
 use Rattle.tab_text.specs.declared.row.Row.{Row}

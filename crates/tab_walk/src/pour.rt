@@ -1,5 +1,5 @@
 //! A machine stepped over the events of a text, and what its steps print written out as they come.
-ghost use Rattle.std.specs.Prelude.{◌≡◌, ◌≤◌, ◌<◌, ◌-◌, ◌^◌, ◌++◌, max, IfErr, OnErr, OnOk};
+ghost use Rattle.std.specs.Prelude.{◌≡◌, ◌≤◌, ◌<◌, ◌-◌, ◌^◌, ◌++◌, max, OnErr, OnOk};
 ghost use Rattle.base_device.specs.Devices.{HasWriteCause};
 ghost use Rattle.event_text.specs.Events.{events_of};
 ghost use Rattle.tab_walk.specs.Pours.{IsHalted, IsPoured, PutsOut};

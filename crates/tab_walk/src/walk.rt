@@ -1,5 +1,5 @@
 //! A walk: a table, or its image, stepped over a list of events, printed event by event.
-ghost use Rattle.std.specs.Prelude.{◌≡◌, ◌≢◌, ◌<◌, ◌≤◌, ◌-◌, ◌^◌, max, Some, None, codes, IfOk, MatchResult};
+ghost use Rattle.std.specs.Prelude.{◌≡◌, ◌≢◌, ◌<◌, ◌≤◌, ◌-◌, ◌^◌, max, Some, codes, IfOk, MatchResult};
 ghost use Rattle.base_device.specs.Devices.{HasWriteCause, Tells};
 ghost use Rattle.base_text.specs.Digits.{is_blank};
 ghost use Rattle.event_text.specs.Events.{events_of};
@@ -7,7 +7,7 @@ ghost use Rattle.hex.specs.Hex.{is_hex_digit};
 ghost use Rattle.image_text.specs.Images.{refusal_text};
 ghost use Rattle.tab_walk.specs.Starts.{start_text};
 ghost use Rattle.tab_walk.specs.Walks.{IsImageWalked, IsReady, IsRefused, IsRunBy, IsRunFrom, IsToldWith, IsWalked};
-ghost use Rattle.tab_walk.specs.Walks.{IsWalkedOf, IsWalkedOn, StepBy, bind_text, is_image, neither};
+ghost use Rattle.tab_walk.specs.Walks.{IsWalkedOn, StepBy, bind_text, is_image, neither};
 ghost use Rattle.tab_walk.specs.Walks.{parse_text, table_text, told_of};
 
 use crate::pour::{Halt, Stepping, pour};

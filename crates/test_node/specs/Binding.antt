@@ -1,5 +1,5 @@
 -- What binds a table to a book is known in one way at most.
-use Rattle.std.specs.Prelude.{ℕ, List, [], ◌∷◌, Option, ⊤}
+use Rattle.std.specs.Prelude.{ℕ, List, [], ◌∷◌, Option}
 use Rattle.std.specs.List.{AllZip}
 use Rattle.std.specs.Coded.{×_prop, Coded-set, coded_ℕ, coded_list, coded_option}
 use Rattle.tab_law.specs.Books.{Laws}

@@ -65,6 +65,20 @@ pub record Moves (old new : NodeView) : Type 0 where
   pub steps : List Step
   pub fed : new ≡ record old { fed = old.fed ++ steps }
 
+-- connections that can be dialled nowhere were lost, and nothing else changed
+abbrev pub is_loss : Step → Bool
+is_loss (steps.Lost line) = true
+is_loss step = false
+
+pub record Loses (old new : NodeView) : Type 0 where
+  pub steps : List Step
+  pub lost : list_all is_loss steps ≡ true
+  pub fed : new ≡ record old { fed = old.fed ++ steps }
+
+-- a dial that is told is one of a connection; before it no more than that was done
+abbrev pub DialsAs : NodeView → (line : ℕ) → NodeView → Type 0
+DialsAs old line new = (0 < line) × Loses old new
+
 -- what a connection takes is fed
 abbrev pub TakesOn : NodeView → ℕ → Event → NodeView → Type 0
 TakesOn old line event new = (is_number line ≡ true) × Feeds old (step_on line event) new

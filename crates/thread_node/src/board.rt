@@ -1,6 +1,5 @@
 //! Where machines stood when they were looked at, as a desk sees it.
-ghost use Rattle.std.specs.Prelude.{◌≡◌, ◌++◌, ◌∷◌, [], OnErr, OnOk};
-ghost use Rattle.bench_spec.specs.Settings.{table_of};
+ghost use Rattle.std.specs.Prelude.{◌≡◌, ◌++◌, ◌∷◌, [], OnOk};
 ghost use Rattle.thread_node.specs.Boards.{found};
 
 use bench_core::Core;

@@ -1,11 +1,11 @@
 //! What its sockets ask of a node.
 #![tactic(auto, using(crate::proofs::TextLemmas::growing, crate::proofs::MovingLemmas::moving))]
 
-ghost use Rattle.std.specs.Prelude.{◌≡◌, ◌^◌, IfErr, IfOk, OnErr, OnOk, false, true};
+ghost use Rattle.std.specs.Prelude.{◌≡◌, IfErr, IfSome, OnErr, OnOk, false, true};
 ghost use Rattle.bench_net.specs.declared.refusal.Refusal.TheVariants.{Unknown};
 ghost use Rattle.node_port.specs.Happened.{is_number, refusal_of};
 ghost use Rattle.bench_item.specs.declared.step.Step.TheVariants as steps;
-ghost use Rattle.thread_node.specs.Nodes.{Feeds, JoinsAs, Moves, RefusesLine, RefusesOn, TakesOn, sent_on};
+ghost use Rattle.thread_node.specs.Nodes.{DialsAs, Feeds, JoinsAs, Loses, Moves, RefusesLine, RefusesOn, TakesOn, sent_on};
 
 use crate::node::ThreadNode;
 use crate::texts::copy_from;
@@ -44,7 +44,8 @@ impl<R: Copy, B: InThreads<R>> ThreadNode<R, B> {
 
     // The dial of a connection, if one is wanted there and can be made; one that can be made nowhere is lost.
     fn dial_of(&mut self, line: u64) -> Option<Dial>
-        ensures { Moves self.old self.new }
+        ensures line { IfSome result (λ dial. dial.line ≡ line) }
+        ensures lost { Loses self.old self.new }
     {
         let Some(LineState::Dialling { peer }) = self.state(line) else {
             return None;
@@ -66,7 +67,7 @@ impl<R: Copy, B: InThreads<R>> Node for ThreadNode<R, B> {
 
     ghost joins = { λ s line t. JoinsAs s line t };
 
-    ghost dials = { λ s line t. Moves s t };
+    ghost dials = { λ s line t. DialsAs s line t };
 
     ghost opens = { λ s line t. (is_number line ≡ true) × Feeds s (steps.Dialled line) t };
 

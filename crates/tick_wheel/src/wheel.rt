@@ -1,5 +1,5 @@
 //! The wheel.
-ghost use Rattle.std.specs.Prelude.{◌≡◌, ℕ, List, ◌≤◌, IsTrue, IsSome, OnOk, OnErr, IfOk, max, Option, length};
+ghost use Rattle.std.specs.Prelude.{◌≡◌, List, IsTrue, IsSome, OnOk, OnErr, IfOk, max, Option, length};
 ghost use Rattle.std.specs.FinMap as map;
 ghost use Rattle.std.specs.FinSet as set;
 ghost use Rattle.tick_wheel.specs.Timers.{at_start, after_arm, after_advance, with_timer_of, reached, IsDueFiring};
@@ -28,7 +28,6 @@ pub struct Wheel {
 }
 
 impl Model for Wheel {
-    ghost use Rattle.std.specs.Ordering.{nat_cmp};
     ghost use Rattle.std.specs.FinSet.{from_list};
     ghost use Rattle.std.specs.Map.{keys_of};
     ghost use Rattle.tick_wheel.specs.Timers.{Timers, timers_code};

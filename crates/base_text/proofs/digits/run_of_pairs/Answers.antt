@@ -1,4 +1,4 @@
-use Rattle.std.proofs.Common.{◌≡◌, ◌<◌, ℕ, ◌+◌, ◌*◌, ◌-◌, [], ◌∷◌, length, take, drop, get_or, None, sym, arith}
+use Rattle.std.proofs.Common.{◌≡◌, ◌<◌, ◌+◌, ◌-◌, [], ◌∷◌, length, take, None, sym, arith}
 use Rattle.std.proofs.lemmas.List.{take_more_set, length-set}
 use Rattle.base_text.proofs.Meaning.{Means-more, take_two}
 use Rattle.base_text.proofs.digits.run_of_pairs.Goals as goal

@@ -1,4 +1,4 @@
-use Rattle.std.proofs.Common.{◌<◌, ◌≤◌, ◌^◌, ℕ, sym, arith}
+use Rattle.std.proofs.Common.{◌<◌, ◌^◌, sym, arith}
 use Rattle.base_times.proofs.BucketLemmas.{bucket_small, bucket_there, bucket_wide, top_high}
 use Rattle.base_times.specs.Buckets.{bucket_of}
 use Rattle.base_times.proofs.bucket.bucket_of.Goals as goal

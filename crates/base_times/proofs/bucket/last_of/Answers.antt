@@ -1,7 +1,6 @@
-use Rattle.std.proofs.Common.{◌≡◌, ◌∙◌, ◌+◌, ◌-◌, ◌*◌, ◌/◌, ◌%◌, ◌^◌, ℕ, sym, arith}
+use Rattle.std.proofs.Common.{◌-◌, ◌/◌, sym, arith}
 use Rattle.std.proofs.lemmas.Nat.{pow_pos}
 use Rattle.base_times.proofs.BucketLemmas.{last_small, low_wide, next_small, next_wide, width_small}
-use Rattle.base_times.specs.Buckets.{low_of}
 use Rattle.base_times.proofs.bucket.last_of.Goals as goal
 
 pub returns-then-bucket-lt16 : goal.returns-then-bucket-lt16

@@ -1,4 +1,4 @@
-use Rattle.std.proofs.Common.{◌≡◌, ◌≢◌, ◌∙◌, ◌<◌, ℕ, length, sym, arith}
+use Rattle.std.proofs.Common.{◌≢◌, ◌∙◌, ◌<◌, length, arith}
 use Rattle.std.specs.Prelude.{sum}
 use Rattle.base_times.specs.Percentiles.{rank_of, reached}
 use Rattle.base_times.proofs.PercentileLemmas.{percentile_there}

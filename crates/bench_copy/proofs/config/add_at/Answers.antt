@@ -1,4 +1,4 @@
-use Rattle.std.proofs.Common.{◌≡◌, ◌∙◌, ◌++◌, ◌∷◌, ℕ, List, [], ap, sym}
+use Rattle.std.proofs.Common.{◌∙◌, ◌++◌, ◌∷◌, ℕ, List, [], ap, sym}
 use Rattle.std.specs.Prelude.{option_copied}
 use Rattle.dia_dict.specs.Base.{base}
 use Rattle.dia_dict.specs.Dictionary.{known}

@@ -1,4 +1,4 @@
-use Rattle.std.proofs.Common.{◌≡◌, ◌∙◌, ◌+◌, List, ℕ, length, set, subst, sym}
+use Rattle.std.proofs.Common.{◌∙◌, ◌+◌, List, ℕ, length, set, subst, sym}
 use Rattle.std.specs.Prelude.{Some}
 use Rattle.bench_merge.specs.declared.merging.Placed.{Placed}
 use Rattle.bench_merge.specs.Heads.{Merging, UpTo}

@@ -1,4 +1,4 @@
-use Rattle.std.proofs.Common.{◌≡◌, false, [], refl, inr}
+use Rattle.std.proofs.Common.{false, [], refl, inr}
 use Rattle.std.proofs.KnownBytes.{Consumes-nil}
 use Rattle.bench_net.specs.Pipes.{waiting}
 use Rattle.bench_net.proofs.HearLemmas.{EndsBy-settled, Hears-after, Hears-none}

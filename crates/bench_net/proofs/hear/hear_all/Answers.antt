@@ -1,4 +1,4 @@
-use Rattle.std.proofs.Common.{◌≡◌, ◌≤◌, ◌++◌, ℕ, ◌+◌, ◌*◌, Bool, false, [], List, subst, length, refl, ◌∙◌, ap, arith}
+use Rattle.std.proofs.Common.{◌++◌, ◌+◌, Bool, false, [], subst, refl, ◌∙◌, arith}
 use Rattle.std.proofs.KnownBytes.{Consumes-nil}
 use Rattle.bench_net.specs.Pipes.{waiting}
 use Rattle.bench_net.specs.Readings.{Hears}

@@ -1,4 +1,4 @@
-use Rattle.std.proofs.Common.{◌≡◌, ℕ, false, true, [], ◌∷◌, length, take, refl, arith}
+use Rattle.std.proofs.Common.{◌≡◌, false, true, [], ◌∷◌, length, take, refl, arith}
 use Rattle.bench_net.specs.Pipes.{waiting}
 use Rattle.bench_net.proofs.HandLemmas.{loss_behind, piece_behind, still_empty, waits}
 use Rattle.bench_net.proofs.HearLemmas.{TurnsBy-input, TurnsBy-piece, loss_heard, nothing_heard, one_piece, piece_heard}

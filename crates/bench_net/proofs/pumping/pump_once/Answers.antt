@@ -1,7 +1,7 @@
-use Rattle.std.proofs.Common.{◌≡◌, not, false, [], refl, inl, ◌∙◌, ◌||◌, ◌&&◌}
+use Rattle.std.proofs.Common.{not, inl, ◌∙◌, ◌||◌, ◌&&◌}
 use Rattle.bench_net.specs.Pipes.{waiting}
 use Rattle.bench_net.specs.Pumps.{is_ended}
-use Rattle.bench_net.specs.declared.end.End.TheVariants.{Failed, Over, Held}
+use Rattle.bench_net.specs.declared.end.End.TheVariants.{Failed, Over}
 use Rattle.bench_net.specs.declared.fault.PumpCode.TheVariants as codes
 use Rattle.bench_net.proofs.HearLemmas.{Hears-then}
 use Rattle.bench_net.proofs.PumpLemmas.{at_end, done, heard_so, lost_by, lost_now, sent_so}

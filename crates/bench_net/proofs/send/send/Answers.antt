@@ -1,4 +1,4 @@
-use Rattle.std.proofs.Common.{◌≡◌, ◌≤◌, ℕ, ◌+◌, ◌*◌, ◌^◌, length, take, refl, ◌∙◌, arith}
+use Rattle.std.proofs.Common.{◌≤◌, ◌+◌, take, refl, ◌∙◌, arith}
 use Rattle.std.proofs.lemmas.List.{length-take}
 use Rattle.bench_net.proofs.SendLemmas.{Sends-more, length-front}
 use Rattle.bench_net.proofs.TextLemmas.{StandsAt-copied}

@@ -1,4 +1,4 @@
-use Rattle.std.proofs.Common.{◌≡◌, ◌≤◌, ℕ, ◌+◌, ◌*◌, List, length}
+use Rattle.std.proofs.Common.{◌≡◌, ◌≤◌, ◌+◌, ◌*◌}
 use Rattle.bench_net.specs.Pipes.{waiting}
 use Rattle.bench_net.specs.Writings.{Sends}
 use Rattle.bench_net.proofs.send.send.Given as goal

@@ -1,4 +1,4 @@
-use Rattle.std.proofs.Common.{◌≡◌, Ok, refl}
+use Rattle.std.proofs.Common.{◌≡◌, Ok}
 use Rattle.bench_net.specs.Answers.{meaning_of}
 use Rattle.bench_net.specs.Events.{Lost}
 use Rattle.bench_net.proofs.AnswerLemmas.{settled_by}

@@ -1,4 +1,3 @@
-use Rattle.std.proofs.Common.{inr}
 use Rattle.cmd_bench.proofs.LoggedLemmas.{logs_told}
 use Rattle.cmd_bench.proofs.logged.run_logged_on.Goals as goal
 

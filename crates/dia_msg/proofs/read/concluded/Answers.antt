@@ -1,4 +1,4 @@
-use Rattle.std.proofs.Common.{◌≡◌, ◌∙◌, sym, ap, refl, Option, Err, Ok}
+use Rattle.std.proofs.Common.{◌∙◌, sym, ap, refl, Option, Err, Ok}
 use Rattle.std.specs.Option.{option_map}
 use Rattle.std.proofs.lemmas.Result.{err_from_is_err_and}
 use Rattle.dia_avp.proofs.Bytes.{IsBytes-fits}

@@ -1,4 +1,3 @@
-use Rattle.std.proofs.Common.{refl}
 use Rattle.dict_text.proofs.NameLemmas.{name-bad, name-good}
 use Rattle.dict_text.proofs.entries.text_of.Goals as goal
 

@@ -1,7 +1,7 @@
-use Rattle.std.proofs.Common.{◌≡◌, ◌∙◌, ◌<◌, List, None, Some, ap, arith, length, refl, sym}
+use Rattle.std.proofs.Common.{◌≡◌, ◌∙◌, ◌<◌, List, ap, arith, length, refl, sym}
 use Rattle.std.specs.Prelude.{slice_get}
 use Rattle.bench_item.specs.declared.entry.Entry.{Entry}
-use Rattle.bench_script.specs.Printed.{taken_text}
+use Rattle.bench_nodes.specs.Printed.{taken_text}
 use Rattle.node_logs.proofs.LogLemmas.{is_there, one_more}
 use Rattle.node_logs.proofs.text.log_text.Goals as goal
 use Rattle.node_logs.proofs.text.log_text.Goals.{in-Some+in_ok-put_taken, in_default}

@@ -1,5 +1,5 @@
 use Rattle.std.proofs.Common.{◌≡◌, take, flat_map}
-use Rattle.bench_script.specs.Printed.{taken_text}
+use Rattle.bench_nodes.specs.Printed.{taken_text}
 use Rattle.node_logs.proofs.text.log_text.Given as goal
 
 -- the entries so far were put

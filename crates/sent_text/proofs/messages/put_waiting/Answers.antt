@@ -1,4 +1,4 @@
-use Rattle.std.proofs.Common.{◌≡◌, ◌+◌, ◌∷◌, ◌∙◌, List, ℕ, ap, length}
+use Rattle.std.proofs.Common.{◌+◌, ◌∙◌, ℕ, ap}
 use Rattle.dia_frame.specs.Framer.{FramerState}
 use Rattle.sent_text.proofs.SentLemmas.{told_next}
 use Rattle.sent_text.proofs.messages.put_waiting.Goals as goal

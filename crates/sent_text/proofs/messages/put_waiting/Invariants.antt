@@ -1,5 +1,4 @@
-use Rattle.std.proofs.Common.{◌≡◌, length}
-use Rattle.dia_show.specs.Glossary.{base_meanings}
+use Rattle.std.proofs.Common.{length}
 use Rattle.sent_text.proofs.SentLemmas.{ToldSome}
 use Rattle.sent_text.proofs.messages.put_waiting.Given as goal
 

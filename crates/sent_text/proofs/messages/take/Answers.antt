@@ -1,8 +1,7 @@
-use Rattle.std.proofs.Common.{ℕ, subst}
+use Rattle.std.proofs.Common.{subst}
 use Rattle.std.specs.Prelude.{Ok, Err}
 use Rattle.dia_frame.specs.Framer.{Feeds, FramerState}
 use Rattle.dia_frame.specs.declared.fault.FeedError.{FeedError}
-use Rattle.dia_frame.specs.declared.fault.FeedError.TheVariants.{Fault}
 use Rattle.sent_text.proofs.SentLemmas.{fault_framed, fed_framed}
 use Rattle.sent_text.proofs.messages.take.Goals as goal
 

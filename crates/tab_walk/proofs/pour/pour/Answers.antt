@@ -1,8 +1,8 @@
-use Rattle.std.proofs.Common.{◌≡◌, arith}
+use Rattle.std.proofs.Common.{arith}
 use Rattle.event_text.specs.Events.{events_of}
 use Rattle.event_text.specs.Left.{events_left}
 use Rattle.tab_walk.specs.Walks.{StepBy, told_of}
-use Rattle.tab_walk.proofs.PourLemmas.{HasWriteCause-more, IsPoured-halted, Pours, Pours-all, Pours-put, Pours-start, Pours-step}
+use Rattle.tab_walk.proofs.PourLemmas.{IsPoured-halted, Pours-all, Pours-put, Pours-start, Pours-step}
 use Rattle.tab_walk.proofs.pour.pour.Goals as goal
 
 pub loop-event-init : goal.loop-event-init

@@ -1,4 +1,4 @@
-use Rattle.std.proofs.Common.{◌≡◌, ◌≤◌, length, max}
+use Rattle.std.proofs.Common.{◌≤◌, length, max}
 use Rattle.event_text.specs.Events.{events_of}
 use Rattle.event_text.specs.Left.{events_left}
 use Rattle.tab_walk.specs.Walks.{StepBy, told_of}

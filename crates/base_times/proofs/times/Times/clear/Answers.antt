@@ -1,4 +1,4 @@
-use Rattle.std.proofs.Common.{◌≡◌, ℕ, length, arith}
+use Rattle.std.proofs.Common.{length, arith}
 use Rattle.base_times.proofs.CountLemmas.{cleared}
 use Rattle.base_times.specs.Percentiles.{no_counts}
 use Rattle.base_times.specs.declared.bucket.TheConstants.{BUCKETS}

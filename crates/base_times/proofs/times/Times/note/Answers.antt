@@ -1,4 +1,4 @@
-use Rattle.std.proofs.Common.{◌<◌, ◌^◌, ℕ, arith}
+use Rattle.std.proofs.Common.{◌<◌, ◌^◌, arith}
 use Rattle.base_times.proofs.PercentileLemmas.{one_more}
 use Rattle.base_times.proofs.times.Times.note.Goals as goal
 

@@ -1,4 +1,4 @@
-use Rattle.std.proofs.Common.{◌≡◌, ◌∙◌, sym}
+use Rattle.std.proofs.Common.{◌∙◌, sym}
 use Rattle.base_times.proofs.PercentileLemmas.{none_means, percentile_means}
 use Rattle.base_times.proofs.times.Times.percentile.Goals as goal
 

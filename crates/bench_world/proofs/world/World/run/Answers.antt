@@ -1,4 +1,4 @@
-use Rattle.std.proofs.Common.{◌≡◌, ◌∷◌, [], ◌++◌, ◌∙◌, ap, append_assoc, arith, length, refl, subst, sym}
+use Rattle.std.proofs.Common.{◌∷◌, [], ◌++◌, ◌∙◌, ap, append_assoc, arith, length, refl, subst, sym}
 use Rattle.std.proofs.lemmas.List.{append-nil, length-append}
 use Rattle.bench_spec.specs.Taken.{TakesAll, fault_of}
 use Rattle.bench_world.proofs.RunLemmas.{none-left, takes-more}

@@ -1,4 +1,4 @@
-use Rattle.std.proofs.Common.{◌≡◌, ◌∙◌, nat_eq, ap, map, refl}
+use Rattle.std.proofs.Common.{◌∙◌, nat_eq, ap, map, refl}
 use Rattle.std.specs.Arc.{arc_value}
 use Rattle.indexmap.specs.IndexMap.{insert_entry}
 use Rattle.bench_spec.specs.Merged.{Stamped}

@@ -1,4 +1,4 @@
-use Rattle.std.proofs.Common.{◌≡◌, ◌∙◌, Option, ap, map}
+use Rattle.std.proofs.Common.{◌∙◌, Option, ap, map}
 use Rattle.std.specs.Prelude.{option_to_list}
 use Rattle.std.specs.Arc.{arc_value}
 use Rattle.bench_item.specs.declared.item.Item.{Item}

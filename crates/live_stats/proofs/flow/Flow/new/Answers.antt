@@ -1,4 +1,3 @@
-use Rattle.std.proofs.Common.{◌≡◌}
 use Rattle.live_stats.specs.Exchanges.{no_exchange}
 use Rattle.live_stats.proofs.flow.Flow.new.Goals as goal
 

@@ -1,4 +1,4 @@
-use Rattle.std.proofs.Common.{◌≡◌, ℕ, List, ap, length, replicate, take, arith}
+use Rattle.std.proofs.Common.{ap, length, arith}
 use Rattle.base_times.proofs.CountLemmas.{cleared}
 use Rattle.live_stats.specs.declared.flow.TheConstants.{CODES}
 use Rattle.live_stats.specs.Exchanges.{Exchange, no_exchange}

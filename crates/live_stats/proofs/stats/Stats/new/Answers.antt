@@ -1,4 +1,3 @@
-use Rattle.std.proofs.Common.{◌≡◌}
 use Rattle.live_stats.specs.Tallies.{began_with}
 use Rattle.live_stats.proofs.stats.Stats.new.Goals as goal
 

@@ -1,4 +1,4 @@
-use Rattle.std.proofs.Common.{◌≡◌, ◌∙◌, ap, sym}
+use Rattle.std.proofs.Common.{◌∙◌, sym}
 use Rattle.std.proofs.lemmas.Result.{on_ok_weaker}
 use Rattle.live_stats.proofs.LogLemmas.{noted_next, noted_none}
 use Rattle.live_stats.proofs.stats.Stats.note_at.Goals as goal

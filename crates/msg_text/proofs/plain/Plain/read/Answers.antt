@@ -1,7 +1,6 @@
-use Rattle.std.proofs.Common.{◌≡◌, ℕ, List, Ok, Err, Result, refl, subst}
+use Rattle.std.proofs.Common.{◌≡◌, ℕ, List, Ok, Err, refl, subst}
 use Rattle.dia_dict.specs.declared.definition.Definition.{Definition}
 use Rattle.dia_dict.specs.Dictionary.{known}
-use Rattle.dia_command.specs.declared.command.Command.{Command}
 use Rattle.dia_tree.specs.declared.fault.MsgFault.{MsgFault}
 use Rattle.dia_msg.specs.declared.fault.MsgError.{MsgError}
 use Rattle.dia_msg.specs.declared.fault.MsgError.TheVariants as msg_errors

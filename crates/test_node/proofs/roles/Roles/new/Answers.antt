@@ -1,4 +1,4 @@
-use Rattle.std.proofs.Common.{◌≡◌, subst}
+use Rattle.std.proofs.Common.{subst}
 use Rattle.tab_step.specs.Bind.{IsBoundTo}
 use Rattle.test_node.proofs.roles.Roles.new.Goals as goal
 

@@ -1,6 +1,6 @@
-use Rattle.thread_node.specs.Nodes.{Moves}
+use Rattle.thread_node.specs.Nodes.{Loses}
 use Rattle.thread_node.proofs.port.ThreadNodeNode.next_dial.Given as goal
 
--- steps were fed so far, and nothing else changed
+-- connections were lost so far, and nothing else changed
 abbrev pub invariant-loop-line : goal.invariant-loop-line
-invariant-loop-line g l = Moves l.initial.self l.self
+invariant-loop-line g l = Loses l.initial.self l.self

@@ -15,12 +15,12 @@ use Rattle.bench_line.specs.Talk.{after_turns, at_first, does_close, posts_by, p
 use Rattle.line_message.specs.Turned.{turned}
 use Rattle.bench_spec.specs.ExampleLog.{carried}
 use Rattle.bench_spec.specs.Legal.{IsLegal, IsMove, MayFollow}
-use Rattle.bench_spec.specs.OctetLog.{before_ccr, before_cer, ccr, cer, connected, connection, initial, log, received}
-use Rattle.bench_spec.specs.OctetLog.{reception}
-use Rattle.bench_spec.specs.OctetLog.{settings}
+use Rattle.octet_log.specs.Log.{before_ccr, before_cer, ccr, cer, connected, connection, initial, log, received}
+use Rattle.octet_log.specs.Log.{reception}
+use Rattle.octet_log.specs.Log.{settings}
 use Rattle.bench_spec.specs.Played.{entry_by, move_of}
 use Rattle.bench_spec.specs.Rules.{listening, meaning_of}
-use Rattle.bench_spec.proofs.OctetLemmas.{both_turns}
+use Rattle.octet_log.proofs.MeaningLemmas.{both_turns}
 use Rattle.bench_spec.proofs.OrderLemmas.{IsCarriedBy, order_by}
 use Rattle.bench_spec.proofs.PlayedLemmas.{played_is_move}
 
@@ -60,7 +60,7 @@ follows_3 = record {
 }
 
 -- the moves: by the first row of the peers' table, by the second, and by the third of the servers'
-greets_peer : IsMove settings settings.peer (move_of settings before_cer connection)
+greets_peer : IsMove settings.node.laws settings.peer (move_of settings before_cer connection)
 greets_peer =
     played_is_move settings settings.peer before_cer connection
     (record { state = 0; regs = replicate 64 0 }) connection.event
@@ -70,7 +70,7 @@ greets_peer =
 abbrev peer_regs : List ℕ
 peer_regs = 0 ∷ 1 ∷ 0 ∷ 1 ∷ 1 ∷ 1 ∷ replicate 9 0 ++ 1 ∷ replicate 48 0
 
-forwards : IsMove settings settings.peer (move_of settings before_ccr reception)
+forwards : IsMove settings.node.laws settings.peer (move_of settings before_ccr reception)
 unfolding coded own left_where debited unpaid
 forwards =
     played_is_move settings settings.peer before_ccr reception
@@ -78,7 +78,7 @@ forwards =
     (1, record { state = 1; kind = 1; guards = []; actions = 3 ∷ []; next = 1 }) refl
     (refl, tt)
 
-reserves : IsMove settings settings.server (move_of settings (take 14 log) initial)
+reserves : IsMove settings.node.laws settings.server (move_of settings (take 14 log) initial)
 unfolding coded own left_where debited unpaid
 reserves =
     played_is_move settings settings.server (take 14 log) initial

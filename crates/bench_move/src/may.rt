@@ -6,7 +6,7 @@ ghost use Rattle.tab_step.specs.Moves.{is_kind_of};
 ghost use Rattle.bench_item.specs.Keys.{node_of};
 ghost use Rattle.bench_spec.specs.Refusal.{may_tell};
 ghost use Rattle.bench_spec.specs.Settings.{Settings};
-ghost use Rattle.bench_desk.specs.May.{may_look};
+ghost use Rattle.bench_move.specs.May.{may_look};
 
 use bench_item::{Key, Peers, Role};
 use tab_law::LawBook;

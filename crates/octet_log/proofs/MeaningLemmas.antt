@@ -30,7 +30,7 @@ use Rattle.bench_line.specs.Messages.{cut_by, messages}
 use Rattle.bench_line.specs.Talk.{at_first, turns, turns_by}
 use Rattle.line_message.specs.Heard.{accepted, heard, heard_by, message, shares, wins}
 use Rattle.line_message.specs.Posts.{at_line, event_for, of_message}
-use Rattle.bench_spec.specs.OctetLog.{asks, ccr, cer, greets, settings}
+use Rattle.octet_log.specs.Log.{asks, ccr, cer, greets, settings}
 use Rattle.bench_spec.specs.Rules.{listening, meaning_of}
 use Rattle.bench_spec.proofs.RunLemmas.{both_true}
 

@@ -6,7 +6,7 @@ use Rattle.acct_book.specs.Sums.{debited, left_where, own, unpaid}
 use Rattle.bench_item.specs.declared.source.Source.TheVariants.{Shard}
 use Rattle.bench_spec.specs.Items.{lifted, outbox}
 use Rattle.bench_spec.specs.Machines.{state_of}
-use Rattle.bench_spec.specs.OctetLog.{log, peer_c, session, settings}
+use Rattle.octet_log.specs.Log.{log, peer_c, session, settings}
 use Rattle.bench_spec.specs.World.{world_of}
 
 -- registers of the session: account 100, number 0 and one more, result 2001, 60 units of unit 3, type 1, its own

@@ -37,7 +37,7 @@ fn timer_event(laws: &LawBook, role: Role) -> Option<Event>
 }
 
 /// What a timer that was armed with a generation fires at a machine, as long as the machine has that generation.
-pub(crate) fn firing_item(
+pub fn firing_item(
     alloc: Global,
     laws: &LawBook,
     key: Key,

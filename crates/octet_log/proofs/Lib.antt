@@ -1,0 +1,3 @@
+-- That the log is legal.
+pub mod MeaningLemmas
+pub mod LegalLemmas
