@@ -81,6 +81,25 @@ fn show(alloc: Global, kept: Option<&KeptItem>) -> Result<Option<Item>, AllocErr
     }
 }
 
+/// The item in the hand of a source as it is kept, if one lies there. Takes no memory.
+pub fn hand_kept<'a>(
+    shards: &'a [ShardState],
+    outboxes: &'a [Outbox],
+    lines: &'a Lines<Listener>,
+    carried: &[usize],
+    source: Source,
+) -> Option<&'a KeptItem>
+    ensures { (s : Stored) → option_copied result
+        ≡ hand_of source (with_hands s shards.now outboxes.now lines.now.lines carried.now) }
+{
+    match source {
+        Source::Line(line) => held_on_line(lines, carried, line),
+        Source::Shard(shard) => held_in_shard(shards, shard as usize),
+        Source::Desk(desk) => held_at(outboxes, desk as usize + 1),
+        Source::Clock => held_at(outboxes, 0),
+    }
+}
+
 /// The item in the hand of a source, if one lies there.
 pub fn hand_item(
     alloc: Global,
@@ -93,12 +112,7 @@ pub fn hand_item(
     ensures { IfOk result (λ item. (s : Stored)
         → item ≡ hand_of source (with_hands s shards.now outboxes.now lines.now.lines carried.now)) }
 {
-    match source {
-        Source::Line(line) => show(alloc, held_on_line(lines, carried, line)),
-        Source::Shard(shard) => show(alloc, held_in_shard(shards, shard as usize)),
-        Source::Desk(desk) => show(alloc, held_at(outboxes, desk as usize + 1)),
-        Source::Clock => show(alloc, held_at(outboxes, 0)),
-    }
+    show(alloc, hand_kept(shards, outboxes, lines, carried, source))
 }
 
 /// A copy of the item in the hand of a source, as it is kept, if one lies there.
@@ -112,12 +126,7 @@ pub fn hand_copy(
     ensures { IfOk result (λ item. (s : Stored)
         → item ≡ hand_of source (with_hands s shards.now outboxes.now lines.now.lines carried.now)) }
 {
-    match source {
-        Source::Line(line) => copy(held_on_line(lines, carried, line)),
-        Source::Shard(shard) => copy(held_in_shard(shards, shard as usize)),
-        Source::Desk(desk) => copy(held_at(outboxes, desk as usize + 1)),
-        Source::Clock => copy(held_at(outboxes, 0)),
-    }
+    copy(hand_kept(shards, outboxes, lines, carried, source))
 }
 
 /// Whether an item lies in the hand of a source. Takes no memory.
@@ -131,12 +140,7 @@ pub fn has_hand(
     ensures { (s : Stored)
         → result ≡ is_some (hand_of source (with_hands s shards.now outboxes.now lines.now.lines carried.now)) }
 {
-    match source {
-        Source::Line(line) => held_on_line(lines, carried, line).is_some(),
-        Source::Shard(shard) => held_in_shard(shards, shard as usize).is_some(),
-        Source::Desk(desk) => held_at(outboxes, desk as usize + 1).is_some(),
-        Source::Clock => held_at(outboxes, 0).is_some(),
-    }
+    hand_kept(shards, outboxes, lines, carried, source).is_some()
 }
 
 /// Whether as many items as may wait at the shard of a machine.
@@ -180,14 +184,6 @@ pub fn hand_lacks_room(
     ensures { (s : Stored) → result ≡ option_map_or (lacks_room shards.now lines.now.lines)
         (hand_of source (with_hands s shards.now outboxes.now lines.now.lines carried.now)) false }
 {
-    match source {
-        Source::Line(line) => { kept_lacks_room(shards, lines, held_on_line(lines, carried, line)) }
-        Source::Shard(shard) => {
-            kept_lacks_room(shards, lines, held_in_shard(shards, shard as usize))
-        }
-        Source::Desk(desk) => {
-            kept_lacks_room(shards, lines, held_at(outboxes, desk as usize + 1))
-        }
-        Source::Clock => kept_lacks_room(shards, lines, held_at(outboxes, 0)),
-    }
+    let kept = hand_kept(shards, outboxes, lines, carried, source);
+    kept_lacks_room(shards, lines, kept)
 }

@@ -19,6 +19,6 @@ mod same;
 
 pub use back::undo_at;
 pub use drop::drop_at;
-pub use hand::{hand_copy, hand_item, hand_lacks_room, has_hand};
+pub use hand::{hand_copy, hand_item, hand_kept, hand_lacks_room, has_hand};
 pub use lift::{lift_at, next_item};
 pub use same::{are_items_same, are_machine_items_same};

@@ -1,14 +1,15 @@
 //! What waits, how many machines there are, and how many desks.
 ghost use Rattle.std.specs.Prelude.{◌≡◌, ◌<◌, ◌≤◌, [], IfOk, None, Some, length, option_map};
-ghost use Rattle.std.specs.Prelude.{option_to_list, slice_get, true};
+ghost use Rattle.std.specs.Prelude.{option_copied, option_to_list, slice_get, true};
 ghost use Rattle.std.specs.Option.{option_map_or};
 ghost use Rattle.bench_queue.specs.Inbox.{items_in};
 ghost use Rattle.bench_spec.specs.Refusal.{is_source};
 ghost use Rattle.bench_spec.specs.Taken.{shown};
 
 use crate::keeping::Core;
-use bench_carry::hand_item;
+use bench_carry::{hand_item, hand_kept};
 use bench_item::{Item, MachineItem, Series, Source};
+use bench_log::KeptItem;
 use bench_shard::ShardState;
 use std::alloc::{AllocError, Global};
 
@@ -71,6 +72,20 @@ impl Core {
     {
         hand_item(
             self.alloc,
+            &self.shards,
+            &self.outboxes,
+            &self.lines,
+            &self.carried,
+            source,
+        )
+    }
+
+    /// The same as it is kept. Takes no memory.
+    pub fn hand_kept(&self, source: Source) -> Option<&KeptItem>
+        ensures { is_source self.now.settings self.now.log source ≡ true
+            → option_to_list (option_copied result) ≡ (shown self.now).hand_of source }
+    {
+        hand_kept(
             &self.shards,
             &self.outboxes,
             &self.lines,

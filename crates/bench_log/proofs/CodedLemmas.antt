@@ -47,6 +47,18 @@ pub behind-code : (n : ℕ) (rest : List ℕ) → behind (code n ++ rest) ≡ re
 unfolding form
 behind-code n rest = form-behind (nat_lt n 253) (nat_lt n 65536) (nat_lt n 4294967296) n rest (ltb-true _ _)
 
+form-short : (a b c : Bool) (n : ℕ) → length (form a b c n) ≤ 9
+unfolding form
+form-short true b c n = omega arith
+form-short false true c n = omega arith
+form-short false false true n = omega arith
+form-short false false false n = omega arith
+
+-- a number has nine octets at most
+pub code-short : (n : ℕ) → length (code n) ≤ 9
+unfolding form
+code-short n = form-short (nat_lt n 253) (nat_lt n 65536) (nat_lt n 4294967296) n
+
 -- one more number
 pub coded-more : (numbers : List ℕ) (i n : ℕ) → i < length numbers → n ≡ get_or numbers i 0 → coded (take (i + 1) numbers) ≡ coded (take i numbers) ++ code n
 coded-more numbers i n within here =

@@ -21,6 +21,12 @@ abbrev pub key_for : Item → Option Key
 key_for (ToMachine item) = Some item.key
 key_for item = None
 
+-- the item, if it is for no machine and no connection: a dial, one given up, or what arms or disarms a timer
+abbrev pub order_in : Item → Option Item
+order_in (ToMachine item) = None
+order_in (ToLine item) = None
+order_in item = Some item
+
 -- whether it opens a connection
 abbrev pub is_dial : Item → Bool
 is_dial (Dial peer generation) = true

@@ -1,68 +1,58 @@
 //! Numbers in as few octets as they need.
-ghost use Rattle.std.specs.Prelude.{◌≡◌, ◌++◌, ◌<◌, ◌^◌, ◌∷◌, [], All, IfOk, OnOk, length, slice_index};
+ghost use Rattle.std.specs.Prelude.{◌≡◌, ◌++◌, ◌+◌, ◌<◌, ◌≤◌, ◌^◌, ◌∷◌, [], All, IfOk, length, slice_index};
 ghost use Rattle.std.specs.Int.{w64, from_le_bytes};
+ghost use Rattle.tab_law.specs.declared.limits.TheConstants.{PLACES};
+ghost use Rattle.bench_log.specs.declared.code.TheConstants.{MAX_OCTETS};
 ghost use Rattle.bench_log.specs.Coded.{behind, code, coded, first, width};
 
+use base_list::{FixedList, Octets};
 use std::alloc::{AllocError, Global};
+use tab_law::PLACES;
+
+/// So many octets have the numbers of all places at most: nine each.
+pub(crate) const MAX_OCTETS: usize = 9 * PLACES;
+
+/// The octets of numbers as they are put together.
+type Code = FixedList<u8, MAX_OCTETS>;
 
 /// Adds an octet and those of a number.
-fn put_long(octets: &mut Vec<u8>, head: u8, number: &[u8]) -> Result<(), AllocError>
-    ensures { OnOk result (octets.new.items ≡ octets.old.items ++ head ∷ number.now) }
+fn put_long(octets: &mut Code, head: u8, number: &[u8])
+    requires { length octets.old + length number.now < MAX_OCTETS }
+    ensures { octets.new ≡ octets.old ++ head ∷ number.now }
 {
-    octets.extend_from_slice(&[head])?;
-    octets.extend_from_slice(number)
+    octets.push(head);
+    octets.extend_from_slice(number);
 }
 
 /// Adds the octets of a number.
-fn put_number(octets: &mut Vec<u8>, number: u64) -> Result<(), AllocError>
-    ensures put { OnOk result (octets.new.items ≡ octets.old.items ++ code number) }
+fn put_number(octets: &mut Code, number: u64)
+    requires { length octets.old + 9 ≤ MAX_OCTETS }
+    ensures put { octets.new ≡ octets.old ++ code number }
     ensures fits { number < 2 ^ 64 }
 {
     if number < 253 {
-        Ok(octets.push(number as u8)?)
+        octets.push(number as u8);
     } else if number < 65_536 {
-        put_long(octets, 253, &(number as u16).to_le_bytes())
+        put_long(octets, 253, &(number as u16).to_le_bytes());
     } else if number < 4_294_967_296 {
-        put_long(octets, 254, &(number as u32).to_le_bytes())
+        put_long(octets, 254, &(number as u32).to_le_bytes());
     } else {
-        put_long(octets, 255, &number.to_le_bytes())
+        put_long(octets, 255, &number.to_le_bytes());
     }
 }
 
-/// How many octets a number takes.
-fn size_of(number: u64) -> usize
-    ensures { result ≡ length (code number) }
-{
-    if number < 253 {
-        1
-    } else if number < 65_536 {
-        3
-    } else if number < 4_294_967_296 {
-        5
-    } else {
-        9
-    }
-}
-
-// How many octets numbers take: so much room is asked for, at once. Nothing else depends on it.
-fn room_for(numbers: &[u64]) -> usize {
-    let mut room = 0usize;
-    for number in numbers {
-        room = room.saturating_add(size_of(*number));
-    }
-    room
-}
-
-/// The octets of numbers, one after the other.
-pub(crate) fn octets_of(alloc: Global, numbers: &[u64]) -> Result<Vec<u8>, AllocError>
-    ensures octets { IfOk result (λ octets. octets.items ≡ coded numbers.now) }
+/// The octets of numbers, one after the other. They are put together in room of fixed size; where they are few, as
+/// mostly, they take no memory.
+pub(crate) fn octets_of(alloc: Global, numbers: &[u64]) -> Result<Octets, AllocError>
+    requires few { length numbers.now ≤ PLACES }
+    ensures octets { IfOk result (λ octets. octets ≡ coded numbers.now) }
     ensures fit { IfOk result (λ _. All (λ n. n < 2 ^ 64) numbers.now) }
 {
-    let mut octets = Vec::with_capacity(alloc, room_for(numbers))?;
+    let mut octets = Code::new();
     for number in numbers {
-        put_number(&mut octets, *number)?;
+        put_number(&mut octets, *number);
     }
-    Ok(octets)
+    Octets::from_slice(alloc, octets.as_slice())
 }
 
 /// The octet at a place, 0 behind the last.
@@ -76,7 +66,7 @@ fn octet(octets: &[u8], place: usize) -> u8
 }
 
 /// The first number of octets.
-pub(crate) fn first(s: &[u8]) -> u64
+fn first(s: &[u8]) -> u64
     ensures { result ≡ first s.now }
 {
     let head = octet(s, 0);
@@ -123,9 +113,20 @@ fn width(head: u8) -> usize
 }
 
 /// The octets behind the first number.
-pub(crate) fn behind(s: &[u8]) -> &[u8]
+fn behind(s: &[u8]) -> &[u8]
     ensures { result.now ≡ behind s.now }
 {
     let width = width(octet(s, 0)).min(s.len());
     &s[width..]
+}
+
+/// The first number of octets, and the octets behind it.
+pub(crate) fn next(s: &[u8]) -> (u64, &[u8])
+    ensures first { result.0 ≡ first s.now }
+    ensures behind { result.1.now ≡ behind s.now }
+{
+    match s.split_first() {
+        Some((head, rest)) if *head < 253 => (u64::from(*head), rest),
+        _ => (first(s), behind(s)),
+    }
 }

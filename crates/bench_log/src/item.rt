@@ -2,7 +2,7 @@
 ghost use Rattle.std.specs.Prelude.{◌≡◌, IfOk, option_copied};
 ghost use Rattle.bench_item.specs.declared.item.Item.TheVariants.{ToMachine, ToLine};
 ghost use Rattle.bench_log.specs.Twins.{item_of, line_item_of};
-ghost use Rattle.bench_log.specs.Targets.{deed_in, event_in, is_dial, key_for};
+ghost use Rattle.bench_log.specs.Targets.{deed_in, event_in, is_dial, key_for, order_in};
 
 use crate::state::copy_key;
 use bench_item::{Item, Key, LineItem, MachineItem};
@@ -352,6 +352,34 @@ impl KeptItem {
         match &self.form {
             ItemForm::ToMachine(item) => Some(item.key()),
             _ => None,
+        }
+    }
+
+    /// The item, if it is for no machine and no connection: a dial, one given up, or what arms or disarms a timer. Takes
+    /// no memory.
+    pub fn order(&self) -> Option<Item>
+        ensures { result ≡ order_in self.now }
+    {
+        match &self.form {
+            ItemForm::ToMachine(_) | ItemForm::ToLine(_) => None,
+            ItemForm::Dial { peer, generation } => Some(Item::Dial {
+                peer: *peer,
+                generation: *generation,
+            }),
+            ItemForm::Undial { peer, generation } => Some(Item::Undial {
+                peer: *peer,
+                generation: *generation,
+            }),
+            ItemForm::Arm {
+                machine,
+                generation,
+                ticks,
+            } => Some(Item::Arm {
+                machine: *machine,
+                generation: *generation,
+                ticks: *ticks,
+            }),
+            ItemForm::Disarm { machine } => Some(Item::Disarm { machine: *machine }),
         }
     }
 

@@ -1,10 +1,11 @@
 //! The numbers of 64 places, most of which are zero.
-ghost use Rattle.std.specs.Prelude.{◌≡◌, ◌≤◌, ◌-◌, IfOk, drop, replicate};
+ghost use Rattle.std.specs.Prelude.{◌≡◌, ◌≤◌, ◌-◌, ◌+◌, ◌↔◌, IfOk, IsTrue, drop, replicate, take};
 ghost use Rattle.tab_law.specs.declared.limits.TheConstants.{PLACES};
 ghost use Rattle.bench_log.specs.Coded.{decoded};
 ghost use Rattle.bench_log.specs.Padded.{padded};
 
-use crate::code::{behind, first, octets_of};
+use crate::code::{next, octets_of};
+use base_list::Octets;
 use std::alloc::{AllocError, Global};
 use std::marker::Model;
 use tab_law::PLACES;
@@ -12,7 +13,7 @@ use tab_law::PLACES;
 /// The registers of a machine, the facts of an event or the arguments of a deed. Zeros at the end take no room, and
 /// each number before them takes as few octets as it needs. A contract sees all 64 numbers.
 pub(crate) struct Places {
-    octets: Vec<u8>,
+    octets: Octets,
     // So many numbers are kept.
     count: u8,
 }
@@ -32,9 +33,25 @@ impl Model for Places {
 
     ghost Value = { List ℕ };
 
-    ghost view = { λ p. padded (decoded p.count p.octets.items) };
+    ghost view = { λ p. padded (decoded p.count p.octets) };
 
     ghost invariant = { λ p. p.count ≤ PLACES };
+}
+
+/// Whether the eight numbers from a place on are zero.
+fn are_eight_zeros(places: &[u64; PLACES], from: usize) -> bool
+    requires { from + 8 ≤ PLACES }
+    ensures { IsTrue result ↔ (take 8 (drop from places.now) ≡ replicate 8 0) }
+{
+    (places[from]
+        | places[from + 1]
+        | places[from + 2]
+        | places[from + 3]
+        | places[from + 4]
+        | places[from + 5]
+        | places[from + 6]
+        | places[from + 7])
+        == 0
 }
 
 /// How many numbers stand before the zeros at the end.
@@ -43,6 +60,10 @@ fn used(places: &[u64; PLACES]) -> usize
     ensures zeros { drop result places.now ≡ replicate (PLACES - result) 0 }
 {
     let mut count = PLACES;
+    // Most arrays have many: they are looked at by eight.
+    'eights: while count >= 8 && are_eight_zeros(places, count - 8) {
+        count -= 8;
+    }
     'zeros: while count > 0 && places[count - 1] == 0 {
         count -= 1;
     }
@@ -57,8 +78,9 @@ fn decode(count: usize, octets: &[u8]) -> [u64; PLACES]
     let mut places = [0; PLACES];
     let mut rest = octets;
     for place in 0..count {
-        places[place] = first(rest);
-        rest = behind(rest);
+        let (number, others) = next(rest);
+        places[place] = number;
+        rest = others;
     }
     places
 }

@@ -1,5 +1,5 @@
 -- What steps do to timers, one after the other.
-use Rattle.std.proofs.Common.{◌≡◌, ◌∙◌, ℕ, Bool, true, false, Option, [], ◌∷◌, OnErr, OnOk, Ok, Err, Result, ap, option_to_list, refl, subst, sym, IfOk}
+use Rattle.std.proofs.Common.{◌≡◌, ◌∙◌, ℕ, Bool, true, false, List, Option, [], ◌∷◌, OnErr, OnOk, Ok, Err, Result, ap, option_to_list, refl, subst, sym, IfOk}
 use Rattle.bench_item.specs.declared.item.Item.{Item}
 use Rattle.bench_item.specs.declared.item.Item.TheVariants.{Arm, Dial, Disarm, ToLine, ToMachine, Undial}
 use Rattle.std.specs.declared.alloc.AllocError.{AllocError}
@@ -12,7 +12,7 @@ use Rattle.bench_spec.specs.Refusal.{is_source}
 use Rattle.bench_spec.specs.Taken.{Run, Takes, shown}
 use Rattle.tick_wheel.specs.Timers.{Timers}
 use Rattle.bench_node.specs.Settled.{Took}
-use Rattle.bench_node.specs.Timed.{IsTimed, LeavesTimers, Sets, after_items, after_step, nothing, one_more}
+use Rattle.bench_node.specs.Timed.{IsTimed, LeavesTimers, Sets, after_items, after_step, nothing, one_more, orders_in}
 use Rattle.bench_node.proofs.SourceLemmas.{dropped_source}
 
 -- no step
@@ -53,13 +53,23 @@ pub timed_clock : (went : Bool) (old new : Run) (t : Timers) → Took (steps.Dro
 timed_clock true old new t taken = timed_one old new t t (steps.Drop Clock) taken refl
 timed_clock false old new t kept = timed_none old new t t kept.0 refl
 
+-- what is for a machine or a connection arms and disarms no timer
+orders-time : (items : List Item) (t : Timers) → after_items t (orders_in items) ≡ after_items t items
+orders-time [] t = refl
+orders-time (ToMachine item ∷ items) t = refl
+orders-time (ToLine item ∷ items) t = refl
+orders-time (Dial peer generation ∷ items) t = refl
+orders-time (Undial peer generation ∷ items) t = refl
+orders-time (Arm machine generation ticks ∷ items) t = refl
+orders-time (Disarm machine ∷ items) t = refl
+
 -- a drop of what lies in a shard's hand
 pub timed_drop : (shard : ℕ) (item : Option Item) (went : Bool) (old new : Run) (t u : Timers)
-    → (is_source old.settings old.log (Shard shard) ≡ true → option_to_list item ≡ (shown old).hand_of (Shard shard))
+    → (is_source old.settings old.log (Shard shard) ≡ true → option_to_list item ≡ orders_in ((shown old).hand_of (Shard shard)))
     → Took (steps.Drop (Shard shard)) went old new → Sets went t (after_items t (option_to_list item)) u → IsTimed old t new u
 timed_drop shard item true old new t u held taken made =
     let here = dropped_source old.settings old.log old.paused (Shard shard) taken.could in
-    timed_one old new t u (steps.Drop (Shard shard)) taken (made ∙ ap (after_items t) (held here))
+    timed_one old new t u (steps.Drop (Shard shard)) taken (made ∙ ap (after_items t) (held here) ∙ orders-time ((shown old).hand_of (Shard shard)) t)
 timed_drop shard item false old new t u held kept made = timed_none old new t u kept.0 made
 
 -- a shard's work, if it was taken
@@ -90,7 +100,7 @@ timed_then source (Err e) old mid new t u first took = tt
 
 -- a drop of an item that arms or disarms
 pub timed_by : (shard : ℕ) (item : Option Item) (r : Result Bool AllocError) (old new : Run) (t made u : Timers)
-    → (is_source old.settings old.log (Shard shard) ≡ true → option_to_list item ≡ (shown old).hand_of (Shard shard))
+    → (is_source old.settings old.log (Shard shard) ≡ true → option_to_list item ≡ orders_in ((shown old).hand_of (Shard shard)))
     → made ≡ after_items t (option_to_list item) → IfOk r (λ went. Took (steps.Drop (Shard shard)) went old new)
     → IfOk r (λ went. Sets went t made u) → OnOk r (IsTimed old t new u)
 timed_by shard item (Ok went) old new t made u held is took set =
@@ -103,7 +113,7 @@ set_none false t = refl
 
 -- and of one that does neither
 pub timed_beside : (shard : ℕ) (item : Option Item) (r : Result Bool AllocError) (old new : Run) (t : Timers)
-    → (is_source old.settings old.log (Shard shard) ≡ true → option_to_list item ≡ (shown old).hand_of (Shard shard))
+    → (is_source old.settings old.log (Shard shard) ≡ true → option_to_list item ≡ orders_in ((shown old).hand_of (Shard shard)))
     → t ≡ after_items t (option_to_list item) → IfOk r (λ went. Took (steps.Drop (Shard shard)) went old new) → OnOk r (IsTimed old t new t)
 timed_beside shard item (Ok went) old new t held is took =
     timed_drop shard item went old new t t held took (subst (λ (v : Timers). Sets went t v t) is (set_none went t))

@@ -1,13 +1,19 @@
 -- What steps do to the timers of a node: what a shard puts out arms and disarms them as it is dropped.
-use Rattle.std.specs.Prelude.{◌≡◌, Bool, false, true, List, ◌∷◌, None}
+use Rattle.std.specs.Prelude.{◌≡◌, Bool, false, true, List, [], ◌∷◌, None, option_to_list}
 use Rattle.bench_item.specs.declared.item.Item.{Item}
 use Rattle.bench_item.specs.declared.item.Item.TheVariants.{Arm, Disarm}
 use Rattle.bench_item.specs.declared.source.Source.{Source}
 use Rattle.bench_item.specs.declared.source.Source.TheVariants.{Shard}
 use Rattle.bench_item.specs.declared.step.Step.{Step}
 use Rattle.bench_item.specs.declared.step.Step.TheVariants as steps
+use Rattle.bench_log.specs.Targets.{order_in}
 use Rattle.bench_spec.specs.Taken.{Run, Takes, shown}
 use Rattle.tick_wheel.specs.Timers.{Timers, after_arm, with_timer_of}
+
+-- the first of some items, if it is for no machine and no connection
+abbrev pub orders_in : List Item → List Item
+orders_in [] = []
+orders_in (item ∷ items) = option_to_list (order_in item)
 
 -- the timers once what lay in a hand was dropped
 abbrev pub after_items : Timers → List Item → Timers

@@ -9,7 +9,7 @@ ghost use Rattle.bench_item.specs.declared.step.Step.TheVariants as steps;
 ghost use Rattle.bench_item.specs.declared.step.StepFault.TheVariants.{NoMemory};
 ghost use Rattle.bench_node.specs.Going.{Goes};
 ghost use Rattle.bench_node.specs.Settled.{CanBe, IsRefused, IsStill, Took, Went};
-ghost use Rattle.bench_node.specs.Timed.{IsTimed, LeavesTimers, Sets};
+ghost use Rattle.bench_node.specs.Timed.{IsTimed, LeavesTimers, Sets, orders_in};
 ghost use Rattle.role_tables.specs.Roles.{all_laws};
 ghost use Rattle.bench_spec.specs.Refusal.{is_source};
 ghost use Rattle.bench_spec.specs.Taken.{Takes, fault_of, shown};
@@ -194,12 +194,15 @@ impl LiveNode {
         Ok(true)
     }
 
-    // The item in a source's hand, if one lies there.
-    fn hand(&self, source: Source) -> Result<Option<Item>, AllocError>
-        ensures { IfOk result (λ item. is_source self.now.settings self.now.log source ≡ true
-            → option_to_list item ≡ (shown self.now).hand_of source) }
+    // What lies in a source's hand, if it is for no machine and no connection.
+    fn order(&self, source: Source) -> Option<Item>
+        ensures { is_source self.now.settings self.now.log source ≡ true
+            → option_to_list result ≡ orders_in ((shown self.now).hand_of source) }
     {
-        self.core.hand(source)
+        match self.core.hand_kept(source) {
+            None => None,
+            Some(kept) => kept.order(),
+        }
     }
 
     // Drops an item of a shard, if one lies in its hand. Says whether it did.
@@ -210,7 +213,7 @@ impl LiveNode {
         ensures same { self.new.settings ≡ self.old.settings }
     {
         let source = Source::Shard(shard);
-        let Some(item) = self.hand(source)? else {
+        let Some(item) = self.order(source) else {
             return self.drop_plain(source);
         };
         match item {

@@ -32,8 +32,12 @@ impl LiveNode {
         ensures goes { Goes self.old self.new }
         ensures same { self.new.settings ≡ self.old.settings }
     {
+        let lines = self.core.lines();
         let mut went = false;
         'lines: for line in 1..LINE_PLACES as u32 {
+            if line as usize > lines {
+                return Ok(went);
+            }
             if self.is_touched(line) {
                 went = either(went, self.carry(timers, Source::Line(line))?);
             }

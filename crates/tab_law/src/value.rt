@@ -7,6 +7,7 @@ use crate::limits::PLACES;
 use crate::scene::Scene;
 
 /// The value at a number that counts round.
+#[inline(always)]
 pub fn place(places: &[u64; PLACES], number: u8) -> u64
     ensures { result ≡ place_at places.now number }
 {
@@ -14,6 +15,7 @@ pub fn place(places: &[u64; PLACES], number: u8) -> u64
 }
 
 /// What an atom stands for, where an action leaves the registers as `new`.
+#[inline(always)]
 pub fn atom(scene: &Scene, new: &[u64; PLACES], atom: Atom) -> u64
     ensures { result ≡ atom_value scene.now new.now atom }
 {
@@ -26,6 +28,7 @@ pub fn atom(scene: &Scene, new: &[u64; PLACES], atom: Atom) -> u64
 }
 
 /// What a term stands for there.
+#[inline(always)]
 pub fn term(scene: &Scene, new: &[u64; PLACES], term: Term) -> u64
     ensures { result ≡ term_value scene.now new.now term }
 {

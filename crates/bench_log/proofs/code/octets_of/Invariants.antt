@@ -1,11 +1,12 @@
-use Rattle.std.proofs.Common.{◌≡◌, ◌<◌, ◌^◌, take}
+use Rattle.std.proofs.Common.{◌≡◌, ◌<◌, ◌≤◌, ◌*◌, ◌^◌, length, take}
 use Rattle.std.specs.Prelude.{All}
 use Rattle.bench_log.specs.Coded.{coded}
 use Rattle.bench_log.proofs.code.octets_of.Given as goal
 
--- the numbers so far stand in the octets, and each has at most 64 bits
+-- the numbers so far stand in the octets, nine at most of each, and each has at most 64 bits
 abbrev pub invariant-loop-number : goal.invariant-loop-number
 invariant-loop-number l = record {
-  octets : l.octets.items ≡ coded (take l.number-index l.numbers);
+  octets : l.octets ≡ coded (take l.number-index l.numbers);
+  few : length l.octets ≤ 9 * l.number-index;
   fit : All (λ n. n < 2 ^ 64) (take l.number-index l.numbers);
 }

@@ -10,12 +10,12 @@ pub loop-place-preserved : goal.loop-place-preserved
 loop-place-preserved c =
     let l = c.loop-place in
     let within : c.loop-place.place < PLACES = omega (arith, c.loop-place-test.true, c.requires) in
-    let next : decoded (c.args.count - c.loop-place.place) c.loop-place.rest.now ≡ c.first.result ∷ decoded (c.args.count - (c.loop-place.place + 1)) c.behind-rest.result.now =
-    rw (c.first.ensures, c.behind-rest.ensures) (decoded-next c.args.count c.loop-place.place c.loop-place.rest.now c.loop-place-test.true) in
+    let next : decoded (c.args.count - c.loop-place.place) c.loop-place.rest.now ≡ c.next-number.result.0 ∷ decoded (c.args.count - (c.loop-place.place + 1)) c.next-number.result.1.now =
+    rw (c.next-number.ensures.first, c.next-number.ensures.behind) (decoded-next c.args.count c.loop-place.place c.loop-place.rest.now c.loop-place-test.true) in
     let split = c.loop-place.invariant.split ∙ ap (λ (xs : List ℕ). take c.loop-place.place c.loop-place.places ++ xs) next in
-    let more = placed-more (decoded c.args.count c.args.octets.now) c.loop-place.places c.loop-place.place c.first.result (decoded (c.args.count - (c.loop-place.place + 1)) c.behind-rest.result.now) c.loop-place.invariant.whole within split c.loop-place.invariant.zeros in
+    let more = placed-more (decoded c.args.count c.args.octets.now) c.loop-place.places c.loop-place.place c.next-number.result.0 (decoded (c.args.count - (c.loop-place.place + 1)) c.next-number.result.1.now) c.loop-place.invariant.whole within split c.loop-place.invariant.zeros in
     record {
-      whole = length-set c.loop-place.places c.loop-place.place c.first.result ∙ c.loop-place.invariant.whole;
+      whole = length-set c.loop-place.places c.loop-place.place c.next-number.result.0 ∙ c.loop-place.invariant.whole;
       split = more.0;
       zeros = more.1;
     }
