@@ -1,4 +1,4 @@
-use Rattle.std.proofs.Common.{◌++◌, ◌+◌, ◌*◌, ◌<◌, ◌≤◌, ◌^◌, ℕ, List, length, get_or, take, refl, ap, sym, ◌∙◌, arith}
+use Rattle.std.proofs.Common.{◌++◌, ◌<◌, ◌^◌, ℕ, List, length, get_or, take, refl, ap, sym, ◌∙◌, arith}
 use Rattle.std.proofs.lemmas.List.{take_more, length-append}
 use Rattle.std.proofs.lemmas.List.Elements.{All-push}
 use Rattle.bench_log.specs.Coded.{code}
@@ -9,7 +9,6 @@ pub loop-number-preserved : goal.loop-number-preserved
 loop-number-preserved c =
     let i = c.loop-number.number-index in
     let within : c.loop-number.number-index < length c.args.numbers.now = c.loop-number-test.true in
-    let n = get_or c.args.numbers.now i 0 in
     record {
       octets = c.put_number.ensures.put ∙ ap (λ (xs : List ℕ). xs ++ code (get_or c.args.numbers.now i 0)) c.loop-number.invariant.octets ∙ sym (coded-more c.args.numbers.now i _ within refl);
       few = rw (c.put_number.ensures.put, length-append) (omega (arith, code-short (get_or c.args.numbers.now i 0), c.loop-number.invariant.few));

@@ -1,4 +1,4 @@
-use Rattle.std.proofs.Common.{◌≡◌, ◌∙◌, ◌≤◌, ◌+◌, ℕ, length, sym, arith}
+use Rattle.std.proofs.Common.{◌∙◌, ◌≤◌, ◌+◌, length, sym, arith}
 use Rattle.std.proofs.lemmas.Bool.{eqb-true, eq-eqb}
 use Rattle.bench_log.proofs.PlacesLemmas.{eight-taken, none-joined, joined-none}
 use Rattle.bench_log.proofs.places.are_eight_zeros.Goals as goal
