@@ -63,7 +63,7 @@ pub fn are_machine_items_same(one: &MachineItem, other: &MachineItem) -> bool
     ensures { IsTrue result ↔ (one.now ≡ other.now) }
 {
     are_keys_same(&one.key, &other.key)
-        && are_events_same(&one.event, &other.event)
+        && are_events_same(&one.event.show(), &other.event.show())
         && are_conditions_same(one.condition, other.condition)
         && are_octets_same(&one.session, &other.session)
 }
@@ -73,7 +73,7 @@ fn are_line_items_same(one: &LineItem, other: &LineItem) -> bool
     ensures { IsTrue result ↔ (one.now ≡ other.now) }
 {
     one.line == other.line
-        && are_deeds_same(&one.deed, &other.deed)
+        && are_deeds_same(&one.deed.show(), &other.deed.show())
         && are_octets_same(&one.session, &other.session)
 }
 

@@ -9,7 +9,7 @@ use crate::entries::bare_entry;
 use crate::keeping::Core;
 use crate::room::make_room;
 use base_list::Octets;
-use bench_item::{Item, Key, MachineItem, Step};
+use bench_item::{Item, KeptEvent, Key, MachineItem, Step};
 use bench_log::KeptItem;
 use bench_undo::Undo;
 use std::alloc::{AllocError, Global};
@@ -21,16 +21,17 @@ fn told_item(alloc: Global, key: &Key, event: &Event) -> Result<KeptItem, AllocE
 {
     let name = Octets::from_slice(alloc, key.name.as_slice())?;
     let session = Octets::from_slice(alloc, b"")?;
+    let event = KeptEvent::keep(alloc, event)?;
     let item = Item::ToMachine(MachineItem {
         key: Key {
             role: key.role,
             name,
         },
-        event: *event,
+        event,
         condition: None,
         session,
     });
-    KeptItem::keep(alloc, &item)
+    KeptItem::new(alloc, item)
 }
 
 impl Core {

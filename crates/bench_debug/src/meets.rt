@@ -52,7 +52,7 @@ fn is_met_at(breakpoint: &Breakpoint, item: &MachineItem) -> bool
     ensures { result ≡ is_met_at breakpoint.now item.now }
 {
     match breakpoint {
-        Breakpoint::Kind(kind) => item.event.kind == *kind,
+        Breakpoint::Kind(kind) => item.event.kind() == *kind,
         Breakpoint::Machine(key) => is_same_key(key, &item.key),
         _ => false,
     }

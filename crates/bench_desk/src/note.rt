@@ -6,7 +6,7 @@ ghost use Rattle.bench_item.specs.declared.step.Step.TheVariants.{Lift, Told};
 ghost use Rattle.bench_parts.specs.Views.{look_of};
 
 use base_list::Octets;
-use bench_item::{Entry, Key, MachineItem, Source, Step};
+use bench_item::{Entry, KeptEvent, Key, MachineItem, Source, Step};
 use bench_log::{KeptEntry, KeptItem, KeptMachineItem, KeptState};
 use bench_parts::KeptLook;
 use std::alloc::{AllocError, Global};
@@ -31,9 +31,10 @@ pub(crate) fn told_item(
 {
     let key = copy_key(alloc, key)?;
     let session = Octets::from_slice(alloc, b"")?;
+    let event = KeptEvent::keep(alloc, event)?;
     let item = MachineItem {
         key,
-        event: *event,
+        event,
         condition: None,
         session,
     };

@@ -42,7 +42,7 @@ fn want_of(laws: &LawBook, item: &MachineItem, state: &MachineState) -> Option<W
     ensures { result ≡ want_of laws.now item.now state.now }
 {
     match item.key.role {
-        Role::Server => session_want(laws, &item.event, state),
+        Role::Server => session_want(laws, &item.event.show(), state),
         Role::Peer | Role::Client => None,
     }
 }

@@ -2,8 +2,7 @@
 
 use crate::key::Key;
 use base_list::Octets;
-use tab_law::Deed;
-use tab_step::Event;
+use tab_kept::{KeptDeed, KeptEvent};
 
 /// What a register of a machine must hold for an item to be handled; else the item is stale.
 #[derive(Clone, Copy)]
@@ -16,7 +15,7 @@ pub struct Condition {
 /// An event on its way to a machine. Its kind is a place in the book of laws.
 pub struct MachineItem {
     pub key: Key,
-    pub event: Event,
+    pub event: KeptEvent,
     pub condition: Option<Condition>,
     /// The Session-Id that the event hands on, without octets where it has none.
     pub session: Octets,
@@ -27,7 +26,7 @@ impl Drop for MachineItem {
     fn drop(self) {
         let MachineItem {
             key,
-            event: _,
+            event,
             condition: _,
             session,
         } = self;
@@ -38,7 +37,7 @@ impl Drop for MachineItem {
 pub struct LineItem {
     /// The number of the connection, from 1; there need not be such a one.
     pub line: u64,
-    pub deed: Deed,
+    pub deed: KeptDeed,
     /// The Session-Id of the message, without octets where it has none.
     pub session: Octets,
 }
@@ -47,7 +46,7 @@ impl Drop for LineItem {
     fn drop(self) {
         let LineItem {
             line: _,
-            deed: _,
+            deed,
             session,
         } = self;
     }

@@ -43,3 +43,4 @@ pub use series::Series;
 pub use shard::home;
 pub use source::Source;
 pub use step::{Step, StepFault};
+pub use tab_kept::{KeptDeed, KeptEvent};

@@ -200,7 +200,7 @@ impl Line {
             return Ok(());
         }
         rules.write(alloc, item, &mut self.sent)?;
-        if item.deed.code == DeedCode::Close.number() {
+        if item.deed.code() == DeedCode::Close.number() {
             self.state = LineState::Closed;
         }
         Ok(())

@@ -1,4 +1,2 @@
-pub mod CodedLemmas
-pub mod PlacesLemmas
 pub mod MovesLemmas
 pub mod CopyLemmas

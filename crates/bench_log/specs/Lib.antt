@@ -1,6 +1,4 @@
 -- The definitions that the contracts of bench_log speak of.
-pub mod Coded
-pub mod Padded
 pub mod Twins
 pub mod Moves
 pub mod Logged

@@ -35,10 +35,11 @@ fn copy_machine_item(alloc: Global, plain: &MachineItem) -> Result<MachineItem, 
     ensures { IfOk result (λ copy. copy ≡ plain.now) }
 {
     let key = copy_key(alloc, &plain.key)?;
+    let event = plain.event.copy(alloc)?;
     let session = plain.session.copy(alloc)?;
     Ok(MachineItem {
         key,
-        event: plain.event,
+        event,
         condition: plain.condition,
         session,
     })
@@ -103,10 +104,11 @@ pub(crate) struct KeptLineItem {
 fn copy_line_item(alloc: Global, plain: &LineItem) -> Result<LineItem, AllocError>
     ensures { IfOk result (λ copy. copy ≡ plain.now) }
 {
+    let deed = plain.deed.copy(alloc)?;
     let session = plain.session.copy(alloc)?;
     Ok(LineItem {
         line: plain.line,
-        deed: plain.deed,
+        deed,
         session,
     })
 }

@@ -1,14 +1,14 @@
 //! Moves of machines as the log keeps them.
 ghost use Rattle.std.specs.Prelude.{◌≡◌, IfOk};
 
-use crate::places::Places;
-use crate::state::{KeptDeed, KeptEvent, KeptState};
+use crate::state::KeptState;
 use acct_totals::Outcome;
 use bench_item::{Moved, Series};
 use std::alloc::{AllocError, Global};
 use std::marker::Model;
+use tab_kept::{KeptDeed, KeptEvent, Places};
 use tab_law::{Deed, PLACES};
-use tab_step::{Event, Stepped};
+use tab_step::Stepped;
 
 /// One move of a machine, kept small. A contract sees the plain move.
 pub struct KeptMoved {
@@ -104,14 +104,14 @@ impl KeptMoved {
     pub fn of_step(
         alloc: Global,
         machine: u64,
-        event: &Event,
+        event: KeptEvent,
         before: &KeptState,
         stepped: &Stepped,
         outcomes: Vec<Outcome>,
     ) -> Result<KeptMoved, AllocError>
         ensures { IfOk result (λ moved. moved ≡ record {
           machine = machine;
-          event = event.now;
+          event = event;
           before = before.now;
           after = stepped.now.after;
           row = stepped.now.row;
@@ -120,7 +120,6 @@ impl KeptMoved {
           outcomes = outcomes.items;
         }) }
     {
-        let event = KeptEvent::keep(alloc, event)?;
         let before = before.copy()?;
         let after = KeptState::keep(alloc, &stepped.after)?;
         let chain = keep_chain(alloc, stepped.chain.as_slice())?;

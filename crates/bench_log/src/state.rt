@@ -1,13 +1,12 @@
-//! Where a machine stands, an event and a deed, as the log keeps them; and copies of keys.
+//! Where a machine stands, as the log keeps it; and copies of keys.
 ghost use Rattle.std.specs.Prelude.{◌≡◌, IfOk};
 
-use crate::places::Places;
 use bench_item::Key;
 use std::alloc::{AllocError, Global};
 use std::marker::Model;
 use std::sync::Arc;
-use tab_law::Deed;
-use tab_step::{Event, MachineState};
+use tab_kept::Places;
+use tab_step::MachineState;
 
 /// Where a machine stands, kept small, and once: its copies share it. A contract sees the plain state.
 pub struct KeptState {
@@ -66,76 +65,6 @@ impl KeptState {
             state: self.state,
             regs: Arc::try_clone(&self.regs)?,
         })
-    }
-}
-
-/// Something that happens to a machine.
-#[derive(Drop)]
-pub(crate) struct KeptEvent {
-    kind: u8,
-    facts: Places,
-}
-
-impl Model for KeptEvent {
-    ghost use Rattle.tab_step.specs.declared.machine.Event.{Event};
-
-    ghost Value = { Event };
-
-    ghost view = { λ k. record { kind = k.kind; facts = k.facts } };
-}
-
-impl KeptEvent {
-    /// Keeps an event.
-    pub(crate) fn keep(alloc: Global, plain: &Event) -> Result<KeptEvent, AllocError>
-        ensures { IfOk result (λ kept. kept ≡ plain.now) }
-    {
-        let facts = Places::keep(alloc, &plain.facts)?;
-        let kind = plain.kind;
-        Ok(KeptEvent { kind, facts })
-    }
-
-    /// The event. Takes no memory.
-    pub(crate) fn show(&self) -> Event
-        ensures { result ≡ self.now }
-    {
-        let facts = self.facts.show();
-        let kind = self.kind;
-        Event { kind, facts }
-    }
-}
-
-/// What an action has done outside its machine.
-#[derive(Drop)]
-pub(crate) struct KeptDeed {
-    code: u16,
-    a: Places,
-}
-
-impl Model for KeptDeed {
-    ghost use Rattle.tab_law.specs.declared.scene.Deed.{Deed};
-
-    ghost Value = { Deed };
-
-    ghost view = { λ k. record { code = k.code; a = k.a } };
-}
-
-impl KeptDeed {
-    /// Keeps a deed.
-    pub(crate) fn keep(alloc: Global, plain: &Deed) -> Result<KeptDeed, AllocError>
-        ensures { IfOk result (λ kept. kept ≡ plain.now) }
-    {
-        let a = Places::keep(alloc, &plain.a)?;
-        let code = plain.code;
-        Ok(KeptDeed { code, a })
-    }
-
-    /// The deed. Takes no memory.
-    pub(crate) fn show(&self) -> Deed
-        ensures { result ≡ self.now }
-    {
-        let a = self.a.show();
-        let code = self.code;
-        Deed { code, a }
     }
 }
 

@@ -3,10 +3,11 @@ ghost use Rattle.std.specs.Prelude.{◌≡◌, IfOk};
 ghost use Rattle.bench_item.specs.declared.step.Step.TheVariants.{Told};
 ghost use Rattle.bench_log.specs.Twins.{step_of, told_of};
 
-use crate::state::{KeptEvent, copy_key};
+use crate::state::copy_key;
 use base_list::Octets;
 use bench_item::{Key, Source, Step};
 use std::alloc::{AllocError, Global};
+use tab_kept::KeptEvent;
 use tab_step::Event;
 
 /// What a desk tells a machine.

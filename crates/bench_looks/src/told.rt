@@ -12,7 +12,7 @@ ghost use Rattle.bench_parts.specs.Views.{kept_in};
 use crate::before::{entry_before, places};
 use crate::key::copy_key;
 use base_list::Octets;
-use bench_item::{Condition, Entry, Item, MachineItem, Source, Step, home, is_same_key};
+use bench_item::{Condition, Entry, Item, KeptEvent, MachineItem, Source, Step, home, is_same_key};
 use bench_parts::Lent;
 use std::alloc::{AllocError, Global};
 use tab_step::Event;
@@ -38,7 +38,7 @@ fn tell_of(
             if *own as usize == desk && home(shards, key) == shard {
                 Ok(Some(MachineItem {
                     key: copy_key(alloc, key)?,
-                    event: *event,
+                    event: KeptEvent::keep(alloc, event)?,
                     condition: None,
                     session: Octets::new(Vec::new(alloc)),
                 }))
@@ -121,7 +121,7 @@ fn is_same(one: &MachineItem, other: &MachineItem) -> bool
     ensures { Decides result (one.now ≡ other.now) }
 {
     let key = is_same_key(&one.key, &other.key);
-    let event = is_same_event(&one.event, &other.event);
+    let event = is_same_event(&one.event.show(), &other.event.show());
     let condition = is_same_condition(one.condition, other.condition);
     let session = one.session.as_slice() == other.session.as_slice();
     key && event && condition && session

@@ -1,6 +1,6 @@
 //! One move of a machine, decided by the callbacks.
 
-ghost use Rattle.std.specs.Prelude.{◌≡◌, IfOk};
+ghost use Rattle.std.specs.Prelude.{◌≡◌, None, IfOk};
 ghost use Rattle.acct_book.specs.Book.{with_book};
 ghost use Rattle.bench_spec.specs.Booked.{want_of};
 ghost use Rattle.tab_law.specs.Books.{NamedPermits};
@@ -14,7 +14,7 @@ use crate::quoting::event_with_quote;
 use crate::roles::Roles;
 use acct_book::Page;
 use acct_totals::Op;
-use bench_item::{MachineItem, Peers, Role, Series};
+use bench_item::{KeptEvent, MachineItem, Peers, Role, Series};
 use bench_log::{KeptItem, KeptMoved, KeptState};
 use charge_session::Want;
 use std::alloc::{AllocError, Global};
@@ -30,6 +30,22 @@ pub struct Decided {
     pub posts: Vec<KeptItem>,
     /// The operations of the account book that the deeds ask for, in order.
     pub ops: Series<Op>,
+}
+
+/// Keeps an event with the book's quote; where none is asked for it is the item's own, whose octets are copied.
+fn kept_event(
+    alloc: Global,
+    want: &Option<Want>,
+    own: &KeptEvent,
+    quoted: &Event,
+) -> Result<KeptEvent, AllocError>
+    requires { want.now ≡ None → quoted.now ≡ own.now }
+    ensures { IfOk result (λ kept. kept ≡ quoted.now) }
+{
+    match want {
+        None => own.copy(alloc),
+        Some(_) => KeptEvent::keep(alloc, quoted),
+    }
 }
 
 impl Roles {
@@ -72,13 +88,14 @@ impl Roles {
         ensures decided { IfOk result (IsDecided self.now peers.now page.old.book number before.now item.now) }
         ensures page { page.new ≡ with_book page.old page.old.book page.new.room }
     {
-        let event = event_with_quote(page, want, &item.event);
+        let event = event_with_quote(page, want, item.event.show());
         self.step(registry, item.key.role, &before.show(), &event, room);
         let deeds = room.deeds.as_slice();
         let posts = posts_of_all(alloc, self.laws(), peers, number, item, deeds)?;
         let ops = ops_of(alloc, want, deeds)?;
         let outcomes = outcomes_for(alloc, page, want, deeds, ops.as_slice())?;
-        let moved = KeptMoved::of_step(alloc, number, &event, before, room, outcomes)?;
+        let event = kept_event(alloc, want, &item.event, &event)?;
+        let moved = KeptMoved::of_step(alloc, number, event, before, room, outcomes)?;
         Ok(Decided {
             moved,
             posts,

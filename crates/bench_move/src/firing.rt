@@ -7,7 +7,7 @@ ghost use Rattle.bench_spec.specs.Items.{firing, timer_kind};
 
 use base_codes::session_register;
 use base_list::Octets;
-use bench_item::{Condition, Item, Key, MachineItem, Role};
+use bench_item::{Condition, Item, KeptEvent, Key, MachineItem, Role};
 use std::alloc::{AllocError, Global};
 use tab_law::{LawBook, PLACES};
 use tab_step::Event;
@@ -49,6 +49,7 @@ pub fn firing_item(
     let Some(event) = timer_event(laws, key.role) else {
         return Ok(None);
     };
+    let event = KeptEvent::keep(alloc, &event)?;
     let session = Octets::from_slice(alloc, b"")?;
     let condition = Condition {
         register: session_register::TIMER as u8,

@@ -114,7 +114,7 @@ impl Roles {
         ensures page { page.new ≡ with_book page.old page.old.book page.new.room }
     {
         let want = self.want(item, before);
-        let event = event_with_quote(page, &want, &item.event);
+        let event = event_with_quote(page, &want, item.event.show());
         if !is_at(moved, number, before, &event) || !self.has_step(item.key.role, moved, room) {
             return Ok(false);
         }

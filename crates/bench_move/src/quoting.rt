@@ -23,10 +23,10 @@ fn quotes_for(page: &Page, want: &Want) -> Quotes
 }
 
 /// An event with the book's quote among its facts, where one is asked for.
-pub(crate) fn event_with_quote(page: &Page, want: &Option<Want>, event: &Event) -> Event
-    ensures { result ≡ event_with_quote page.now.book want.now event.now }
+pub(crate) fn event_with_quote(page: &Page, want: &Option<Want>, event: Event) -> Event
+    ensures { result ≡ event_with_quote page.now.book want.now event }
 {
-    let mut event = *event;
+    let mut event = event;
     if let Some(want) = want {
         fill_quotes(&mut event.facts, &quotes_for(page, want));
     }

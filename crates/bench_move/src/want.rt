@@ -33,7 +33,7 @@ impl Roles {
         ensures { result ≡ want_of self.now.laws item.now state.now }
     {
         match item.key.role {
-            Role::Server => self.session_want(&item.event, state),
+            Role::Server => self.session_want(&item.event.show(), state),
             Role::Peer | Role::Client => None,
         }
     }

@@ -156,8 +156,8 @@ fn put_places(name: &[u8], values: &[u64], out: &mut Vec<u8>) -> Result<(), Allo
 /// Puts an event for a machine: its key, kind and facts, its condition and the session that it carries.
 fn put_event(item: &MachineItem, out: &mut Vec<u8>) -> Result<(), AllocError> {
     put_key(out, &item.key)?;
-    put_number(out, b" ", u64::from(item.event.kind))?;
-    put_places(b" ", &item.event.facts, out)?;
+    put_number(out, b" ", u64::from(item.event.kind()))?;
+    put_places(b" ", &item.event.show().facts, out)?;
     if let Some(condition) = item.condition {
         put_number(out, b" if ", u64::from(condition.register))?;
         put_number(out, b"=", condition.value)?;

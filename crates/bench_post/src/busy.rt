@@ -53,7 +53,8 @@ fn answer_request(
 }
 
 /// What is posted, at most one item, for an item whose session finds no room: a request is answered DIAMETER_TOO_BUSY,
-/// all else is dropped. A post whose names have at most 32 octets each takes no memory.
+/// all else is dropped. A post takes no memory whose names, and whose numbers as they are kept, have at most 32 octets
+/// each.
 pub fn busy_posts(
     alloc: Global,
     laws: &LawBook,
@@ -67,7 +68,7 @@ pub fn busy_posts(
             alloc,
             laws,
             peers,
-            &item.event.facts,
+            &item.event.show().facts,
             item.key.name.as_slice(),
         ),
         Role::Peer | Role::Client => Ok(None),

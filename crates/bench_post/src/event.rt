@@ -7,7 +7,7 @@ ghost use Rattle.bench_item.specs.Keys.{key_of};
 ghost use Rattle.bench_post.specs.Made.{Makes, carried};
 
 use base_list::Octets;
-use bench_item::{Condition, Item, Key, MachineItem, Role};
+use bench_item::{Condition, Item, KeptEvent, Key, MachineItem, Role};
 use std::alloc::{AllocError, Global};
 use tab_law::{LawBook, PLACES};
 use tab_step::Event;
@@ -49,6 +49,7 @@ pub(crate) fn carry(
     let Some(event) = event else {
         return Ok(None);
     };
+    let event = KeptEvent::keep(alloc, &event)?;
     let name = Octets::from_slice(alloc, name)?;
     let session = Octets::from_slice(alloc, session)?;
     Ok(Some(Item::ToMachine(MachineItem {

@@ -9,7 +9,7 @@ ghost use Rattle.bench_post.specs.Nodes.{doer_of};
 use crate::session::session_event;
 use base_codes::session_fact;
 use base_list::Octets;
-use bench_item::{Item, LineItem, MachineItem, Role};
+use bench_item::{Item, KeptDeed, LineItem, MachineItem, Role};
 use std::alloc::{AllocError, Global};
 use tab_law::Deed;
 
@@ -32,10 +32,11 @@ pub(crate) fn to_line(
     ensures { Makes result (line_posts item.now deed.now) }
 {
     deed.known();
+    let kept = KeptDeed::keep(alloc, deed)?;
     let session = Octets::from_slice(alloc, handed_on(item))?;
     Ok(Some(Item::ToLine(LineItem {
         line: deed.a[session_fact::LINE],
-        deed: *deed,
+        deed: kept,
         session,
     })))
 }

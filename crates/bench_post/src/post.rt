@@ -92,8 +92,8 @@ fn posts_by(
 }
 
 /// What a deed posts, at most one item: a deed of the machine of that number, done as it handled that item. Deeds of
-/// the account book, Service, and codes without a name post nothing. A post whose names have at most 32 octets each
-/// takes no memory.
+/// the account book, Service, and codes without a name post nothing. A post takes no memory whose names, and whose
+/// numbers as they are kept, have at most 32 octets each.
 pub fn posts_of(
     alloc: Global,
     laws: &LawBook,

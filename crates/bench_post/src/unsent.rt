@@ -17,7 +17,7 @@ fn is_unsent(laws: &LawBook, item: &MachineItem, deed: &Deed) -> bool
     ensures { result ≡ is_unsent laws.now item.now deed.now }
 {
     deed.known();
-    is_kind_of(laws, item.event.kind, b"Send-Message")
+    is_kind_of(laws, item.event.kind(), b"Send-Message")
         && deed.a[session_fact::CLASS] == message_class::REQUEST
         && !handed_on(item).is_empty()
 }

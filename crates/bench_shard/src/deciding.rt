@@ -12,14 +12,14 @@ use crate::state::ShardState;
 use crate::task::{Fate, Task};
 use crate::work::{Effects, Work};
 use acct_book::Page;
-use bench_item::{Handled, Item, MachineItem, Moved, Series};
+use bench_item::{Handled, Item, MachineItem, Moved, Role, Series};
 use bench_log::{KeptHandled, KeptItem, KeptMachineItem, KeptState};
 use bench_move::{Decided, Roles};
 use bench_post::busy_posts;
 use charge_session::Want;
 use std::alloc::{AllocError, Global};
 use tab_call::Registry;
-use tab_step::{MachineState, Stepped};
+use tab_step::Stepped;
 
 /// One item, or none, as a list.
 fn list_of(alloc: Global, item: Option<Item>) -> Result<Vec<KeptItem>, AllocError>
@@ -43,20 +43,21 @@ fn no_effects(alloc: Global) -> Effects
 }
 
 impl ShardState {
-    // What an item asks of the account book to which that is to become, in its machine, which stands there.
+    // What an item asks of the account book to which that is to become, in its machine, which stands there. Only a
+    // server's session asks something, so that others' registers are not read.
     fn want_by(
         &self,
         roles: &Roles,
         fate: Fate,
         item: &MachineItem,
-        state: &MachineState,
+        before: &KeptState,
     ) -> Option<Want>
-        requires { state.now ≡ state_for self.now item.now.key }
+        requires { before.now ≡ state_for self.now item.now.key }
         ensures { result ≡ want_by fate roles.now.laws self.now item.now }
     {
-        match fate {
-            Fate::Moves => roles.want(item, state),
-            Fate::Busy | Fate::Stale => None,
+        match (fate, item.key.role) {
+            (Fate::Moves, Role::Server) => roles.want(item, &before.show()),
+            _ => None,
         }
     }
 
@@ -75,9 +76,8 @@ impl ShardState {
         let place = found.unwrap_or(self.machines());
         let number = self.number_for(place);
         let before = self.state_for(place)?;
-        let state = before.show();
-        let fate = self.fate(found, item.plain(), &state);
-        let want = self.want_by(roles, fate, item.plain(), &state);
+        let fate = self.fate(found, item.plain(), &before);
+        let want = self.want_by(roles, fate, item.plain(), &before);
         Ok(Task {
             item,
             number,

@@ -18,7 +18,6 @@ use bench_log::{KeptMachineItem, KeptState};
 use charge_session::Want;
 use std::alloc::AllocError;
 use tab_law::PLACES;
-use tab_step::MachineState;
 
 /// What is to become of an item.
 #[derive(Clone, Copy, PartialEq, Eq)]
@@ -67,13 +66,13 @@ fn register(regs: &[u64; PLACES], place: u8) -> u64
     }
 }
 
-/// Whether an item's condition holds in a machine.
-fn holds(condition: &Option<Condition>, state: &MachineState) -> bool
+/// Whether an item's condition holds in a machine. Without one no register is read.
+fn holds(condition: &Option<Condition>, state: &KeptState) -> bool
     ensures { result ≡ holds condition.now state.now }
 {
     match condition {
         None => true,
-        Some(condition) => register(&state.regs, condition.register) == condition.value,
+        Some(condition) => register(&state.show().regs, condition.register) == condition.value,
     }
 }
 
@@ -109,12 +108,7 @@ impl ShardState {
     }
 
     // What is to become of an item for the machine at that place, if it is there, which stands there.
-    pub(crate) fn fate(
-        &self,
-        place: Option<usize>,
-        item: &MachineItem,
-        before: &MachineState,
-    ) -> Fate
+    pub(crate) fn fate(&self, place: Option<usize>, item: &MachineItem, before: &KeptState) -> Fate
         requires place { place ≡ place_in self.now item.now.key }
         requires before { before.now ≡ state_for self.now item.now.key }
         ensures { result ≡ fate_of self.now item.now }

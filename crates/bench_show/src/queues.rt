@@ -54,8 +54,8 @@ fn put_event(out: &mut Vec<u8>, core: &Core, item: &MachineItem) -> Result<(), A
 {
     let none = Machines::new(*out.allocator());
     put_key(out, &item.key)?;
-    put_kind(out, core.laws(), &none, item.event.kind)?;
-    put_facts(out, &item.event.facts)
+    put_kind(out, core.laws(), &none, item.event.kind())?;
+    put_facts(out, &item.event.show().facts)
 }
 
 /// Puts a deed that is on its way to a connection.
@@ -63,7 +63,7 @@ fn put_to_line(out: &mut Vec<u8>, core: &Core, item: &LineItem) -> Result<(), Al
     ensures { OnOk result (out.new.items ≡ out.old.items ++ item_text core.now (Item.ToLine item.now)) }
 {
     put_number(out, b" line ", item.line)?;
-    put_deed_words(out, b" ", &item.deed)
+    put_deed_words(out, b" ", &item.deed.show())
 }
 
 /// Puts a machine, and a word and a number of it.

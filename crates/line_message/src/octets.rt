@@ -36,13 +36,14 @@ fn command_of(
         identity,
         session: item.session.as_slice(),
     };
-    if let Some(command) = peer_message(alloc, &item.deed, &names)? {
+    let deed = item.deed.show();
+    if let Some(command) = peer_message(alloc, &deed, &names)? {
         return Ok(Some(command));
     }
-    if let Some(command) = request_message(alloc, &item.deed, &names)? {
+    if let Some(command) = request_message(alloc, &deed, &names)? {
         return Ok(Some(command));
     }
-    answer_message(alloc, &item.deed, &names)
+    answer_message(alloc, &deed, &names)
 }
 
 /// The octets of the message that a deed sends, none where it sends none.

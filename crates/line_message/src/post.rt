@@ -6,7 +6,7 @@ ghost use Rattle.line_message.specs.Posts.{peer_of, kind_at, event_for, side_of,
 use crate::listener::Listener;
 use base_codes::{peer_fact, peer_register};
 use base_list::Octets;
-use bench_item::{Condition, Item, Key, MachineItem, Opening, Role};
+use bench_item::{Condition, Item, KeptEvent, Key, MachineItem, Opening, Role};
 use dia_command::Header;
 use peer_rules::Side;
 use std::alloc::{AllocError, Global};
@@ -105,15 +105,14 @@ impl Listener {
         let Some(kind) = self.kind_at(told.place) else {
             return Ok(None);
         };
+        let facts = told.facts;
+        let event = Event { kind, facts };
         Ok(Some(Item::ToMachine(MachineItem {
             key: Key {
                 role: Role::Peer,
                 name: host.copy(alloc)?,
             },
-            event: Event {
-                kind,
-                facts: told.facts,
-            },
+            event: KeptEvent::keep(alloc, &event)?,
             condition: told.condition,
             session: Octets::from_slice(alloc, told.session)?,
         })))

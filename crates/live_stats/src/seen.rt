@@ -78,10 +78,10 @@ fn request_hop(a: &[u64; PLACES]) -> u64
 fn sent(item: &LineItem) -> Seen
     ensures { result ≡ sent item.now }
 {
-    if item.deed.code != DeedCode::SndMsg.number() {
+    if item.deed.code() != DeedCode::SndMsg.number() {
         return Seen::Nothing;
     }
-    let a = &item.deed.a;
+    let a = &item.deed.show().a;
     let request = key_of(item.line, request_hop(a));
     let answer = key_of(item.line, a[session_fact::HOP_BY_HOP]);
     let code = a[session_fact::RESULT_CODE];
@@ -108,7 +108,7 @@ pub(crate) fn seen_in(entry: &Entry) -> Seen
     match (&entry.step, &entry.item, &entry.handled) {
         (Step::Came { line, .. }, _, _) => Seen::Came(*line),
         (Step::Lift(Source::Line(line)), Some(Item::ToMachine(item)), _) => {
-            heard(*line, &item.event.facts)
+            heard(*line, &item.event.show().facts)
         }
         (Step::Drop(_), Some(Item::ToLine(item)), _) => sent(item),
         (Step::Work(_), Some(Item::ToMachine(item)), Some(handled)) => moved(item, handled),

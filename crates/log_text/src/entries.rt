@@ -104,7 +104,7 @@ fn put_move(
         out,
         names,
         &item.key,
-        item.event.kind,
+        item.event.kind(),
         before,
         after,
         moved.row,
@@ -125,7 +125,7 @@ fn put_handled(
     match handled {
         Handled::TooBusy => out.extend_from_slice(b"  busy\n"),
         Handled::Stale(state) => {
-            put_stale(out, names, &item.key, item.event.kind, *state)?;
+            put_stale(out, names, &item.key, item.event.kind(), *state)?;
             out.extend_from_slice(b"\n")
         }
         Handled::Move(moved) => put_move(out, names, item, moved),

@@ -14,7 +14,7 @@ use crate::item::{ItemLine, ShownItem, Who};
 use crate::pending::{Pending, Reader};
 use acct_totals::Outcome;
 use base_list::Octets;
-use bench_item::{Entry, Handled, Item, Key, MachineItem, Moved, Role, Series, Step};
+use bench_item::{Entry, Handled, Item, KeptEvent, Key, MachineItem, Moved, Role, Series, Step};
 use bench_log::{KeptEntry, Log};
 use std::alloc::{AllocError, Global};
 use step_text::ShownStep;
@@ -72,7 +72,7 @@ fn item_of(alloc: Global, who: Who) -> Item
     let Who { key, kind } = who;
     Item::ToMachine(MachineItem {
         key,
-        event: event_of(kind),
+        event: KeptEvent::bare(alloc, kind),
         condition: None,
         session: Octets::new(Vec::new(alloc)),
     })

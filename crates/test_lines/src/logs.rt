@@ -3,7 +3,8 @@
 use acct_totals::Outcome;
 use base_list::Octets;
 use bench_item::{
-    Entry, Handled, Item, Key, MAX_ENTRIES, MachineItem, Moved, Role, Series, Source, Step,
+    Entry, Handled, Item, KeptEvent, Key, MAX_ENTRIES, MachineItem, Moved, Role, Series, Source,
+    Step,
 };
 use bench_log::{Log, LogError};
 use log_text::{NameBook, put_entry};
@@ -51,7 +52,7 @@ fn deed(code: u16, first: u64) -> Deed {
 fn worked(alloc: Global, handled: Handled) -> Result<Entry, Fail> {
     let item = MachineItem {
         key: key(alloc)?,
-        event: event(),
+        event: KeptEvent::keep(alloc, &event())?,
         condition: None,
         session: Octets::new(Vec::new(alloc)),
     };

@@ -97,7 +97,7 @@ pub fn put_item(alloc: Global, laws: &LawBook, item: &Item, out: &mut Vec<u8>) -
     let told = Step::Told {
         desk: 0,
         key,
-        event: item.event,
+        event: item.event.show(),
     };
     write_step(out, laws, &Machines::new(alloc), &told)?;
     if let Some(condition) = item.condition {

@@ -2,7 +2,7 @@
 
 use crate::node::put_item;
 use base_list::{AddError, AddFault, Octets};
-use bench_item::{Item, Key, MachineItem, Role};
+use bench_item::{Item, KeptEvent, Key, MachineItem, Role};
 use bench_post::{Peers, busy_posts, home, posts_of};
 use peer_rules::peer_laws;
 use std::alloc::Global;
@@ -31,7 +31,7 @@ fn request(alloc: Global, facts: &[u64]) -> Result<MachineItem, Fail> {
     };
     Ok(MachineItem {
         key,
-        event,
+        event: KeptEvent::keep(alloc, &event)?,
         condition: None,
         session: Octets::new(Vec::new(alloc)),
     })

@@ -2,7 +2,8 @@
 use base_codes::{DeedCode, message_class, session_fact};
 use base_list::Octets;
 use bench_item::{
-    Entry, Handled, Item, Key, LineItem, MachineItem, Moved, Role, Series, Source, Step,
+    Entry, Handled, Item, KeptDeed, KeptEvent, Key, LineItem, MachineItem, Moved, Role, Series,
+    Source, Step,
 };
 use live_stats::{CODES, Stats, Sums};
 use std::alloc::Global;
@@ -49,7 +50,7 @@ fn event(alloc: Global, role: Role, facts: [u64; PLACES]) -> Result<MachineItem,
             role,
             name: Octets::from_slice(alloc, b"c.example")?,
         },
-        event: Event { kind: 7, facts },
+        event: KeptEvent::keep(alloc, &Event { kind: 7, facts })?,
         condition: None,
         session: Octets::from_slice(alloc, b"c;1")?,
     })
@@ -63,12 +64,10 @@ fn heard(alloc: Global, line: u32, facts: [u64; PLACES]) -> Result<Entry, Fail> 
 
 /// A message that is handed to its connection.
 fn sent(alloc: Global, line: u64, code: DeedCode, a: [u64; PLACES]) -> Result<Entry, Fail> {
+    let code = code.number();
     let item = Item::ToLine(LineItem {
         line,
-        deed: Deed {
-            code: code.number(),
-            a,
-        },
+        deed: KeptDeed::keep(alloc, &Deed { code, a })?,
         session: Octets::from_slice(alloc, b"c;1")?,
     });
     Ok(entry(Step::Drop(Source::Shard(0)), Some(item), None))

@@ -2,7 +2,7 @@
 //! and an entry that is wrong in one value is refused.
 
 use bench_core::{Core, ReplayError};
-use bench_item::{Entry, Handled, Item, Moved, Series, Step};
+use bench_item::{Entry, Handled, Item, KeptEvent, Moved, Series, Step};
 use bench_play::{Play, all_of};
 use bench_world::TakesSteps;
 use std::alloc::{AllocError, Global};
@@ -11,10 +11,15 @@ use std::alloc::{AllocError, Global};
 const WAYS: u8 = 15;
 
 /// Makes an item another; whether it is one that can be made so.
-fn alters_item(item: &mut Item) -> bool {
+fn alters_item(alloc: Global, item: &mut Item) -> bool {
     match item {
         Item::ToMachine(item) => {
-            item.event.facts[20] = item.event.facts[20].wrapping_add(1);
+            let mut event = item.event.show();
+            event.facts[20] = event.facts[20].wrapping_add(1);
+            match KeptEvent::keep(alloc, &event) {
+                Ok(event) => item.event = event,
+                Err(_) => return false,
+            }
             true
         }
         Item::ToLine(item) => {
@@ -78,7 +83,7 @@ fn alters(alloc: Global, entry: &mut Entry, way: u8) -> bool {
             there
         }
         2 => match &mut entry.item {
-            Some(item) => alters_item(item),
+            Some(item) => alters_item(alloc, item),
             None => false,
         },
         _ => alters_handled(alloc, &mut entry.handled, way - 3),

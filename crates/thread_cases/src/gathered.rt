@@ -57,7 +57,7 @@ pub fn has_told(alloc: Global, core: &Core, desk: u32, keys: &[Key]) -> Result<b
 fn is_for(item: &Item, role: Role, kind: Option<u8>) -> bool {
     match item {
         Item::ToMachine(item) => {
-            item.key.role == role && (kind.is_none() || kind == Some(item.event.kind))
+            item.key.role == role && (kind.is_none() || kind == Some(item.event.kind()))
         }
         _ => false,
     }

@@ -1,9 +1,9 @@
 //! Numbers in as few octets as they need.
-ghost use Rattle.std.specs.Prelude.{◌≡◌, ◌++◌, ◌+◌, ◌<◌, ◌≤◌, ◌^◌, ◌∷◌, [], All, IfOk, length, slice_index};
+ghost use Rattle.std.specs.Prelude.{◌≡◌, ◌++◌, ◌+◌, ◌<◌, ◌≤◌, ◌^◌, ◌∷◌, [], All, IfOk, IsOk, length, slice_index};
 ghost use Rattle.std.specs.Int.{w64, from_le_bytes};
 ghost use Rattle.tab_law.specs.declared.limits.TheConstants.{PLACES};
-ghost use Rattle.bench_log.specs.declared.code.TheConstants.{MAX_OCTETS};
-ghost use Rattle.bench_log.specs.Coded.{behind, code, coded, first, width};
+ghost use Rattle.tab_kept.specs.declared.code.TheConstants.{MAX_OCTETS};
+ghost use Rattle.tab_kept.specs.Coded.{behind, code, coded, first, width};
 
 use base_list::{FixedList, Octets};
 use std::alloc::{AllocError, Global};
@@ -47,6 +47,7 @@ pub(crate) fn octets_of(alloc: Global, numbers: &[u64]) -> Result<Octets, AllocE
     requires few { length numbers.now ≤ PLACES }
     ensures octets { IfOk result (λ octets. octets ≡ coded numbers.now) }
     ensures fit { IfOk result (λ _. All (λ n. n < 2 ^ 64) numbers.now) }
+    ensures short { length (coded numbers.now) ≤ 32 → IsOk result }
 {
     let mut octets = Code::new();
     for number in numbers {

@@ -1,7 +1,7 @@
 use Rattle.std.proofs.Common.{◌≡◌, ◌<◌, ◌≤◌, ◌*◌, ◌^◌, length, take}
 use Rattle.std.specs.Prelude.{All}
-use Rattle.bench_log.specs.Coded.{coded}
-use Rattle.bench_log.proofs.code.octets_of.Given as goal
+use Rattle.tab_kept.specs.Coded.{coded}
+use Rattle.tab_kept.proofs.code.octets_of.Given as goal
 
 -- the numbers so far stand in the octets, nine at most of each, and each has at most 64 bits
 abbrev pub invariant-loop-number : goal.invariant-loop-number

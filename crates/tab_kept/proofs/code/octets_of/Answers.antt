@@ -1,9 +1,9 @@
 use Rattle.std.proofs.Common.{◌++◌, ◌<◌, ◌^◌, ℕ, List, length, get_or, take, refl, ap, sym, ◌∙◌, arith}
 use Rattle.std.proofs.lemmas.List.{take_more, length-append}
 use Rattle.std.proofs.lemmas.List.Elements.{All-push}
-use Rattle.bench_log.specs.Coded.{code}
-use Rattle.bench_log.proofs.CodedLemmas.{code-short, coded-more}
-use Rattle.bench_log.proofs.code.octets_of.Goals as goal
+use Rattle.tab_kept.specs.Coded.{code}
+use Rattle.tab_kept.proofs.CodedLemmas.{code-short, coded-more}
+use Rattle.tab_kept.proofs.code.octets_of.Goals as goal
 
 pub loop-number-preserved : goal.loop-number-preserved
 loop-number-preserved c =

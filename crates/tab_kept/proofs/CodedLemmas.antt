@@ -8,9 +8,9 @@ use Rattle.std.proofs.lemmas.List.Elements.{All-tail}
 use Rattle.std.proofs.lemmas.Grind.{flat_map-append}
 use Rattle.std.proofs.lemmas.Nat.{from_le_bytes-to_le_bytes_2, from_le_bytes-to_le_bytes_4, from_le_bytes-to_le_bytes_8}
 use Rattle.tab_law.specs.declared.limits.TheConstants.{PLACES}
-use Rattle.bench_log.specs.Padded.{padded}
-use Rattle.bench_log.proofs.PlacesLemmas.{padded-take}
-use Rattle.bench_log.specs.Coded.{code, coded, first, behind, decoded}
+use Rattle.tab_kept.specs.Padded.{padded}
+use Rattle.tab_kept.proofs.PlacesLemmas.{padded-take}
+use Rattle.tab_kept.specs.Coded.{code, coded, first, behind, decoded}
 
 -- the octets of a number by the tests on it
 form : Bool → Bool → Bool → ℕ → List ℕ

@@ -1,8 +1,9 @@
 //! The numbers of 64 places, most of which are zero.
-ghost use Rattle.std.specs.Prelude.{◌≡◌, ◌≤◌, ◌-◌, ◌+◌, ◌↔◌, IfOk, IsTrue, drop, replicate, take};
+ghost use Rattle.std.specs.Prelude.{◌≡◌, ◌≤◌, ◌-◌, ◌+◌, ◌↔◌, IfOk, IsOk, IsTrue, drop, replicate, take};
 ghost use Rattle.tab_law.specs.declared.limits.TheConstants.{PLACES};
-ghost use Rattle.bench_log.specs.Coded.{decoded};
-ghost use Rattle.bench_log.specs.Padded.{padded};
+ghost use Rattle.tab_kept.specs.Coded.{decoded};
+ghost use Rattle.tab_kept.specs.Padded.{padded};
+ghost use Rattle.tab_kept.specs.Trimmed.{octets_for, trimmed};
 
 use crate::code::{next, octets_of};
 use base_list::Octets;
@@ -12,7 +13,7 @@ use tab_law::PLACES;
 
 /// The registers of a machine, the facts of an event or the arguments of a deed. Zeros at the end take no room, and
 /// each number before them takes as few octets as it needs. A contract sees all 64 numbers.
-pub(crate) struct Places {
+pub struct Places {
     octets: Octets,
     // So many numbers are kept.
     count: u8,
@@ -28,8 +29,8 @@ impl Drop for Places {
 impl Model for Places {
     ghost use Rattle.std.specs.Prelude.{List, ℕ, ◌≤◌};
     ghost use Rattle.tab_law.specs.declared.limits.TheConstants.{PLACES};
-    ghost use Rattle.bench_log.specs.Coded.{decoded};
-    ghost use Rattle.bench_log.specs.Padded.{padded};
+    ghost use Rattle.tab_kept.specs.Coded.{decoded};
+    ghost use Rattle.tab_kept.specs.Padded.{padded};
 
     ghost Value = { List ℕ };
 
@@ -58,6 +59,7 @@ fn are_eight_zeros(places: &[u64; PLACES], from: usize) -> bool
 fn used(places: &[u64; PLACES]) -> usize
     ensures within { result ≤ PLACES }
     ensures zeros { drop result places.now ≡ replicate (PLACES - result) 0 }
+    ensures least { trimmed places.now ≡ take result places.now }
 {
     let mut count = PLACES;
     // Most arrays have many: they are looked at by eight.
@@ -86,9 +88,21 @@ fn decode(count: usize, octets: &[u8]) -> [u64; PLACES]
 }
 
 impl Places {
-    /// Keeps these numbers.
-    pub(crate) fn keep(alloc: Global, places: &[u64; PLACES]) -> Result<Places, AllocError>
-        ensures { IfOk result (λ kept. kept ≡ places.now) }
+    /// Zeros at all places. Takes no memory.
+    pub fn zeros(alloc: Global) -> Places
+        ensures { result ≡ replicate PLACES 0 }
+    {
+        Places {
+            octets: Octets::new(Vec::new(alloc)),
+            count: 0,
+        }
+    }
+
+    /// Keeps these numbers. Where they take up to 32 octets, they take no memory.
+    #[tactic(auto, unfolding(crate::specs::Trimmed::octets_for))]
+    pub fn keep(alloc: Global, places: &[u64; PLACES]) -> Result<Places, AllocError>
+        ensures kept { IfOk result (λ kept. kept ≡ places.now) }
+        ensures short { octets_for places.now ≤ 32 → IsOk result }
     {
         let count = used(places);
         let octets = octets_of(alloc, &places[..count])?;
@@ -99,9 +113,19 @@ impl Places {
     }
 
     /// The numbers that are kept. Takes no memory.
-    pub(crate) fn show(&self) -> [u64; PLACES]
+    pub fn show(&self) -> [u64; PLACES]
         ensures { result ≡ self.now }
     {
         decode(usize::from(self.count), self.octets.as_slice())
+    }
+
+    /// The same numbers in memory of their own.
+    pub fn copy(&self, alloc: Global) -> Result<Places, AllocError>
+        ensures { IfOk result (λ copy. copy ≡ self.now) }
+    {
+        Ok(Places {
+            octets: self.octets.copy(alloc)?,
+            count: self.count,
+        })
     }
 }

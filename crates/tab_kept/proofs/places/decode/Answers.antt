@@ -1,10 +1,10 @@
 use Rattle.std.proofs.Common.{◌≡◌, ◌++◌, ◌+◌, ◌-◌, ◌<◌, ◌∷◌, ℕ, List, take, ap, ◌∙◌, arith}
 use Rattle.std.proofs.lemmas.List.{length-set}
 use Rattle.tab_law.specs.declared.limits.TheConstants.{PLACES}
-use Rattle.bench_log.specs.Coded.{decoded}
-use Rattle.bench_log.proofs.CodedLemmas.{decoded-next}
-use Rattle.bench_log.proofs.PlacesLemmas.{placed-more}
-use Rattle.bench_log.proofs.places.decode.Goals as goal
+use Rattle.tab_kept.specs.Coded.{decoded}
+use Rattle.tab_kept.proofs.CodedLemmas.{decoded-next}
+use Rattle.tab_kept.proofs.PlacesLemmas.{placed-more}
+use Rattle.tab_kept.proofs.places.decode.Goals as goal
 
 pub loop-place-preserved : goal.loop-place-preserved
 loop-place-preserved c =

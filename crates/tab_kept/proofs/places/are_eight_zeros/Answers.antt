@@ -1,7 +1,7 @@
 use Rattle.std.proofs.Common.{◌∙◌, ◌≤◌, ◌+◌, length, sym, arith}
 use Rattle.std.proofs.lemmas.Bool.{eqb-true, eq-eqb}
-use Rattle.bench_log.proofs.PlacesLemmas.{eight-taken, none-joined, joined-none}
-use Rattle.bench_log.proofs.places.are_eight_zeros.Goals as goal
+use Rattle.tab_kept.proofs.PlacesLemmas.{eight-taken, none-joined, joined-none}
+use Rattle.tab_kept.proofs.places.are_eight_zeros.Goals as goal
 
 pub returns : goal.returns
 returns c =

@@ -1,6 +1,6 @@
 use Rattle.std.proofs.Common.{◌≡◌, ◌≤◌, ◌-◌, drop, replicate}
 use Rattle.tab_law.specs.declared.limits.TheConstants.{PLACES}
-use Rattle.bench_log.proofs.places.used.Given as goal
+use Rattle.tab_kept.proofs.places.used.Given as goal
 
 -- from this place on there are zeros
 abbrev pub invariant-zeros : goal.invariant-zeros

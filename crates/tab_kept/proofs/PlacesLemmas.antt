@@ -4,7 +4,7 @@ use Rattle.std.specs.Int.Bits.{bit_or}
 use Rattle.std.proofs.lemmas.Nat.{le_or_l, le_or_r}
 use Rattle.std.proofs.lemmas.List.{replicate-append-replicate, take-append-drop, take_more_set, drop-set-lt, drop-drop, length-take-le}
 use Rattle.tab_law.specs.declared.limits.TheConstants.{PLACES}
-use Rattle.bench_log.specs.Padded.{padded}
+use Rattle.tab_kept.specs.Padded.{padded}
 
 -- a zero before zeros
 pub zeros-more : (xs : List ℕ) (n k : ℕ) → n < length xs → get_or xs n 0 ≡ 0 → drop (n + 1) xs ≡ replicate k 0 → drop n xs ≡ replicate (k + 1) 0

@@ -1,7 +1,7 @@
 use Rattle.std.proofs.Common.{◌≡◌, ◌-◌, ◌++◌, length, take, drop, replicate}
 use Rattle.tab_law.specs.declared.limits.TheConstants.{PLACES}
-use Rattle.bench_log.specs.Coded.{decoded}
-use Rattle.bench_log.proofs.places.decode.Given as goal
+use Rattle.tab_kept.specs.Coded.{decoded}
+use Rattle.tab_kept.proofs.places.decode.Given as goal
 
 -- the numbers so far stand in their places, the others are in the rest, and behind them there are zeros
 abbrev pub invariant-loop-place : goal.invariant-loop-place

@@ -1,0 +1,3 @@
+pub mod CodedLemmas
+pub mod PlacesLemmas
+pub mod TrimmedLemmas
