@@ -71,10 +71,10 @@ impl Shared {
         self.shards.get(home(count, item.key()))
     }
 
-    /// Whether an item is for a shard whose lock another thread holds now.
+    /// Whether an item is for a shard, or a deed for the connections, whose lock another thread holds now.
     pub(crate) fn is_busy(&self, hand: &Hand) -> bool {
         let Some(item) = hand.item.event() else {
-            return false;
+            return hand.item.deed().is_some() && self.lines.try_lock().is_none();
         };
         match self.shard_for(item) {
             None => false,

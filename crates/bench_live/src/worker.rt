@@ -128,8 +128,8 @@ fn next_under(slot: &mut Slot, held: Option<Hand>, stamps: &AtomicU64) -> (Optio
 }
 
 /// Carries what a shard put out where it is for, until nothing is left or an item finds no room, which stays in the
-/// hand; where it has no patience, so does one that is for a shard which is at work. Passes the gate behind each item
-/// that it dropped at the connections, while it holds no lock.
+/// hand; where it has no patience, so does one whose lock another thread holds. Passes the gate behind each item that it
+/// dropped at the connections, while it holds no lock.
 fn carry<R: Wait, G: Gate>(
     rt: &R,
     shared: &Shared,
@@ -203,8 +203,8 @@ fn wait<R: Wait>(rt: &R, shard: &ShardLock, has_hand: bool, again: bool) -> bool
     slot.ending
 }
 
-/// Carries what a shard put out, and handles its oldest item. Who has nothing to handle waits for a shard that is at
-/// work. Says what is in its hand then, and whether it goes on at once.
+/// Carries what a shard put out, and handles its oldest item. Who has nothing to handle waits for a lock that is held.
+/// Says what is in its hand then, and whether it goes on at once.
 fn turn<R: Wait + Clock, G: Gate>(
     rt: &R,
     shared: &Shared,

@@ -101,6 +101,16 @@ impl<R: Copy, B: InThreads<R>> ThreadNode<R, B> {
         carried
     }
 
+    // The same where nothing was carried before.
+    fn carry_rest(&mut self, count: u32, carried: bool) -> bool
+        ensures { Does self.old self.new result }
+    {
+        if carried {
+            return false;
+        }
+        self.carry_each(count)
+    }
+
     // Whether a drop waits for a shard that is at work.
     fn set_patient(&mut self, patient: bool)
         ensures { self.new ≡ self.old }
@@ -110,8 +120,8 @@ impl<R: Copy, B: InThreads<R>> ThreadNode<R, B> {
         }
     }
 
-    /// Carries what connections put out on which something happened, first what is for no shard that is at work. Says
-    /// whether something was.
+    /// Carries what connections put out on which something happened: what is for no shard that is at work, and only
+    /// where nothing is, the rest, each of which waits for its shard. Says whether something was.
     pub(crate) fn carry_lines(&mut self) -> bool
         ensures { Does self.old self.new result }
     {
@@ -119,7 +129,7 @@ impl<R: Copy, B: InThreads<R>> ThreadNode<R, B> {
         self.set_patient(false);
         let at_once = self.carry_each(count);
         self.set_patient(true);
-        let later = self.carry_each(count);
+        let later = self.carry_rest(count, at_once);
         at_once | later
     }
 }
