@@ -1,43 +1,56 @@
 //! Numbers in as few octets as they need.
-ghost use Rattle.std.specs.Prelude.{◌≡◌, ◌++◌, ◌+◌, ◌<◌, ◌≤◌, ◌^◌, ◌∷◌, [], All, IfOk, IsOk, length, slice_index};
+ghost use Rattle.std.specs.Prelude.{◌≡◌, ◌++◌, ◌+◌, ◌<◌, ◌≤◌, ◌^◌, ◌∷◌, [], All, IfOk, IsOk, length, slice_index, take};
 ghost use Rattle.std.specs.Int.{w64, from_le_bytes};
 ghost use Rattle.tab_law.specs.declared.limits.TheConstants.{PLACES};
 ghost use Rattle.tab_kept.specs.declared.code.TheConstants.{MAX_OCTETS};
 ghost use Rattle.tab_kept.specs.Coded.{behind, code, coded, first, width};
 
-use base_list::{FixedList, Octets};
+use base_list::Octets;
 use std::alloc::{AllocError, Global};
 use tab_law::PLACES;
 
 /// So many octets have the numbers of all places at most: nine each.
 pub(crate) const MAX_OCTETS: usize = 9 * PLACES;
 
-/// The octets of numbers as they are put together.
-type Code = FixedList<u8, MAX_OCTETS>;
+/// Where the octets of numbers are put together.
+type Room = [u8; MAX_OCTETS];
 
-/// Adds an octet and those of a number.
-fn put_long(octets: &mut Code, head: u8, number: &[u8])
-    requires { length octets.old + length number.now < MAX_OCTETS }
-    ensures { octets.new ≡ octets.old ++ head ∷ number.now }
+/// Puts octets at a place. Answers the place behind them.
+fn put(room: &mut Room, at: usize, octets: &[u8]) -> usize
+    requires { at + length octets.now ≤ MAX_OCTETS }
+    ensures behind { result ≡ at + length octets.now }
+    ensures put { take result room.new ≡ take at room.old ++ octets.now }
 {
-    octets.push(head);
-    octets.extend_from_slice(number);
+    let end = at + octets.len();
+    room[at..end].copy_from_slice(octets);
+    end
 }
 
-/// Adds the octets of a number.
-fn put_number(octets: &mut Code, number: u64)
-    requires { length octets.old + 9 ≤ MAX_OCTETS }
-    ensures put { octets.new ≡ octets.old ++ code number }
+/// Puts an octet and those of a number at a place. Answers the place behind them.
+fn put_long(room: &mut Room, at: usize, head: u8, number: &[u8]) -> usize
+    requires { at + length number.now < MAX_OCTETS }
+    ensures behind { result ≡ at + length (head ∷ number.now) }
+    ensures put { take result room.new ≡ take at room.old ++ head ∷ number.now }
+{
+    let next = put(room, at, &[head]);
+    put(room, next, number)
+}
+
+/// Puts the octets of a number at a place. Answers the place behind them.
+fn put_number(room: &mut Room, at: usize, number: u64) -> usize
+    requires { at + 9 ≤ MAX_OCTETS }
+    ensures behind { result ≡ at + length (code number) }
+    ensures put { take result room.new ≡ take at room.old ++ code number }
     ensures fits { number < 2 ^ 64 }
 {
     if number < 253 {
-        octets.push(number as u8);
+        put(room, at, &[number as u8])
     } else if number < 65_536 {
-        put_long(octets, 253, &(number as u16).to_le_bytes());
+        put_long(room, at, 253, &(number as u16).to_le_bytes())
     } else if number < 4_294_967_296 {
-        put_long(octets, 254, &(number as u32).to_le_bytes());
+        put_long(room, at, 254, &(number as u32).to_le_bytes())
     } else {
-        put_long(octets, 255, &number.to_le_bytes());
+        put_long(room, at, 255, &number.to_le_bytes())
     }
 }
 
@@ -49,11 +62,13 @@ pub(crate) fn octets_of(alloc: Global, numbers: &[u64]) -> Result<Octets, AllocE
     ensures fit { IfOk result (λ _. All (λ n. n < 2 ^ 64) numbers.now) }
     ensures short { length (coded numbers.now) ≤ 32 → IsOk result }
 {
-    let mut octets = Code::new();
+    let mut room = [0; MAX_OCTETS];
+    // Beside the room, not in it: a processor then need not wait for each octet before the next.
+    let mut at = 0;
     for number in numbers {
-        put_number(&mut octets, *number);
+        at = put_number(&mut room, at, *number);
     }
-    Octets::from_slice(alloc, octets.as_slice())
+    Octets::from_slice(alloc, &room[..at])
 }
 
 /// The octet at a place, 0 behind the last.

@@ -1,7 +1,8 @@
-use Rattle.std.proofs.Common.{◌≡◌, ◌<◌, take}
+use Rattle.std.proofs.Common.{◌≡◌, ◌<◌, ◌%◌, take}
 use Rattle.bench_item.specs.Keys.{home}
+use Rattle.bench_item.specs.declared.shard.TheConstants.{MANY}
 use Rattle.bench_item.proofs.shard.shard_of.Given as goal
 
--- what is left of the octets so far
+-- the sum so far leaves what the octets so far do
 abbrev pub invariant-loop-octet : goal.invariant-loop-octet
-invariant-loop-octet l = (l.left ≡ home l.shards (take l.octet-index l.name)) × (l.left < l.shards)
+invariant-loop-octet l = (l.sum % l.shards ≡ home l.shards (take l.octet-index l.name)) × (l.sum < MANY)
